@@ -1,0 +1,82 @@
+-- Document 01, 'Settings and areas': the six settings, their limits, and the lengths of the six areas. Assumes nothing.
+use mathlib.Core.Bool.{Bool, _&&_}
+use mathlib.Core.List.{List, [], _∷_}
+use Prim.Native.Nat.{ℕ, _+_, _*_, _/_, _^_}
+use lib.Dec.{leb}
+use Rattle.theory.specs.Lists.{all}
+use Rattle.theory.specs.Hash.{H, numbers-of}
+
+-- in the paper's order and letters: p, k, B (records a bucket), T (top count), N (capacity), S (side places)
+pub record Settings : Type 0 where
+  pub p : ℕ
+  pub k : ℕ
+  pub room : ℕ
+  pub top : ℕ
+  pub capacity : ℕ
+  pub side-places : ℕ
+
+abbrev pub within : ℕ → ℕ → ℕ → Bool
+within low high n = leb low n && leb n high
+
+-- each setting is in its range; else 1
+unfoldable pub in-ranges : Settings → List Bool
+in-ranges t =
+    within 4 12 (t .p) ∷ within 1 4 (t .k) ∷ within 1 4 (t .room) ∷ within 2 15 (t .top) ∷ within 1 4096 (t .capacity) ∷ within 0 64 (t .side-places) ∷ []
+
+unfoldable pub allowed : Settings → Bool
+allowed t = all (λ x. x) (in-ranges t)
+
+-- what placing, layout and search take of the settings: the key width, the bucket count m, B, T, N, S, and the rule that gives a key's bucket numbers
+pub record Card : Type 0 where
+  pub width : ℕ
+  pub buckets : ℕ
+  pub room : ℕ
+  pub top : ℕ
+  pub capacity : ℕ
+  pub side-places : ℕ
+  pub numbers : List ℕ → List ℕ
+
+-- a key is 13 bytes
+abbrev pub key-width : ℕ
+key-width = 13
+
+-- the card of settings: m = 2^p buckets, keys of 13 bytes, the bucket numbers of document 01
+unfoldable pub card-of : Settings → Card
+card-of t =
+    record {
+      width = key-width;
+      buckets = 2 ^ t .p;
+      room = t .room;
+      top = t .top;
+      capacity = t .capacity;
+      side-places = t .side-places;
+      numbers = λ key. numbers-of (2 ^ t .p) (t .k) (H key);
+    }
+
+module _ (s : Card) where
+  -- a record: the key, then four bytes of class
+  unfoldable pub record-size : ℕ
+  record-size = s .width + 4
+
+  -- one bucket: a mark, then B record places
+  unfoldable pub bucket-size : ℕ
+  bucket-size = 1 + record-size * s .room
+
+  -- the lengths of the areas; true counts and work count 16-bit numbers, the others bytes
+  unfoldable pub ledger-length : ℕ
+  ledger-length = 2 + record-size * s .capacity
+
+  unfoldable pub true-length : ℕ
+  true-length = s .buckets
+
+  unfoldable pub clipped-length : ℕ
+  clipped-length = s .buckets / 2
+
+  unfoldable pub buckets-length : ℕ
+  buckets-length = s .buckets * bucket-size
+
+  unfoldable pub side-length : ℕ
+  side-length = 2 + record-size * s .side-places
+
+  unfoldable pub work-length : ℕ
+  work-length = 2 * s .buckets
