@@ -67,6 +67,17 @@ module _ {A : Type 0} where
   all-of-map P f [] a = tt
   all-of-map P f (x ∷ xs) a = (a .0, all-of-map P f xs (a .1))
 
+  -- an element, what is left after some, and the first ones, of a list each element of which has P
+  pub all-at : (P : A → Type 0) (l : List A) (i : ℕ) (d : A) → i < length l → All P l → P (getD l i d)
+  all-at P [] i d h a = absurd (not-suc-le-zero h)
+  all-at P (x ∷ xs) zero d h a = a .0
+  all-at P (x ∷ xs) (suc i) d h a = all-at P xs i d (le-of-suc-le-suc h) (a .1)
+
+  pub all-drop : (P : A → Type 0) (n : ℕ) (l : List A) → All P l → All P (drop n l)
+  all-drop P zero l a = a
+  all-drop P (suc n) [] a = tt
+  all-drop P (suc n) (x ∷ xs) a = all-drop P n xs (a .1)
+
   pub any-cong : (p q : A → Bool) (l : List A) → All (λ x. p x ≡ q x) l → any p l ≡ any q l
   any-cong p q [] h = refl
   any-cong p q (x ∷ xs) h = rw (h .0, any-cong p q xs (h .1))

@@ -1,3 +1,11 @@
 pub mod Lists
 pub mod Hash
 pub mod Settings
+pub mod Records
+pub mod Placing
+pub mod Layout
+pub mod Lookup
+pub mod Ledger
+pub mod Calls
+pub mod Snapshot
+pub mod Packet

@@ -1,0 +1,120 @@
+-- Laws of search: over the record-bytes of a list's layout it answers as the plain ledger does. Assumes nothing.
+use mathlib.Core.Path.{_≡_, refl, sym, ap, _∙_, subst}
+use mathlib.Core.Logic.{_≢_, _⊎_, inl, inr}
+use mathlib.Core.Bool.{Bool, true, false, cond, not, _&&_, _||_, true≢false, false≢true}
+use mathlib.Core.List.{List, [], _∷_, _++_, map}
+use mathlib.Core.Option.{Option, none, some}
+use Prim.Native.Nat.{ℕ, zero, suc, _+_, _-_, _*_, _/_, _%_, _≤_, _<_, zero-le, min}
+use native.Mathlib.Nat.{le-refl, le-trans}
+use native.Mathlib.Omega.{arith}
+use lib.Dec.{eqb, ltb, leb}
+use borrow.Author.Tests.{ltb-false, le-ltb, eqb-true, eqb-false, eq-eqb, ne-eqb, leb-true, leb-false}
+use lib.ListN.{length, take, drop, getD}
+use Rattle.theory.specs.Lists.{filter, any, all, has, least}
+use Rattle.theory.specs.Records.{Record, find}
+use Rattle.theory.specs.Settings.{Card}
+use Rattle.theory.specs.Placing.{clip, true-count, all-top, least-count, chosen, choosers, crowded, mark, bucket-records, side-records, side-need}
+use Rattle.theory.specs.Layout.{places, counted-places, counter-bytes, bucket-bytes, buckets-bytes, side-bytes}
+use Rattle.theory.specs.Lookup.{Answer, bare, answer, part, counter, Place, invalid, nowhere, among, bucket-part, side-place, bucket-place, by-counters, place, answer-at, part-at, search-areas, fetch-areas}
+use Rattle.theory.specs.Ledger.{Seen, unseen, seen, answer-seen, seen-by, search-by}
+use Rattle.theory.proofs.ListLaws.{either, by-test, All, all-every, all-map, any-cong, all-cong, filter-cong, map-cong, any-false, any-none, least-zero, least-top, eqb-same}
+use Rattle.theory.proofs.ByteLaws.{Fit}
+use Rattle.theory.proofs.SettingsLaws.{Sound}
+use Rattle.theory.proofs.LayoutLaws.{read-places, read-place-bytes, read-count, after-count, read-counter, read-bucket, bucket-fits, bucket-fit, side-fit}
+use Rattle.theory.proofs.PlacingLaws.{found-in, clipped-in-range, clipped-all-top, clipped-chosen, chosen-below, lying, mark-crowded, found-where-looked}
+
+either-if : {X : Type 0} {P : Type 0} (t : Bool) {a a′ b b′ : X} {u v : Bool}
+    → (t ≡ true → (u ≡ true → P) → a ≡ a′) → (t ≡ false → (v ≡ true → P) → b ≡ b′) → (cond t u v ≡ true → P) → cond t a b ≡ cond t a′ b′
+either-if true f g h = f refl h
+either-if false f g h = g refl h
+
+module _ (s : Card) where
+  -- ---- only the key's own counters matter
+  pub chosen-cong : (f g : ℕ → ℕ) (k : List ℕ) → All (λ b. f b ≡ g b) (s .numbers k) → chosen s f k ≡ chosen s g k
+  unfolding chosen least-count
+  chosen-cong f g k h =
+      rw (map-cong f g (s .numbers k) h)
+      (ap (least (s .buckets)) (filter-cong _ _ (s .numbers k) (all-map (λ b e. ap (λ x. eqb x (least (s .top) (map g (s .numbers k)))) e) (s .numbers k) h)))
+
+  pub by-counters-cong : {X : Type 0} (f g : ℕ → ℕ) (k : List ℕ) → All (λ b. f b ≡ g b) (s .numbers k) → (a b c d : X) → by-counters s f k a b c d ≡ by-counters s g k a b c d
+  unfolding by-counters
+  by-counters-cong f g k h a b c d =
+      rw (
+        any-cong (λ b. ltb (s .top) (f b)) (λ b. ltb (s .top) (g b)) (s .numbers k) (all-map (λ b e. ap (λ x. ltb (s .top) x) e) (s .numbers k) h),
+        any-cong (λ b. eqb (f b) 0) (λ b. eqb (g b) 0) (s .numbers k) (all-map (λ b e. ap (λ x. eqb x 0) e) (s .numbers k) h),
+        all-cong (λ b. eqb (f b) (s .top)) (λ b. eqb (g b) (s .top)) (s .numbers k) (all-map (λ b e. ap (λ x. eqb x (s .top)) e) (s .numbers k) h),
+      )
+
+  module _ (ok : Sound s) (c : ℕ → ℕ) (l : List Record) (fit : All (Fit (s .width)) l) (need : side-need s c l ≤ s .side-places) where
+    -- ---- where a search of the layout ends up
+    read-side : (n : ℕ) → side-place s (side-bytes s c l) n ≡ among (places s (s .side-places) (side-records s c l)) (length (side-records s c l)) n
+    unfolding side-place side-bytes side-need
+    read-side n =
+        rw (read-count s (s .side-places) (side-records s c l) (omega (arith, ok .side-small)), le-ltb (s .side-places) (length (side-records s c l)) need, after-count)
+
+    read-crowded : (b : ℕ) → crowded s c l b ≡ true → bucket-place s (bucket-bytes s c l b) (side-bytes s c l) ≡ side-place s (side-bytes s c l) 1
+    unfolding bucket-place bucket-bytes
+    read-crowded b e = rw (mark-crowded s ok c l b, e)
+
+    read-one : (side : List ℕ) (b : ℕ) → crowded s c l b ≡ false → bucket-place s (bucket-bytes s c l b) side ≡ among (places s (s .room) (bucket-records s c l b)) (length (bucket-records s c l b)) 1
+    unfolding bucket-place bucket-bytes
+    read-one side b e =
+        let m : mark s c l b ≡ length (bucket-records s c l b) = unfold mark in rw (e, lying s ok c l b e) in
+        rw (mark-crowded s ok c l b, e, m, le-ltb (s .room) (length (bucket-records s c l b)) (bucket-fits s ok c l b))
+
+    -- ---- either search call, F of a place, is H of the records that the placing says are comparisons
+    module _ {X : Type 0} (F : Place → X) (H : Seen → X) (away : F nowhere ≡ H unseen)
+        (here : (n : ℕ) (rs : List Record) (b : ℕ) → All (Fit (s .width)) rs → F (among (places s n rs) (length rs) b) ≡ H (seen rs b)) (k : List ℕ) where
+      agree : All (λ b. counter (counter-bytes s c) b ≡ clip s (c b)) (s .numbers k)
+      agree = all-map (λ b h. read-counter s ok c b h) (s .numbers k) (ok .numbers-below k)
+
+      at-side : (n : ℕ) → F (side-place s (side-bytes s c l) n) ≡ H (seen (side-records s c l) n)
+      at-side n = rw (read-side n) (here (s .side-places) (side-records s c l) n (side-fit s ok c l fit))
+
+      at-one : all-top s c k ≡ false → F (bucket-place s (bucket-part s (buckets-bytes s c l) (chosen s c k)) (side-bytes s c l))
+          ≡ H (cond (eqb (mark s c l (chosen s c k)) 255) (seen (side-records s c l) 1) (seen (bucket-records s c l (chosen s c k)) 1))
+      at-one f =
+          rw (read-bucket s ok c l fit (chosen s c k) (chosen-below s ok c k f), mark-crowded s ok c l (chosen s c k))
+          (by-test (crowded s c l (chosen s c k)) (λ e. rw (e, read-crowded (chosen s c k) e) (at-side 1))
+          (λ e. rw (e, read-one (side-bytes s c l) (chosen s c k) e) (here (s .room) (bucket-records s c l (chosen s c k)) 1 (bucket-fit s ok c l fit (chosen s c k)))))
+
+      pub looked : F (place s (counter-bytes s c) (buckets-bytes s c l) (side-bytes s c l) k) ≡ H (seen-by s c l k)
+      unfolding place seen-by
+      looked =
+          rw (chosen-cong (counter (counter-bytes s c)) (λ b. clip s (c b)) k agree, by-counters-cong (counter (counter-bytes s c)) (λ b. clip s (c b)) k agree)
+          (unfold by-counters in rw (clipped-in-range s ok c k, clipped-all-top s ok c k)
+          (either F H (any (λ b. eqb (clip s (c b)) 0) (s .numbers k)) (λ z. away)
+          (λ z. either F H (all-top s c k) (λ f. at-side 0) (λ f. rw (clipped-chosen s ok c k f) (at-one f)))))
+
+    -- THE CENTRAL THEOREM, for both search calls
+    module _ (up : (b : ℕ) → true-count s l b ≤ c b) (k : List ℕ) where
+      pub central : search-areas s (counter-bytes s c) (buckets-bytes s c l) (side-bytes s c l) k ≡ search-by s c l k
+      unfolding search-areas search-by answer-at
+      central =
+          looked (answer-at s k) (λ v. answer-seen (found-in k v) k v) refl (λ n rs b h. rw (read-places s n rs h)) k
+          ∙ rw (found-where-looked s ok c l up k)
+
+      pub central-bytes : fetch-areas s (counter-bytes s c) (buckets-bytes s c l) (side-bytes s c l) k ≡ part (find k l)
+      unfolding fetch-areas part-at
+      central-bytes =
+          looked (part-at s k) (λ v. part (found-in k v)) refl (λ n rs b h. read-place-bytes s k n rs h) k
+          ∙ rw (found-where-looked s ok c l up k)
+
+  -- LOCALITY: on other areas with the same-key clipped counts and side store, and alike in the chosen bucket-records if one is read, a search ends up at the same-key place
+  pub reads-one : List ℕ → List ℕ → Bool
+  reads-one clipped k = by-counters s (counter clipped) k false false false true
+
+  pub local-place : (clipped side a b k : List ℕ)
+      → (reads-one clipped k ≡ true → bucket-part s a (chosen s (counter clipped) k) ≡ bucket-part s b (chosen s (counter clipped) k))
+      → place s clipped a side k ≡ place s clipped b side k
+  unfolding place reads-one by-counters
+  local-place clipped side a b k =
+      either-if (any (λ b. ltb (s .top) (counter clipped b)) (s .numbers k)) (λ e h. refl)
+      (λ e. either-if (any (λ b. eqb (counter clipped b) 0) (s .numbers k)) (λ e h. refl)
+      (λ e. either-if (all (λ b. eqb (counter clipped b) (s .top)) (s .numbers k)) (λ e h. refl) (λ e h. rw (h refl))))
+
+  pub local : (clipped side a b k : List ℕ)
+      → (reads-one clipped k ≡ true → bucket-part s a (chosen s (counter clipped) k) ≡ bucket-part s b (chosen s (counter clipped) k))
+      → (search-areas s clipped a side k ≡ search-areas s clipped b side k) × (fetch-areas s clipped a side k ≡ fetch-areas s clipped b side k)
+  unfolding search-areas fetch-areas
+  local clipped side a b k h = (ap (answer-at s k) (local-place clipped side a b k h), ap (part-at s k) (local-place clipped side a b k h))

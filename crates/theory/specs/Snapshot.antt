@@ -1,0 +1,84 @@
+-- Document 01, 'Snapshot': a file of settings and records, saved from a ledger area and loaded into every area. Assumes nothing.
+use mathlib.Core.Bool.{Bool, cond, not, _||_}
+use mathlib.Core.List.{List, [], _∷_, _++_}
+use Prim.Native.Nat.{ℕ, _+_, _*_}
+use lib.Dec.{ltb, eqb}
+use lib.ListN.{length, take, drop}
+use Rattle.theory.specs.Lists.{all, flat}
+use Rattle.theory.specs.Records.{Record, to-bytes, of-bytes, count-of, record-bytes, records, rising}
+use Rattle.theory.specs.Settings.{Settings, allowed, card-of, record-size, ledger-length, work-length}
+use Rattle.theory.specs.Layout.{Areas, layout}
+use Rattle.theory.specs.Ledger.{side-short}
+use Rattle.theory.specs.Calls.{ledger-records, ledger-invalid, all-lengths}
+
+-- a section: a two-byte count, then the entries
+unfoldable pub section : {A : Type 0} → (A → List ℕ) → List A → List ℕ
+section f l = to-bytes 2 (length l) ++ flat f l
+
+abbrev pub settings-list : Settings → List ℕ
+settings-list t = t .p ∷ t .k ∷ t .room ∷ t .top ∷ t .capacity ∷ t .side-places ∷ []
+
+-- two sections: 6 settings of two bytes, then the records
+unfoldable pub snapshot : Settings → List Record → List ℕ
+snapshot t l = section (to-bytes 2) (settings-list t) ++ section record-bytes l
+
+-- ---- save: the answer's number, and the target buffer after the call; 1, 2, 4, 9, 12
+pub record Saved : Type 0 where
+  pub number : ℕ
+  pub target : List ℕ
+
+unfoldable pub save : Settings → List ℕ → ℕ → List ℕ → Saved
+save t ledger w target =
+    let s = card-of t in
+    let l = ledger-records s ledger in
+    cond (not (allowed t)) (record { number = 1; target = target })
+    (cond (not (all (λ x. x) (eqb w (work-length s) ∷ eqb (length ledger) (ledger-length s) ∷ []))) (record { number = 2; target = target })
+    (cond (ledger-invalid s ledger) (record { number = 4; target = target })
+    (cond (side-short s l) (record { number = 9; target = target })
+    (cond (not (eqb (length target) (16 + record-size s * length l))) (record { number = 12; target = target })
+    (record { number = 0; target = snapshot t l })))))
+
+-- ---- load: the answer's number, the settings handed back, and the areas after the call
+pub record Loaded : Type 0 where
+  pub number : ℕ
+  pub settings : Settings
+  pub areas : Areas
+
+-- setting i of a file, from 0; and all six
+abbrev pub setting : List ℕ → ℕ → ℕ
+setting f i = of-bytes (take 2 (drop (2 + 2 * i) f))
+
+unfoldable pub file-settings : List ℕ → Settings
+file-settings f =
+    record {
+      p = setting f 0;
+      k = setting f 1;
+      room = setting f 2;
+      top = setting f 3;
+      capacity = setting f 4;
+      side-places = setting f 5;
+    }
+
+-- the second count, and the records after it
+unfoldable pub file-count : List ℕ → ℕ
+file-count f = count-of (drop 14 f)
+
+unfoldable pub file-records : List ℕ → List Record
+file-records f = records (card-of (file-settings f) .width) (file-count f) (drop 16 f)
+
+-- refused: settings handed back are zeros, areas unaltered
+abbrev pub not-loaded : ℕ → Areas → Loaded
+not-loaded n a = record { number = n; settings = record { p = 0; k = 0; room = 0; top = 0; capacity = 0; side-places = 0 }; areas = a }
+
+-- 12 without an allowed first count, its settings and the second count; then 1, 2, 8, 12 for a cut or overlong file, 13, and 9 only when nothing else applies
+unfoldable pub load : List ℕ → ℕ → Areas → Loaded
+load f w a =
+    let t = file-settings f in
+    let s = card-of t in
+    cond (ltb (length f) 16 || not (eqb (count-of f) 6)) (not-loaded 12 a)
+    (cond (not (allowed t)) (not-loaded 1 a)
+    (cond (not (all (λ x. x) (eqb w (work-length s) ∷ all-lengths s a))) (not-loaded 2 a)
+    (cond (ltb (t .capacity) (file-count f)) (not-loaded 8 a)
+    (cond (not (eqb (length f) (16 + record-size s * file-count f))) (not-loaded 12 a)
+    (cond (not (rising (file-records f))) (not-loaded 13 a)
+    (cond (side-short s (file-records f)) (not-loaded 9 a) (record { number = 0; settings = t; areas = layout s (file-records f) })))))))
