@@ -6,3 +6,4 @@ pub mod LayoutLaws
 pub mod PlacingLaws
 pub mod LookupLaws
 pub mod OrderLaws
+pub mod CallLaws

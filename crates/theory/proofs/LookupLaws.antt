@@ -11,11 +11,11 @@ use lib.Dec.{eqb, ltb, leb}
 use borrow.Author.Tests.{ltb-false, le-ltb, eqb-true, eqb-false, eq-eqb, ne-eqb, leb-true, leb-false}
 use lib.ListN.{length, take, drop, getD}
 use Rattle.theory.specs.Lists.{filter, any, all, has, least}
-use Rattle.theory.specs.Records.{Record, find}
+use Rattle.theory.specs.Records.{Record, count-of, records, find, comparisons}
 use Rattle.theory.specs.Settings.{Card}
 use Rattle.theory.specs.Placing.{clip, true-count, all-top, least-count, chosen, choosers, crowded, mark, bucket-records, side-records, side-need}
 use Rattle.theory.specs.Layout.{places, counted-places, counter-bytes, bucket-bytes, buckets-bytes, side-bytes}
-use Rattle.theory.specs.Lookup.{Answer, bare, answer, part, counter, Place, invalid, nowhere, among, bucket-part, side-place, bucket-place, by-counters, place, answer-at, part-at, search-areas, fetch-areas}
+use Rattle.theory.specs.Lookup.{Answer, bare, answer, part, counter, Place, invalid, nowhere, among, bucket-part, side-place, bucket-place, by-counters, reads-bucket, place, answer-at, part-at, search-areas, fetch-areas}
 use Rattle.theory.specs.Ledger.{Seen, unseen, seen, answer-seen, seen-by, search-by}
 use Rattle.theory.proofs.ListLaws.{either, by-test, All, all-every, all-map, any-cong, all-cong, filter-cong, map-cong, any-false, any-none, least-zero, least-top, eqb-same}
 use Rattle.theory.proofs.ByteLaws.{Fit}
@@ -100,21 +100,49 @@ module _ (s : Card) where
           looked (part-at s k) (λ v. part (found-in k v)) refl (λ n rs b h. read-place-bytes s k n rs h) k
           ∙ rw (found-where-looked s ok c l up k)
 
-  -- LOCALITY: on other areas with the same-key clipped counts and side store, and alike in the chosen bucket-records if one is read, a search ends up at the same-key place
-  pub reads-one : List ℕ → List ℕ → Bool
-  reads-one clipped k = by-counters s (counter clipped) k false false false true
-
+  -- ---- locality: on other areas with the same clipped counts and side store, and alike in the chosen bucket if one is read, a search comes to the same place
   pub local-place : (clipped side a b k : List ℕ)
-      → (reads-one clipped k ≡ true → bucket-part s a (chosen s (counter clipped) k) ≡ bucket-part s b (chosen s (counter clipped) k))
+      → (reads-bucket s clipped k ≡ true → bucket-part s a (chosen s (counter clipped) k) ≡ bucket-part s b (chosen s (counter clipped) k))
       → place s clipped a side k ≡ place s clipped b side k
-  unfolding place reads-one by-counters
+  unfolding place reads-bucket by-counters
   local-place clipped side a b k =
       either-if (any (λ b. ltb (s .top) (counter clipped b)) (s .numbers k)) (λ e h. refl)
       (λ e. either-if (any (λ b. eqb (counter clipped b) 0) (s .numbers k)) (λ e h. refl)
       (λ e. either-if (all (λ b. eqb (counter clipped b) (s .top)) (s .numbers k)) (λ e h. refl) (λ e h. rw (h refl))))
 
-  pub local : (clipped side a b k : List ℕ)
-      → (reads-one clipped k ≡ true → bucket-part s a (chosen s (counter clipped) k) ≡ bucket-part s b (chosen s (counter clipped) k))
-      → (search-areas s clipped a side k ≡ search-areas s clipped b side k) × (fetch-areas s clipped a side k ≡ fetch-areas s clipped b side k)
-  unfolding search-areas fetch-areas
-  local clipped side a b k h = (ap (answer-at s k) (local-place clipped side a b k h), ap (part-at s k) (local-place clipped side a b k h))
+  -- ---- at most one bucket is read
+  abbrev reads : Place → ℕ
+  reads invalid = 0
+  reads nowhere = 0
+  reads (among a n read) = read
+
+  side-reads : (side : List ℕ) (n : ℕ) → reads (side-place s side n) ≤ n
+  unfolding side-place
+  side-reads side n = by-test (ltb (s .side-places) (count-of side)) (λ e. rw e zero-le) (λ e. rw e (le-refl n))
+
+  bucket-reads : (bucket side : List ℕ) → reads (bucket-place s bucket side) ≤ 1
+  unfolding bucket-place
+  bucket-reads bucket side =
+      by-test (eqb (getD bucket 0 0) 255) (λ e. rw e (side-reads side 1))
+      (λ e. rw e (by-test (ltb (s .room) (getD bucket 0 0)) (λ q. rw q zero-le) (λ q. rw q (le-refl 1))))
+
+  place-reads : (clipped buckets side k : List ℕ) → reads (place s clipped buckets side k) ≤ 1
+  unfolding place by-counters
+  place-reads clipped buckets side k =
+      by-test (any (λ b. ltb (s .top) (counter clipped b)) (s .numbers k)) (λ e. rw e zero-le)
+      (λ e. rw e (by-test (any (λ b. eqb (counter clipped b) 0) (s .numbers k)) (λ z. rw z zero-le)
+      (λ z. rw z (by-test (all (λ b. eqb (counter clipped b) (s .top)) (s .numbers k)) (λ f. rw f (le-trans (side-reads side 0) zero-le))
+      (λ f. rw f (bucket-reads (bucket-part s buckets (chosen s (counter clipped) k)) side))))))
+
+  answer-reads : (o : Option Record) (read compared : ℕ) → answer o read compared .buckets-read ≡ read
+  answer-reads none read compared = refl
+  answer-reads (some r) read compared = refl
+
+  pub search-reads : (clipped buckets side k : List ℕ) → search-areas s clipped buckets side k .buckets-read ≤ 1
+  unfolding search-areas answer-at
+  search-reads clipped buckets side k = go (place s clipped buckets side k) (place-reads clipped buckets side k)
+    where
+      go : (x : Place) → reads x ≤ 1 → answer-at s k x .buckets-read ≤ 1
+      go invalid h = zero-le
+      go nowhere h = zero-le
+      go (among a n read) h = rw (answer-reads (find k (records (s .width) n a)) read (comparisons k (records (s .width) n a))) h

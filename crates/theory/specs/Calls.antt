@@ -11,6 +11,22 @@ use Rattle.theory.specs.Layout.{Areas, layout}
 use Rattle.theory.specs.Lookup.{bare, counter, bucket-part, search-areas, fetch-areas}
 use Rattle.theory.specs.Ledger.{Call, clear, add, change, remove, search, fetch, tally, Totals, no-totals, Reply, answered, handed, totalled, Step, key-wrong, next, refusal, totals-of, plain}
 
+-- the number, class and buckets read of what comes back; fetch hands back a part alone
+abbrev pub reply-number : Reply → ℕ
+reply-number (answered x) = x .number
+reply-number (handed p) = 0
+reply-number (totalled x) = x .number
+
+abbrev pub reply-class : Reply → ℕ
+reply-class (answered x) = x .class
+reply-class (handed p) = 0
+reply-class (totalled x) = 0
+
+abbrev pub reply-buckets-read : Reply → ℕ
+reply-buckets-read (answered x) = x .buckets-read
+reply-buckets-read (handed p) = 0
+reply-buckets-read (totalled x) = 0
+
 -- a refused call: the number with class and counts zero, of fetch only the empty part
 abbrev pub refused : Call → ℕ → Reply
 refused clear n = answered (bare n)
@@ -22,8 +38,8 @@ refused (fetch k) n = handed []
 refused tally n = totalled (no-totals n)
 
 -- a refused call alters nothing but work
-abbrev pub stopped : Call → ℕ → Areas → Step Areas
-stopped c n a = record { reply = refused c n; state = a }
+abbrev pub stopped : Reply → Areas → Step Areas
+stopped r a = record { reply = r; state = a }
 
 module _ (s : Card) where
   -- ---- the ledger area: its records; 4: count above N, keys not rising, or a nonzero byte after the last record
@@ -38,9 +54,9 @@ module _ (s : Card) where
   unfoldable pub update : List ℕ → Call → Areas → Step Areas
   update k c a =
       let l = ledger-records (a .ledger) in
-      cond (key-wrong s k) (stopped c 3 a)
-      (cond (ledger-invalid (a .ledger)) (stopped c 4 a)
-      (cond (eqb (refusal s c l) 0) (record { reply = answered (bare 0); state = layout s (next s c l) }) (stopped c (refusal s c l) a)))
+      cond (key-wrong s k) (stopped (answered (bare 3)) a)
+      (cond (ledger-invalid (a .ledger)) (stopped (answered (bare 4)) a)
+      (cond (eqb (refusal s c l) 0) (record { reply = answered (bare 0); state = layout s (next s c l) }) (stopped (answered (bare (refusal s c l))) a)))
 
   -- ---- tally reads the ledger and all three lookup areas; 5: a clipped count above T, a mark above B other than 255, a side count above S
   unfoldable pub marks : List ℕ → List ℕ
@@ -89,7 +105,7 @@ module _ (s : Card) where
 -- a call under any settings, on areas of any lengths and contents, with a work area of w numbers of any contents: 1, then 2, then the call
 unfoldable pub perform : Settings → ℕ → Call → Areas → Step Areas
 perform t w c a =
-    cond (not (allowed t)) (stopped c 1 a) (cond (not (all (λ x. x) (lent-lengths (card-of t) w c a))) (stopped c 2 a) (call (card-of t) c a))
+    cond (not (allowed t)) (stopped (refused c 1) a) (cond (not (all (λ x. x) (lent-lengths (card-of t) w c a))) (stopped (refused c 2) a) (call (card-of t) c a))
 
 -- ---- a list of calls: what comes back of each, with the areas after it; each call gets the areas as the last one left them
 unfoldable pub run : Settings → ℕ → List Call → Areas → List (Step Areas)

@@ -1,5 +1,5 @@
 -- Document 01, 'The calls': both search calls over the lookup areas (clipped counts, buckets, side store) with any contents. Assumes nothing.
-use mathlib.Core.Bool.{Bool, cond}
+use mathlib.Core.Bool.{Bool, true, false, cond}
 use mathlib.Core.List.{List, []}
 use mathlib.Core.Option.{Option, none, some}
 use Prim.Native.Nat.{ℕ, _+_, _*_, _/_, _%_, _^_}
@@ -62,6 +62,10 @@ module _ (s : Card) where
   by-counters c k refused absent side bucket =
       cond (any (λ b. ltb (s .top) (c b)) (s .numbers k)) refused
       (cond (any (λ b. eqb (c b) 0) (s .numbers k)) absent (cond (all (λ b. eqb (c b) (s .top)) (s .numbers k)) side bucket))
+
+  -- the counters send the key to a bucket, so that one is read
+  unfoldable pub reads-bucket : List ℕ → List ℕ → Bool
+  reads-bucket clipped k = by-counters (counter clipped) k false false false true
 
   unfoldable pub place : List ℕ → List ℕ → List ℕ → List ℕ → Place
   place clipped buckets side k =
