@@ -22,7 +22,7 @@ use Rattle.theory.proofs.ListLaws.{map-all, all-of-map, by-test, All, a
 use Rattle.theory.proofs.SettingsLaws.{Sound}
 use Rattle.theory.proofs.ByteLaws.{Fit, length-to-bytes, length-record}
 use Rattle.theory.proofs.LayoutLaws.{read-places, read-count, after-count, read-counter, read-bucket, length-counted, length-counters, length-buckets, side-fit}
-use Rattle.theory.proofs.PlacingLaws.{mark-crowded}
+use Rattle.theory.proofs.PlacingLaws.{same-key-eq, mark-crowded}
 use Rattle.theory.proofs.LookupLaws.{central, central-bytes}
 use Rattle.theory.proofs.OrderLaws.{rising-insert, length-insert, insert-all, rising-filter, replace-key, rising-map}
 
@@ -46,6 +46,12 @@ no-zeros zero = refl
 no-zeros (suc n) = no-zeros n
 
 module _ (s : Card) where
+  -- a key that a list of such records has is as wide as theirs
+  pub found-width : (k : List ℕ) (r : Record) (l : List Record) → All (Fit (s .width)) l → find k l ≡ some r → length k ≡ s .width
+  found-width k r [] h e = let z : _≡_ {A = ℕ} 0 1 = cc in absurd (omega arith)
+  found-width k r (x ∷ xs) h e =
+      by-test (same-key k (x .key)) (λ q. ap length (same-key-eq k (x .key) q) ∙ h .0 .wide) (λ q. found-width k r xs (h .1) (rw q at e))
+
   -- a list that has a layout: at most N records in rising key order, and a side need of at most S
   pub record HasLayout (l : List Record) : Type 0 where
     pub fit : All (Fit (s .width)) l
@@ -99,9 +105,9 @@ module _ (s : Card) where
       not-broken = rw (ledger-back, count-back, tail-back, le-ltb (s .capacity) (length l) (g .few), g .order) (no-zeros (record-size s * (s .capacity - length l)))
 
     -- ---- an accepted update keeps a list good
-    pub good-empty : HasLayout []
+    pub has-layout-empty : HasLayout []
     unfolding side-need-of side-need side-records
-    good-empty = record { fit = tt; order = refl; few = zero-le; need = zero-le }
+    has-layout-empty = record { fit = tt; order = refl; few = zero-le; need = zero-le }
 
     width-of : (k : List ℕ) → key-wrong s k ≡ false → length k ≡ s .width
     unfolding key-wrong
@@ -109,7 +115,7 @@ module _ (s : Card) where
 
     kept : (c : Call) (l : List Record) → Small c → HasLayout l → refusal s c l ≡ 0 → HasLayout (next s c l)
     unfolding next refusal replace without
-    kept clear l m g e = good-empty
+    kept clear l m g e = has-layout-empty
     kept (add k x) l m g e =
         let r : Record = record { key = k; class = x } in
         let w = not-refused (key-wrong s k) 2 _ e in
@@ -153,7 +159,7 @@ module _ (s : Card) where
 
     pub stays : (c : Call) (l : List Record) → Small c → HasLayout l → HasLayout (plain s c l .state)
     unfolding plain
-    stays clear l m g = good-empty
+    stays clear l m g = has-layout-empty
     stays (add k x) l m g = updated-stays (add k x) l m g
     stays (change k x) l m g = updated-stays (change k x) l m g
     stays (remove k) l m g = updated-stays (remove k) l m g

@@ -7,3 +7,4 @@ pub mod PlacingLaws
 pub mod LookupLaws
 pub mod OrderLaws
 pub mod CallLaws
+pub mod Demands
