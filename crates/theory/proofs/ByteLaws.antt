@@ -7,9 +7,9 @@ use native.Mathlib.Omega.{arith}
 use lib.ListN.{length, take, drop, getD, length-append, length-drop, take-append-drop}
 use lib.Seq.{take-at, drop-at, take-suc, take-add, take-all, length-take-le}
 use Rattle.theory.specs.Lists.{flat}
-use Rattle.theory.specs.Records.{Record, to-bytes, number-after, of-bytes, record-bytes, record-at, records, find, same-key, find-bytes}
+use Rattle.theory.specs.Records.{Record, to-bytes, number-after, of-bytes, record-bytes, entries, record-at, records, find, same-key, find-bytes}
 use Rattle.theory.specs.Lookup.{part}
-use Rattle.theory.proofs.ListLaws.{by-test, All, all-at, all-drop}
+use Rattle.theory.proofs.ListLaws.{by-test, All, all-map, all-at, all-drop}
 
 abbrev pub Byte : ℕ → Type 0
 Byte x = x < 256
@@ -54,6 +54,38 @@ module _ (l : List ℕ) (bytes : All Byte l) where
       let low : (of-bytes (take k l) * 256 + getD l k 0) % 256 ≡ getD l k 0 = omega arith in
       rw (number-more k l h, high, low, to-of-bytes k (omega arith)) (sym (take-suc l k 0 h))
 
+-- ---- entries of z bytes: written and read back, and read and written back
+module _ {A : Type 0} (z : ℕ) (read : List ℕ → A) (write : A → List ℕ) where
+  pub read-entries : (l : List A) (rest : List ℕ) → All (λ x. (length (write x) ≡ z) × ((more : List ℕ) → read (write x ++ more) ≡ x)) l
+      → entries z read (length l) (flat write l ++ rest) ≡ l
+  unfolding entries
+  read-entries [] rest h = refl
+  read-entries (x ∷ xs) rest h =
+      rw (append-assoc, h .0 .1 (flat write xs ++ rest), drop-at (write x) (flat write xs ++ rest) z (h .0 .0), read-entries xs rest (h .1))
+
+  pub length-entries : (n : ℕ) (a : List ℕ) → length (entries z read n a) ≡ n
+  unfolding entries
+  length-entries zero a = refl
+  length-entries (suc n) a = ap suc (length-entries n (drop z a))
+
+  room-for : (n : ℕ) (a : List ℕ) → suc n * z ≤ length a → (z ≤ length a) × (n * z ≤ length (drop z a))
+  room-for n a h = let h′ = rw suc-mul at h in (omega arith, rw length-drop (omega arith))
+
+  -- what holds of each entry that bytes give, holds of all
+  pub all-entries : (P : A → Type 0) → ((a : List ℕ) → z ≤ length a → All Byte a → P (read a)) → (n : ℕ) (a : List ℕ) → n * z ≤ length a → All Byte a → All P (entries z read n a)
+  unfolding entries
+  all-entries P f zero a h b = tt
+  all-entries P f (suc n) a h b =
+      let r = room-for n a h in (f a (r .0) b, all-entries P f n (drop z a) (r .1) (all-drop Byte z a b))
+
+  pub write-entries : ((a : List ℕ) → z ≤ length a → All Byte a → write (read a) ≡ take z a) → (n : ℕ) (a : List ℕ) → n * z ≤ length a → All Byte a
+      → flat write (entries z read n a) ≡ take (n * z) a
+  unfolding entries
+  write-entries f zero a h b = rw zero-mul
+  write-entries f (suc n) a h b =
+      let r = room-for n a h in
+      rw (f a (r .0) b, write-entries f n (drop z a) (r .1) (all-drop Byte z a b), suc-mul, add-comm (n * z) z) (sym (take-add z (n * z) a))
+
 -- ---- records with keys of w bytes
 module _ (w : ℕ) where
   pub length-record : (r : Record) → Fit w r → length (record-bytes r) ≡ w + 4
@@ -77,14 +109,8 @@ module _ (w : ℕ) where
 
   pub read-records : (l : List Record) (rest : List ℕ) → All (Fit w) l → records w (length l) (flat record-bytes l ++ rest) ≡ l
   unfolding records
-  read-records [] rest h = refl
-  read-records (r ∷ rs) rest h =
-      rw (
-        append-assoc,
-        read-record r (flat record-bytes rs ++ rest) (h .0),
-        drop-at (record-bytes r) (flat record-bytes rs ++ rest) (w + 4) (length-record r (h .0)),
-        read-records rs rest (h .1),
-      )
+  read-records l rest h =
+      read-entries (w + 4) (record-at w) record-bytes l rest (all-map (λ r f. (length-record r f, λ more. read-record r more f)) l h)
 
   -- the bytes of a key's record, found among records
   pub read-found : (k : List ℕ) (l : List Record) (rest : List ℕ) → All (Fit w) l → find-bytes w (length l) (flat record-bytes l ++ rest) k ≡ part (find k l)
@@ -103,11 +129,7 @@ module _ (w : ℕ) where
   -- n records read out of bytes: how many, that they fit, and that they are written as the bytes that were read
   pub length-records : (n : ℕ) (a : List ℕ) → length (records w n a) ≡ n
   unfolding records
-  length-records zero a = refl
-  length-records (suc n) a = ap suc (length-records n (drop (w + 4) a))
-
-  room-for : (n : ℕ) (a : List ℕ) → suc n * (w + 4) ≤ length a → (w + 4 ≤ length a) × (n * (w + 4) ≤ length (drop (w + 4) a))
-  room-for n a h = let h′ = rw suc-mul at h in (omega arith, rw length-drop (omega arith))
+  length-records n a = length-entries (w + 4) (record-at w) record-bytes n a
 
   record-fits : (a : List ℕ) → w + 4 ≤ length a → All Byte a → Fit w (record-at w a)
   unfolding record-at
@@ -119,9 +141,7 @@ module _ (w : ℕ) where
 
   pub records-fit : (n : ℕ) (a : List ℕ) → n * (w + 4) ≤ length a → All Byte a → All (Fit w) (records w n a)
   unfolding records
-  records-fit zero a h b = tt
-  records-fit (suc n) a h b =
-      let r = room-for n a h in (record-fits a (r .0) b, records-fit n (drop (w + 4) a) (r .1) (all-drop Byte (w + 4) a b))
+  records-fit n a h b = all-entries (w + 4) (record-at w) record-bytes (Fit w) record-fits n a h b
 
   write-record : (a : List ℕ) → w + 4 ≤ length a → All Byte a → record-bytes (record-at w a) ≡ take (w + 4) a
   unfolding record-bytes record-at
@@ -129,8 +149,4 @@ module _ (w : ℕ) where
 
   pub write-records : (n : ℕ) (a : List ℕ) → n * (w + 4) ≤ length a → All Byte a → flat record-bytes (records w n a) ≡ take (n * (w + 4)) a
   unfolding records
-  write-records zero a h b = rw zero-mul
-  write-records (suc n) a h b =
-      let r = room-for n a h in
-      rw (write-record a (r .0) b, write-records n (drop (w + 4) a) (r .1) (all-drop Byte (w + 4) a b), suc-mul, add-comm (n * (w + 4)) (w + 4))
-      (sym (take-add (w + 4) (n * (w + 4)) a))
+  write-records n a h b = write-entries (w + 4) (record-at w) record-bytes write-record n a h b

@@ -4,11 +4,11 @@ use mathlib.Core.Bool.{Bool, true, false, cond, not, _&&_, _||_, and-false}
 use mathlib.Core.List.{List, [], _∷_, _++_, map, append-assoc}
 use mathlib.Core.Option.{Option, none, some}
 use Prim.Native.Nat.{ℕ, zero, suc, _+_, _-_, _*_, _/_, _≤_, _<_, _^_, zero-le, min}
-use native.Mathlib.Nat.{le-refl, le-trans}
+use native.Mathlib.Nat.{le-refl, le-trans, mul-comm, mul-le-mul-right}
 use native.Mathlib.Omega.{arith}
 use lib.Dec.{eqb, ltb, leb}
 use borrow.Author.Tests.{ltb-false, le-ltb, eqb-true, leb-false, not-false}
-use lib.ListN.{length, take, drop, replicate, length-append, length-map}
+use lib.ListN.{length, take, drop, replicate, length-append, length-drop, length-map}
 use lib.Seq.{drop-at}
 use Rattle.theory.specs.Lists.{any, upto, flat}
 use Rattle.theory.specs.Records.{Record, to-bytes, of-bytes, count-of, record-bytes, records, rising, same-key, find}
@@ -18,9 +18,9 @@ use Rattle.theory.specs.Layout.{Areas, layout, layout-by, places, counte
 use Rattle.theory.specs.Lookup.{bare, part, counter, search-areas, fetch-areas}
 use Rattle.theory.specs.Ledger.{Call, clear, add, change, remove, search, fetch, tally, Reply, answered, handed, totalled, Step, held, insert, replace, without, key-wrong, side-need-of, side-short, next, refusal, search-by, totals-of, tally-of, updated, plain}
 use Rattle.theory.specs.Calls.{refused, stopped, ledger-records, ledger-invalid, update, marks, lookup-invalid, tally-areas, call, shown}
-use Rattle.theory.proofs.ListLaws.{map-all, all-of-map, by-test, All, all-every, all-map, all-upto, any-false, map-cong, filter-len, filter-all, length-flat, length-upto}
+use Rattle.theory.proofs.ListLaws.{map-all, all-of-map, by-test, or-left, or-right, All, all-every, all-map, all-drop, all-upto, any-false, map-cong, filter-len, filter-all, length-flat, length-upto}
 use Rattle.theory.proofs.SettingsLaws.{Sound}
-use Rattle.theory.proofs.ByteLaws.{Fit, length-to-bytes, length-record}
+use Rattle.theory.proofs.ByteLaws.{Byte, Fit, length-to-bytes, length-record, length-records, records-fit}
 use Rattle.theory.proofs.LayoutLaws.{read-places, read-count, after-count, read-counter, read-bucket, length-counted, length-counters, length-buckets, side-fit}
 use Rattle.theory.proofs.PlacingLaws.{same-key-eq, mark-crowded}
 use Rattle.theory.proofs.LookupLaws.{central, central-bytes}
@@ -67,9 +67,43 @@ module _ (s : Card) where
     pub buckets : length (a .buckets) ≡ buckets-length s
     pub side-store : length (a .side-store) ≡ side-length s
 
-  enough : (l : List Record) → side-short s l ≡ false → side-need-of s l ≤ s .side-places
+  pub enough : (l : List Record) → side-short s l ≡ false → side-need-of s l ≤ s .side-places
   unfolding side-short
   enough l e = ltb-false (s .side-places) (side-need-of s l) e
+
+  pub not-enough : (l : List Record) → side-need-of s l ≤ s .side-places → side-short s l ≡ false
+  unfolding side-short
+  not-enough l h = le-ltb (s .side-places) (side-need-of s l) h
+
+  -- a ledger area within the rules: what its test says, and that its list has a layout where its side need allows
+  pub record Valid (a : List ℕ) : Type 0 where
+    pub few : count-of a ≤ s .capacity
+    pub order : rising (ledger-records s a) ≡ true
+    pub clear-after : any (λ x. not (eqb x 0)) (drop (2 + record-size s * count-of a) a) ≡ false
+
+  pub valid : (a : List ℕ) → ledger-invalid s a ≡ false → Valid a
+  unfolding ledger-invalid
+  valid a e =
+      let many = ltb (s .capacity) (count-of a) in
+      let after = any (λ x. not (eqb x 0)) (drop (2 + record-size s * count-of a) a) in
+      let first : (many || not (rising (ledger-records s a))) ≡ false = or-left _ after e in
+      record {
+        few = ltb-false (s .capacity) (count-of a) (or-left many _ first);
+        order = not-false (rising (ledger-records s a)) (or-right many _ first);
+        clear-after = or-right (many || not (rising (ledger-records s a))) after e;
+      }
+
+  pub valid-has-layout : (a : List ℕ) → All Byte a → length a ≡ ledger-length s → ledger-invalid s a ≡ false → side-short s (ledger-records s a) ≡ false → HasLayout (ledger-records s a)
+  unfolding ledger-records ledger-length record-size
+  valid-has-layout a bytes size e short =
+      let v = valid a e in
+      let room : count-of a * (s .width + 4) ≤ s .capacity * (s .width + 4) = mul-le-mul-right (s .width + 4) (v .few) in
+      record {
+        fit = records-fit (s .width) (count-of a) (drop 2 a) (rw length-drop (omega (arith, size, mul-comm (s .capacity) (s .width + 4)))) (all-drop Byte 2 a bytes);
+        order = v .order;
+        few = rw length-records (v .few);
+        need = enough (ledger-records s a) short;
+      }
 
   module _ (ok : Sound s) where
     pub sized : (l : List Record) → HasLayout l → Sized (layout s l)
@@ -89,7 +123,7 @@ module _ (s : Card) where
       count-back : of-bytes (take 2 (counted-places s (s .capacity) l)) ≡ length l
       count-back = read-count s (s .capacity) l (omega (arith, g .few, ok .capacity-small))
 
-      ledger-back : ledger-records s (counted-places s (s .capacity) l) ≡ l
+      pub ledger-back : ledger-records s (counted-places s (s .capacity) l) ≡ l
       unfolding ledger-records
       ledger-back = rw (count-back, after-count, read-places s (s .capacity) l (g .fit))
 
@@ -100,9 +134,9 @@ module _ (s : Card) where
           (drop-at (to-bytes 2 (length l) ++ flat record-bytes l) (replicate (record-size s * (s .capacity - length l)) 0) (2 + record-size s * length l)
           (rw (length-append, length-to-bytes, length-flat record-bytes (s .width + 4) l (all-map (λ r f. length-record (s .width) r f) l (g .fit)))))
 
-      not-broken : ledger-invalid s (counted-places s (s .capacity) l) ≡ false
+      pub not-invalid : ledger-invalid s (counted-places s (s .capacity) l) ≡ false
       unfolding ledger-invalid
-      not-broken = rw (ledger-back, count-back, tail-back, le-ltb (s .capacity) (length l) (g .few), g .order) (no-zeros (record-size s * (s .capacity - length l)))
+      not-invalid = rw (ledger-back, count-back, tail-back, le-ltb (s .capacity) (length l) (g .few), g .order) (no-zeros (record-size s * (s .capacity - length l)))
 
     -- ---- an accepted update keeps a list good
     pub has-layout-empty : HasLayout []
@@ -172,7 +206,7 @@ module _ (s : Card) where
     unfolding update updated
     update-step k c l g three =
         by-test (key-wrong s k) (λ e. rw (e, three e))
-        (λ e. rw (e, at-ledger (λ a. ledger-invalid s a), at-ledger (λ a. ledger-records s a), not-broken l g, ledger-back l g)
+        (λ e. rw (e, at-ledger (λ a. ledger-invalid s a), at-ledger (λ a. ledger-records s a), not-invalid l g, ledger-back l g)
         (by-test (eqb (refusal s c l) 0) (λ z. rw z) (λ z. rw z)))
       where
         at-ledger : {X : Type 0} (f : List ℕ → X) → f (layout s l .ledger) ≡ f (counted-places s (s .capacity) l)
@@ -200,7 +234,7 @@ module _ (s : Card) where
     tallied l g =
         let c : ℕ → ℕ = true-count s l in
         rw (
-          not-broken l g,
+          not-invalid l g,
           marks-back c l (g .fit),
           any-false _ (upto 0 (s .buckets)) (all-upto 0 (s .buckets) (λ b h. counter-range c l b (omega arith))),
           any-false _ (map (mark s c l) (upto 0 (s .buckets))) (all-of-map _ (mark s c l) (upto 0 (s .buckets)) (all-every (mark-range c l) (upto 0 (s .buckets)))),

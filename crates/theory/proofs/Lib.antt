@@ -8,3 +8,4 @@ pub mod LookupLaws
 pub mod OrderLaws
 pub mod CallLaws
 pub mod Demands
+pub mod SnapshotLaws

@@ -31,13 +31,17 @@ count-of a = of-bytes (take 2 a)
 unfoldable pub record-bytes : Record → List ℕ
 record-bytes r = r .key ++ to-bytes 4 (r .class)
 
+-- n entries of z bytes each, one after the other, each as `read` takes it from the bytes that start with it
+unfoldable pub entries : {A : Type 0} → ℕ → (List ℕ → A) → ℕ → List ℕ → List A
+entries z read zero a = []
+entries z read (suc n) a = read a ∷ entries z read n (drop z a)
+
 -- the record that bytes start with, for keys of w bytes; and the first n records
 unfoldable pub record-at : ℕ → List ℕ → Record
 record-at w a = record { key = take w a; class = of-bytes (take 4 (drop w a)) }
 
 unfoldable pub records : ℕ → ℕ → List ℕ → List Record
-records w zero a = []
-records w (suc n) a = record-at w a ∷ records w n (drop (w + 4) a)
+records w n a = entries (w + 4) (record-at w) n a
 
 -- keys: equal; in order, byte by byte from the first
 abbrev pub same-key : List ℕ → List ℕ → Bool

@@ -1,0 +1,177 @@
+-- Laws of snapshots: what was saved loads to the same settings and flows, and a file that loads is the one that saving then writes. Assumes nothing.
+use mathlib.Core.Path.{_≡_, refl, sym, ap, _∙_}
+use mathlib.Core.Logic.{_≢_}
+use mathlib.Core.Bool.{Bool, true, false, cond, not, _||_}
+use mathlib.Core.List.{List, [], _∷_, _++_, append-assoc, append-nil}
+use Prim.Native.Nat.{ℕ, zero, suc, _+_, _*_, _^_, _≤_, _<_}
+use native.Mathlib.Nat.{mul-comm}
+use native.Mathlib.Omega.{arith}
+use lib.Dec.{ltb, eqb}
+use borrow.Author.Tests.{ltb-false, le-ltb, eqb-true, eq-eqb, not-false}
+use lib.ListN.{length, take, drop, getD, length-append, length-drop, take-append-drop}
+use lib.Seq.{take-at, drop-at, take-all, drop-drop}
+use Rattle.theory.specs.Lists.{all, flat}
+use Rattle.theory.specs.Records.{Record, to-bytes, of-bytes, count-of, record-bytes, entries, records, rising}
+use Rattle.theory.specs.Settings.{Settings, allowed, Card, card-of, record-size, ledger-length, work-length}
+use Rattle.theory.specs.Layout.{Areas, layout, counted-places}
+use Rattle.theory.specs.Ledger.{side-short}
+use Rattle.theory.specs.Calls.{ledger-records, ledger-invalid, all-lengths}
+use Rattle.theory.specs.Snapshot.{section, settings-list, snapshot, Saved, save, Loaded, setting, file-settings, file-count, file-records, not-loaded, load}
+use Rattle.theory.proofs.ListLaws.{All, all-every, all-each, all-map, all-drop, length-flat, or-left, or-right}
+use Rattle.theory.proofs.SettingsLaws.{Ranges, ranges, Sound, sound}
+use Rattle.theory.proofs.ByteLaws.{Byte, Fit, length-to-bytes, of-to-bytes, to-of-bytes, length-record, read-entries, write-entries, length-records, read-records, records-fit, write-records}
+use Rattle.theory.proofs.CallLaws.{HasLayout, Sized, enough, not-enough, valid-has-layout, ledger-back, not-invalid}
+use Rattle.theory.proofs.Demands.{all-lengths-right}
+
+-- a test that failed, since the answer's number is 0
+passed : {X : Type 0} (f : X → ℕ) (t : Bool) {a b : X} → (f a ≡ 0 → ⊥) → f (cond t a b) ≡ 0 → (t ≡ false) × (f b ≡ 0)
+passed f true n e = absurd (n e)
+passed f false n e = (refl, e)
+
+-- ---- the head of a file: eight two-byte numbers
+abbrev word : List ℕ → ℕ
+word a = of-bytes (take 2 a)
+
+abbrev head : Settings → ℕ → List ℕ
+head t n = 6 ∷ t .p ∷ t .k ∷ t .room ∷ t .top ∷ t .capacity ∷ t .side-places ∷ n ∷ []
+
+abbrev settings-in : List ℕ → Settings
+settings-in h =
+    record {
+      p = getD h 1 0;
+      k = getD h 2 0;
+      room = getD h 3 0;
+      top = getD h 4 0;
+      capacity = getD h 5 0;
+      side-places = getD h 6 0;
+    }
+
+abbrev words : List ℕ → List ℕ
+words f = entries 2 word 8 f
+
+words-are : (f : List ℕ) → words f ≡ count-of f ∷ setting f 0 ∷ setting f 1 ∷ setting f 2 ∷ setting f 3 ∷ setting f 4 ∷ setting f 5 ∷ file-count f ∷ []
+unfolding entries file-count
+words-are f =
+    rw (drop-drop 2 2 f, drop-drop 2 4 f, drop-drop 2 6 f, drop-drop 2 8 f, drop-drop 2 10 f, drop-drop 2 12 f)
+
+snapshot-is : (t : Settings) (l : List Record) → snapshot t l ≡ flat (to-bytes 2) (head t (length l)) ++ flat record-bytes l
+unfolding snapshot section
+snapshot-is t l = simp append-assoc
+
+length-head : (ns : List ℕ) → length (flat (to-bytes 2) ns) ≡ 2 * length ns
+length-head ns = length-flat (to-bytes 2) 2 ns (all-every (λ n. length-to-bytes 2 n) ns)
+
+read-words : (ns rest : List ℕ) → All (λ n. n < 65536) ns → entries 2 word (length ns) (flat (to-bytes 2) ns ++ rest) ≡ ns
+read-words ns rest h =
+    read-entries 2 word (to-bytes 2) ns rest
+    (all-map (λ n f. (length-to-bytes 2 n, λ more. rw (take-at (to-bytes 2 n) more 2 (length-to-bytes 2 n)) (of-to-bytes 2 n f))) ns h)
+
+module _ (t : Settings) (ok : allowed t ≡ true) (l : List Record) (g : HasLayout (card-of t) l) where
+  words-back : words (snapshot t l) ≡ head t (length l)
+  words-back =
+      let r = ranges t ok in
+      let few : length l ≤ t .capacity = unfold card-of in g .few in
+      rw (snapshot-is t l)
+      (read-words (head t (length l)) (flat record-bytes l)
+      (omega arith, (omega arith, (omega arith, (omega arith, (omega arith, (omega arith, (omega arith, (omega arith, tt)))))))))
+
+  heads : count-of (snapshot t l) ∷ setting (snapshot t l) 0 ∷ setting (snapshot t l) 1 ∷ setting (snapshot t l) 2 ∷ setting (snapshot t l) 3 ∷ setting (snapshot t l) 4
+      ∷ setting (snapshot t l) 5 ∷ file-count (snapshot t l) ∷ [] ≡ head t (length l)
+  heads = sym (words-are (snapshot t l)) ∙ words-back
+
+  first-count : count-of (snapshot t l) ≡ 6
+  first-count = ap (λ (h : List ℕ). getD h 0 0) heads
+
+  settings-back : file-settings (snapshot t l) ≡ t
+  unfolding file-settings
+  settings-back = ap settings-in heads
+
+  second-count : file-count (snapshot t l) ≡ length l
+  second-count = ap (λ (h : List ℕ). getD h 7 0) heads
+
+  records-length : length (flat record-bytes l) ≡ record-size (card-of t) * length l
+  unfolding record-size
+  records-length = length-flat record-bytes (card-of t .width + 4) l (all-map (λ r f. length-record (card-of t .width) r f) l (g .fit))
+
+  pub length-snapshot : length (snapshot t l) ≡ 16 + record-size (card-of t) * length l
+  length-snapshot = rw (snapshot-is t l, length-append, length-head, records-length)
+
+  records-back : file-records (snapshot t l) ≡ l
+  unfolding file-records
+  records-back =
+      rw (settings-back, second-count, snapshot-is t l, drop-at (flat (to-bytes 2) (head t (length l))) (flat record-bytes l) 16 (length-head (head t (length l))))
+      (ap (records (card-of t .width) (length l)) (sym (append-nil (flat record-bytes l))) ∙ read-records (card-of t .width) l [] (g .fit))
+
+  -- a snapshot loads: its settings, its list's layout
+  pub load-snapshot : (a : Areas) → Sized (card-of t) a
+      → load (snapshot t l) (work-length (card-of t)) a ≡ record { number = 0; settings = t; areas = layout (card-of t) l }
+  unfolding load
+  load-snapshot a z =
+      let few : length l ≤ t .capacity = unfold card-of in g .few in
+      rw (
+        length-snapshot,
+        first-count,
+        settings-back,
+        records-back,
+        second-count,
+        ok,
+        le-ltb (16 + record-size (card-of t) * length l) 16 (omega arith),
+        eq-eqb (work-length (card-of t)) (work-length (card-of t)) refl,
+        all-lengths-right (card-of t) a z,
+        le-ltb (t .capacity) (length l) few,
+        eq-eqb (16 + record-size (card-of t) * length l) (16 + record-size (card-of t) * length l) refl,
+        g .order,
+        not-enough (card-of t) l (g .need),
+      )
+
+  -- the ledger of a layout is saved as the snapshot of its list
+  pub save-layout : (target : List ℕ) → length target ≡ length (snapshot t l) → (a : List ℕ) → a ≡ counted-places (card-of t) (card-of t .capacity) l
+      → length a ≡ ledger-length (card-of t) → save t a (work-length (card-of t)) target ≡ record { number = 0; target = snapshot t l }
+  unfolding save
+  save-layout target e a is size =
+      rw (
+        ok,
+        eq-eqb (work-length (card-of t)) (work-length (card-of t)) refl,
+        eq-eqb (length a) (ledger-length (card-of t)) size,
+        is,
+        not-invalid (card-of t) (sound t ok) l g,
+        ledger-back (card-of t) (sound t ok) l g,
+        not-enough (card-of t) l (g .need),
+        eq-eqb (length target) (16 + record-size (card-of t) * length l) (e ∙ length-snapshot),
+      )
+
+-- ---- LOAD-SAVE: a saved snapshot loads to the same settings and flows, into every area
+module _ (t : Settings) (ledger : List ℕ) (w : ℕ) (target : List ℕ) (done : save t ledger w target .number ≡ 0) where
+  abbrev flows : List Record
+  flows = ledger-records (card-of t) ledger
+
+  -- what a save that is not refused has found
+  record Saving : Type 0 where
+    ok : allowed t ≡ true
+    lengths : all (λ x. x) (eqb w (work-length (card-of t)) ∷ eqb (length ledger) (ledger-length (card-of t)) ∷ []) ≡ true
+    valid : ledger-invalid (card-of t) ledger ≡ false
+    need : side-short (card-of t) flows ≡ false
+    wrote : save t ledger w target .target ≡ snapshot t flows
+
+  saving : Saving
+  unfolding save
+  saving =
+      let a = passed (λ (x : Saved). x .number) (not (allowed t)) (λ q. omega arith) done in
+      let b = passed (λ (x : Saved). x .number) (not (all (λ x. x) (eqb w (work-length (card-of t)) ∷ eqb (length ledger) (ledger-length (card-of t)) ∷ []))) (λ q. omega arith) (a .1) in
+      let c = passed (λ (x : Saved). x .number) (ledger-invalid (card-of t) ledger) (λ q. omega arith) (b .1) in
+      let d = passed (λ (x : Saved). x .number) (side-short (card-of t) flows) (λ q. omega arith) (c .1) in
+      let e = passed (λ (x : Saved). x .number) (not (eqb (length target) (16 + record-size (card-of t) * length flows))) (λ q. omega arith) (d .1) in
+      record {
+        ok = not-false (allowed t) (a .0);
+        lengths = not-false _ (b .0);
+        valid = c .0;
+        need = d .0;
+        wrote = rw (a .0, b .0, c .0, d .0, e .0);
+      }
+
+  pub load-save : All Byte ledger → (a : Areas) → Sized (card-of t) a
+      → load (save t ledger w target .target) (work-length (card-of t)) a ≡ record { number = 0; settings = t; areas = layout (card-of t) flows }
+  load-save bytes a z =
+      let g = saving in
+      let size : length ledger ≡ ledger-length (card-of t) = eqb-true _ _ (all-each (λ x. x) (eqb w (work-length (card-of t)) ∷ eqb (length ledger) (ledger-length (card-of t)) ∷ []) (g .lengths) .1 .0) in
+      rw (g .wrote) (load-snapshot t (g .ok) flows (valid-has-layout (card-of t) ledger bytes size (g .valid) (g .need)) a z)
