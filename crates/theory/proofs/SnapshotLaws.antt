@@ -4,7 +4,7 @@ use mathlib.Core.Logic.{_≢_}
 use mathlib.Core.Bool.{Bool, true, false, cond, not, _||_}
 use mathlib.Core.List.{List, [], _∷_, _++_, append-assoc, append-nil}
 use Prim.Native.Nat.{ℕ, zero, suc, _+_, _*_, _^_, _≤_, _<_}
-use native.Mathlib.Nat.{mul-comm}
+use native.Mathlib.Nat.{mul-comm, le-of-eq}
 use native.Mathlib.Omega.{arith}
 use lib.Dec.{ltb, eqb}
 use borrow.Author.Tests.{ltb-false, le-ltb, eqb-true, eq-eqb, not-false}
@@ -13,14 +13,14 @@ use lib.Seq.{take-at, drop-at, take-all, drop-drop}
 use Rattle.theory.specs.Lists.{all, flat}
 use Rattle.theory.specs.Records.{Record, to-bytes, of-bytes, count-of, record-bytes, entries, records, rising}
 use Rattle.theory.specs.Settings.{Settings, allowed, Card, card-of, record-size, ledger-length, work-length}
-use Rattle.theory.specs.Layout.{Areas, layout, counted-places}
+use Rattle.theory.specs.Layout.{Areas, layout, layout-by, counted-places}
 use Rattle.theory.specs.Ledger.{side-short}
 use Rattle.theory.specs.Calls.{ledger-records, ledger-invalid, all-lengths}
 use Rattle.theory.specs.Snapshot.{section, settings-list, snapshot, Saved, save, Loaded, setting, file-settings, file-count, file-records, not-loaded, load}
 use Rattle.theory.proofs.ListLaws.{All, all-every, all-each, all-map, all-drop, length-flat, or-left, or-right}
 use Rattle.theory.proofs.SettingsLaws.{Ranges, ranges, Sound, sound}
 use Rattle.theory.proofs.ByteLaws.{Byte, Fit, length-to-bytes, of-to-bytes, to-of-bytes, length-record, read-entries, write-entries, length-records, read-records, records-fit, write-records}
-use Rattle.theory.proofs.CallLaws.{HasLayout, Sized, enough, not-enough, valid-has-layout, ledger-back, not-invalid}
+use Rattle.theory.proofs.CallLaws.{HasLayout, Sized, sized, enough, not-enough, valid-has-layout, ledger-back, not-invalid}
 use Rattle.theory.proofs.Demands.{all-lengths-right}
 
 -- a test that failed, since the answer's number is 0
@@ -175,3 +175,88 @@ module _ (t : Settings) (ledger : List ℕ) (w : ℕ) (target : List ℕ) (done 
       let g = saving in
       let size : length ledger ≡ ledger-length (card-of t) = eqb-true _ _ (all-each (λ x. x) (eqb w (work-length (card-of t)) ∷ eqb (length ledger) (ledger-length (card-of t)) ∷ []) (g .lengths) .1 .0) in
       rw (g .wrote) (load-snapshot t (g .ok) flows (valid-has-layout (card-of t) ledger bytes size (g .valid) (g .need)) a z)
+
+-- ---- SAVE-LOAD: a file that loads is the one that saving then writes
+module _ (f : List ℕ) (w : ℕ) (a : Areas) (done : load f w a .number ≡ 0) where
+  abbrev t : Settings
+  t = file-settings f
+
+  abbrev s : Card
+  s = card-of t
+
+  -- what a load that is not refused has found
+  record Loading : Type 0 where
+    long : 16 ≤ length f
+    first : count-of f ≡ 6
+    ok : allowed t ≡ true
+    few : file-count f ≤ t .capacity
+    size : length f ≡ 16 + record-size s * file-count f
+    order : rising (file-records f) ≡ true
+    need : side-short s (file-records f) ≡ false
+    wrote : load f w a ≡ record { number = 0; settings = t; areas = layout s (file-records f) }
+
+  loading : Loading
+  unfolding load
+  loading =
+      let n : Loaded → ℕ = λ x. x .number in
+      let b₁ = passed n (ltb (length f) 16 || not (eqb (count-of f) 6)) (λ q. omega arith) done in
+      let b₂ = passed n (not (allowed t)) (λ q. omega arith) (b₁ .1) in
+      let b₃ = passed n (not (all (λ x. x) (eqb w (work-length s) ∷ all-lengths s a))) (λ q. omega arith) (b₂ .1) in
+      let b₄ = passed n (ltb (t .capacity) (file-count f)) (λ q. omega arith) (b₃ .1) in
+      let b₅ = passed n (not (eqb (length f) (16 + record-size s * file-count f))) (λ q. omega arith) (b₄ .1) in
+      let b₆ = passed n (not (rising (file-records f))) (λ q. omega arith) (b₅ .1) in
+      let b₇ = passed n (side-short s (file-records f)) (λ q. omega arith) (b₆ .1) in
+      record {
+        long = ltb-false (length f) 16 (or-left (ltb (length f) 16) _ (b₁ .0));
+        first = eqb-true (count-of f) 6 (not-false (eqb (count-of f) 6) (or-right (ltb (length f) 16) _ (b₁ .0)));
+        ok = not-false (allowed t) (b₂ .0);
+        few = ltb-false (t .capacity) (file-count f) (b₄ .0);
+        size = eqb-true (length f) (16 + record-size s * file-count f) (not-false _ (b₅ .0));
+        order = not-false (rising (file-records f)) (b₆ .0);
+        need = b₇ .0;
+        wrote = rw (b₁ .0, b₂ .0, b₃ .0, b₄ .0, b₅ .0, b₆ .0, b₇ .0);
+      }
+
+  module _ (bytes : All Byte f) where
+    rest : file-count f * (s .width + 4) ≡ length (drop 16 f)
+    unfolding record-size
+    rest = let g = loading in rw length-drop (omega (arith, g .size, mul-comm (file-count f) (s .width + 4)))
+
+    has-layout : HasLayout s (file-records f)
+    unfolding file-records card-of
+    has-layout =
+        let g = loading in
+        record {
+          fit = records-fit (s .width) (file-count f) (drop 16 f) (le-of-eq rest) (all-drop Byte 16 f bytes);
+          order = g .order;
+          few = rw length-records (g .few);
+          need = enough s (file-records f) (g .need);
+        }
+
+    head-is : head t (length (file-records f)) ≡ words f
+    unfolding file-records file-settings
+    head-is =
+        rw length-records
+        (ap (λ (n : ℕ). n ∷ setting f 0 ∷ setting f 1 ∷ setting f 2 ∷ setting f 3 ∷ setting f 4 ∷ setting f 5 ∷ file-count f ∷ []) (sym (loading .first))
+        ∙ sym (words-are f))
+
+    head-written : flat (to-bytes 2) (head t (length (file-records f))) ≡ take 16 f
+    head-written =
+        ap (flat (to-bytes 2)) head-is ∙ write-entries 2 word (to-bytes 2) (λ b h q. to-of-bytes b q 2 h) 8 f (loading .long) bytes
+
+    records-written : flat record-bytes (file-records f) ≡ drop 16 f
+    unfolding file-records
+    records-written =
+        write-records (s .width) (file-count f) (drop 16 f) (le-of-eq rest) (all-drop Byte 16 f bytes)
+        ∙ take-all (file-count f * (s .width + 4)) (drop 16 f) (le-of-eq (sym rest))
+
+    snapshot-written : snapshot t (file-records f) ≡ f
+    snapshot-written = rw (snapshot-is t (file-records f), head-written, records-written) (take-append-drop 16 f)
+
+    pub save-load : (target : List ℕ) → length target ≡ length f
+        → save (load f w a .settings) (load f w a .areas .ledger) (work-length (card-of (load f w a .settings))) target ≡ record { number = 0; target = f }
+    save-load target e =
+        rw (loading .wrote)
+        (save-layout t (loading .ok) (file-records f) has-layout target (e ∙ ap length (sym snapshot-written)) (layout s (file-records f) .ledger)
+        (unfold layout layout-by in refl) (sized s (sound t (loading .ok)) (file-records f) has-layout .ledger)
+        ∙ rw snapshot-written)

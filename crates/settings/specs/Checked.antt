@@ -1,0 +1,16 @@
+-- The settings of the code and those of the paper, field by field, and what checking six numbers answers. Assumes nothing.
+use mathlib.Core.Bool.{cond}
+use Rattle.theory.specs.Settings as plain
+use Rattle.settings.specs.declared.Settings.{Settings}
+use Rattle.settings.specs.declared.Checked.{Checked}
+use Rattle.settings.specs.declared.Checked.the-variants.{Allowed, Refused}
+
+abbrev pub paper : Settings → plain.Settings
+paper c = record { p = c .p; k = c .k; room = c .room; top = c .top; capacity = c .capacity; side-places = c .«side_places» }
+
+abbrev pub code : plain.Settings → Settings
+code t = record { p = t .p; k = t .k; room = t .room; top = t .top; capacity = t .capacity; «side_places» = t .side-places }
+
+-- settings in their ranges are handed over; others are refusal 1
+abbrev pub checked-of : plain.Settings → Checked
+checked-of t = cond (plain.allowed t) (Allowed (code t)) Refused

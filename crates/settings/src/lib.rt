@@ -1,0 +1,162 @@
+// The settings of document 01 as a type by value: their limits, the checking constructor, and the lengths of the areas.
+ghost use mathlib.Core.Path.{_≡_};
+ghost use mathlib.Core.Bool.{true};
+ghost use Rattle.theory.specs.Settings.{allowed, card-of, record-size, bucket-size, ledger-length, true-length, clipped-length, buckets-length, side-length, work-length};
+ghost use Rattle.settings.specs.Checked.{paper, checked-of};
+
+pub mod counts; // counts.rt: true counts and clipped counts, each a type of its own
+
+// In the paper's order and letters: p, k, B, T, N, S.
+pub struct Settings {
+    pub p: usize,
+    pub k: usize,
+    pub room: usize,
+    pub top: usize,
+    pub capacity: usize,
+    pub side_places: usize,
+}
+
+pub enum Checked {
+    Allowed(Settings),
+    // "1, a setting out of range"
+    Refused,
+}
+
+impl Settings {
+    // "Six settings: p 4 to 12, with m = 2^p buckets; k 1 to 4 bucket hashes; B 1 to 4 records a bucket;
+    // top count T 2 to 15; capacity N 1 to 4,096; side places S 0 to 64."
+    pub const P_LEAST: u64 = 4;
+
+    pub const P_MOST: u64 = 12;
+
+    pub const K_LEAST: u64 = 1;
+
+    pub const K_MOST: u64 = 4;
+
+    pub const ROOM_LEAST: u64 = 1;
+
+    pub const ROOM_MOST: u64 = 4;
+
+    pub const TOP_LEAST: u64 = 2;
+
+    pub const TOP_MOST: u64 = 15;
+
+    pub const CAPACITY_LEAST: u64 = 1;
+
+    pub const CAPACITY_MOST: u64 = 4096;
+
+    pub const SIDE_PLACES_LEAST: u64 = 0;
+
+    pub const SIDE_PLACES_MOST: u64 = 64;
+
+    // "A key is 13 bytes, a class an unsigned 32-bit number"
+    pub const KEY_WIDTH: usize = 13;
+
+    pub const CLASS_BYTES: usize = 4;
+
+    // 64 bits each, so that no number of a caller is cut off before its range is judged.
+    pub fn new(p: u64, k: u64, room: u64, top: u64, capacity: u64, side_places: u64) -> Checked
+        ensures { λ r. ⌜ r ≡ checked-of (record { p = p; k = k; room = room; top = top; capacity = capacity; side-places = «side_places» }) ⌝ }
+    {
+        let p_within = (Settings::P_LEAST <= p) & (p <= Settings::P_MOST);
+        let k_within = (Settings::K_LEAST <= k) & (k <= Settings::K_MOST);
+        let room_within = (Settings::ROOM_LEAST <= room) & (room <= Settings::ROOM_MOST);
+        let top_within = (Settings::TOP_LEAST <= top) & (top <= Settings::TOP_MOST);
+        let capacity_within = (Settings::CAPACITY_LEAST <= capacity)
+            & (capacity <= Settings::CAPACITY_MOST);
+        let side_places_within = (Settings::SIDE_PLACES_LEAST <= side_places)
+            & (side_places <= Settings::SIDE_PLACES_MOST);
+        if p_within
+            & (k_within & (room_within & (top_within & (capacity_within & side_places_within))))
+        {
+            Checked::Allowed(Settings {
+                p: p as usize,
+                k: k as usize,
+                room: room as usize,
+                top: top as usize,
+                capacity: capacity as usize,
+                side_places: side_places as usize,
+            })
+        } else {
+            Checked::Refused
+        }
+    }
+
+    // m = 2^p
+    pub fn buckets(self) -> usize
+        requires { ⌜ allowed (paper self) ≡ true ⌝ }
+        ensures { λ r. ⌜ r ≡ card-of (paper self) .buckets ⌝ }
+    {
+        let p = self.p;
+        1usize << p
+    }
+
+    pub fn width(self) -> usize
+        ensures { λ r. ⌜ r ≡ card-of (paper self) .width ⌝ }
+    {
+        Settings::KEY_WIDTH
+    }
+
+    // "a record 17 bytes: the key, then the class"
+    pub fn record_size(self) -> usize
+        ensures { λ r. ⌜ r ≡ record-size (card-of (paper self)) ⌝ }
+    {
+        Settings::KEY_WIDTH + Settings::CLASS_BYTES
+    }
+
+    // "one bucket of 1 + 17 × B bytes, a mark, then record places"
+    pub fn bucket_size(self) -> usize
+        requires { ⌜ allowed (paper self) ≡ true ⌝ }
+        ensures { λ r. ⌜ r ≡ bucket-size (card-of (paper self)) ⌝ }
+    {
+        1 + self.record_size() * self.room
+    }
+
+    // "2 + 17 × N bytes"
+    pub fn ledger_length(self) -> usize
+        requires { ⌜ allowed (paper self) ≡ true ⌝ }
+        ensures { λ r. ⌜ r ≡ ledger-length (card-of (paper self)) ⌝ }
+    {
+        2 + self.record_size() * self.capacity
+    }
+
+    // "m 16-bit numbers"
+    pub fn true_length(self) -> usize
+        requires { ⌜ allowed (paper self) ≡ true ⌝ }
+        ensures { λ r. ⌜ r ≡ true-length (card-of (paper self)) ⌝ }
+    {
+        self.buckets()
+    }
+
+    // "m / 2 bytes"
+    pub fn clipped_length(self) -> usize
+        requires { ⌜ allowed (paper self) ≡ true ⌝ }
+        ensures { λ r. ⌜ r ≡ clipped-length (card-of (paper self)) ⌝ }
+    {
+        self.buckets() / 2
+    }
+
+    // "m times one bucket"
+    pub fn buckets_length(self) -> usize
+        requires { ⌜ allowed (paper self) ≡ true ⌝ }
+        ensures { λ r. ⌜ r ≡ buckets-length (card-of (paper self)) ⌝ }
+    {
+        self.buckets() * self.bucket_size()
+    }
+
+    // "2 + 17 × S bytes, shaped as the ledger"
+    pub fn side_length(self) -> usize
+        requires { ⌜ allowed (paper self) ≡ true ⌝ }
+        ensures { λ r. ⌜ r ≡ side-length (card-of (paper self)) ⌝ }
+    {
+        2 + self.record_size() * self.side_places
+    }
+
+    // "2 × m 16-bit numbers"
+    pub fn work_length(self) -> usize
+        requires { ⌜ allowed (paper self) ≡ true ⌝ }
+        ensures { λ r. ⌜ r ≡ work-length (card-of (paper self)) ⌝ }
+    {
+        2 * self.buckets()
+    }
+}
