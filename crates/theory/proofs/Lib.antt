@@ -9,3 +9,4 @@ pub mod OrderLaws
 pub mod CallLaws
 pub mod Demands
 pub mod SnapshotLaws
+pub mod Cases
