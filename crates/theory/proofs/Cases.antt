@@ -115,6 +115,7 @@ cases =
     ∷ (snapshot smallest [] gives (0 ∷ 6 ∷ 0 ∷ 4 ∷ 0 ∷ 1 ∷ 0 ∷ 1 ∷ 0 ∷ 2 ∷ 0 ∷ 1 ∷ 0 ∷ 0 ∷ 0 ∷ 0 ∷ []))
     -- and two that the paper's rows leave open: hashes 5, 1: a tie goes to the lowest bucket and not to the first hash; hashes 5, 5: a counter is raised once
     ∷ ((choice reversed (reversed ∷ []) ∷ []) gives (1 ∷ []))
+    ∷ ((card-with 1 15 8 .numbers (doubled ∷ [])) gives (5 ∷ []))
     ∷ (map (true-count (card-with 1 15 8) (flows (doubled ∷ []))) (4 ∷ 5 ∷ 6 ∷ []) gives (0 ∷ 1 ∷ 0 ∷ []))
     ∷ []
 

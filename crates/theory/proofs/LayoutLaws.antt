@@ -13,8 +13,8 @@ use lib.Seq.{take-at, drop-at}
 use Rattle.theory.specs.Lists.{filter, flat, upto}
 use Rattle.theory.specs.Records.{Record, to-bytes, of-bytes, count-of, record-bytes, records, find, find-bytes}
 use Rattle.theory.specs.Settings.{Card, record-size, bucket-size, buckets-length}
-use Rattle.theory.specs.Placing.{clip, choosers, crowded, bucket-records, side-records}
-use Rattle.theory.specs.Layout.{places, counted-places, counter-bytes, bucket-bytes, buckets-bytes, side-bytes}
+use Rattle.theory.specs.Placing.{clip, true-count, choosers, crowded, bucket-records, side-records}
+use Rattle.theory.specs.Layout.{Areas, layout, layout-by, places, counted-places, counter-bytes, bucket-bytes, buckets-bytes, side-bytes}
 use Rattle.theory.specs.Lookup.{counter, bucket-part, part}
 use Rattle.theory.proofs.ListLaws.{All, length-flat, all-every, all-map, length-upto, getD-map-upto, piece, filter-all}
 use Rattle.theory.proofs.SettingsLaws.{Sound}
@@ -59,6 +59,11 @@ module _ (s : Card) where
   pub after-count : (n : ℕ) (l : List Record) → drop 2 (counted-places s n l) ≡ places s n l
   unfolding counted-places
   after-count n l = drop-at (to-bytes 2 (length l)) (places s n l) 2 (length-to-bytes 2 (length l))
+
+  -- ---- true counts
+  pub read-true-count : (l : List Record) (b : ℕ) → b < s .buckets → getD (layout s l .true-counts) b 0 ≡ true-count s l b
+  unfolding layout layout-by
+  read-true-count l b h = rw (getD-map-upto (true-count s l) 0 (s .buckets) b 0 h, zero-add)
 
   module _ (ok : Sound s) (c : ℕ → ℕ) where
     -- ---- counters
