@@ -1,11 +1,11 @@
 -- Laws of bytes: numbers and records written and read back, and read and written back. Assumes nothing.
-use mathlib.Core.Path.{_≡_, refl, sym, ap, _∙_, subst}
+use mathlib.Core.Path.{_≡_, refl, sym, ap}
 use mathlib.Core.List.{List, [], _∷_, _++_, append-assoc}
-use Prim.Native.Nat.{ℕ, zero, suc, _+_, _-_, _*_, _/_, _%_, _^_, _≤_, _<_}
+use Prim.Native.Nat.{ℕ, zero, suc, _+_, _*_, _/_, _%_, _^_, _≤_, _<_}
 use native.Mathlib.Nat.{div-add-mod', pow-suc, zero-mul, suc-mul, add-comm}
 use native.Mathlib.Omega.{arith}
-use lib.ListN.{length, take, drop, getD, length-append, length-drop, take-append-drop}
-use lib.Seq.{take-at, drop-at, take-suc, take-add, take-all, length-take-le}
+use lib.ListN.{length, take, drop, getD, length-append, length-drop}
+use lib.Seq.{take-at, drop-at, take-suc, take-add, length-take-le}
 use Rattle.theory.specs.Lists.{flat}
 use Rattle.theory.specs.Records.{Record, to-bytes, number-after, of-bytes, record-bytes, entries, record-at, records, find, same-key, find-bytes}
 use Rattle.theory.specs.Lookup.{part}

@@ -1,9 +1,9 @@
 -- Laws of the calls on a card: on the layout of a list each call answers, and leaves the areas, as the plain ledger says. Assumes nothing.
-use mathlib.Core.Path.{_≡_, refl, sym, ap, _∙_, subst}
+use mathlib.Core.Path.{_≡_, refl, ap, _∙_}
 use mathlib.Core.Bool.{Bool, true, false, cond, not, _&&_, _||_, and-false}
 use mathlib.Core.List.{List, [], _∷_, _++_, map, append-assoc}
-use mathlib.Core.Option.{Option, none, some}
-use Prim.Native.Nat.{ℕ, zero, suc, _+_, _-_, _*_, _/_, _≤_, _<_, _^_, zero-le, min}
+use mathlib.Core.Option.{some}
+use Prim.Native.Nat.{ℕ, zero, suc, _+_, _-_, _*_, _≤_, _<_, _^_, zero-le, min}
 use native.Mathlib.Nat.{le-refl, le-trans, mul-comm, mul-le-mul-right}
 use native.Mathlib.Omega.{arith}
 use lib.Dec.{eqb, ltb, leb}
@@ -15,9 +15,9 @@ use Rattle.theory.specs.Records.{Record, to-bytes, of-bytes, count-of, r
 use Rattle.theory.specs.Settings.{Card, record-size, ledger-length, true-length, clipped-length, buckets-length, side-length}
 use Rattle.theory.specs.Placing.{true-count, side-need, mark, side-records, clip, crowded, choosers}
 use Rattle.theory.specs.Layout.{Areas, layout, layout-by, places, counted-places, counter-bytes, bucket-bytes, buckets-bytes, side-bytes}
-use Rattle.theory.specs.Lookup.{bare, part, counter, search-areas, fetch-areas}
-use Rattle.theory.specs.Ledger.{Call, clear, add, change, remove, search, fetch, tally, Reply, answered, handed, totalled, Step, held, insert, replace, without, key-wrong, side-need-of, side-short, next, refusal, search-by, totals-of, tally-of, updated, plain}
-use Rattle.theory.specs.Calls.{refused, stopped, ledger-records, ledger-invalid, update, marks, lookup-invalid, tally-areas, call, shown}
+use Rattle.theory.specs.Lookup.{part, counter, search-areas, fetch-areas}
+use Rattle.theory.specs.Ledger.{Call, clear, add, change, remove, search, fetch, tally, held, insert, replace, without, key-wrong, side-need-of, side-short, next, refusal, search-by, tally-of, updated, plain}
+use Rattle.theory.specs.Calls.{ledger-records, ledger-invalid, update, marks, lookup-invalid, tally-areas, call, shown}
 use Rattle.theory.proofs.ListLaws.{map-all, all-of-map, by-test, or-left, or-right, All, all-every, all-map, all-drop, all-upto, any-false, map-cong, filter-len, filter-all, length-flat, length-upto}
 use Rattle.theory.proofs.SettingsLaws.{Sound}
 use Rattle.theory.proofs.ByteLaws.{Byte, Fit, length-to-bytes, length-record, length-records, records-fit}

@@ -2,9 +2,9 @@
 -- lemma that gives each row. Assumes nothing.
 use mathlib.Core.Path.{_≡_, refl}
 use mathlib.Core.Bool.{Bool, true}
-use mathlib.Core.List.{List, [], _∷_, _++_, map}
-use Prim.Native.Nat.{ℕ, _+_, _*_, _/_, _^_}
-use lib.ListN.{length, getD, replicate}
+use mathlib.Core.List.{List, [], _∷_, map}
+use Prim.Native.Nat.{ℕ}
+use lib.ListN.{getD, replicate}
 use Rattle.theory.specs.Lists.{all, fresh}
 use Rattle.theory.specs.Hash.{if-set, rows-of, H-from, H, hash, numbers-of}
 use Rattle.theory.specs.Settings.{Settings, Card, card-of}

@@ -1,24 +1,23 @@
 -- The demands on lists of calls and on search, over `perform` and under every allowed setting. Assumes nothing.
 use mathlib.Core.Path.{_≡_, refl, sym, ap, _∙_}
 use mathlib.Core.Logic.{_≢_}
-use mathlib.Core.Bool.{Bool, true, false, cond, not}
+use mathlib.Core.Bool.{true, false, cond, not}
 use mathlib.Core.List.{List, [], _∷_}
-use mathlib.Core.Option.{Option, none, some}
+use mathlib.Core.Option.{none, some}
 use Prim.Native.Nat.{ℕ, _≤_, zero-le}
-use native.Mathlib.Omega.{arith}
 use lib.Dec.{eqb}
-use borrow.Author.Tests.{eqb-true, eq-eqb, not-true, not-false}
+use borrow.Author.Tests.{eq-eqb}
 use lib.ListN.{length}
 use Rattle.theory.specs.Lists.{all}
 use Rattle.theory.specs.Records.{Record, record-bytes, find}
 use Rattle.theory.specs.Settings.{Settings, allowed, Card, card-of, work-length}
 use Rattle.theory.specs.Placing.{true-count, chosen}
 use Rattle.theory.specs.Layout.{Areas, layout}
-use Rattle.theory.specs.Lookup.{bare, counter, bucket-part, reads-bucket, place, answer-at, part-at, search-areas, fetch-areas}
-use Rattle.theory.specs.Ledger.{Call, clear, add, change, remove, search, fetch, tally, Reply, answered, handed, totalled, Seen, unseen, seen, answer-seen, key-wrong, refusal, search-by, seen-by, plain}
+use Rattle.theory.specs.Lookup.{bare, counter, bucket-part, reads-bucket, search-areas, fetch-areas}
+use Rattle.theory.specs.Ledger.{Call, clear, add, change, remove, search, fetch, tally, answered, handed, Seen, unseen, seen, answer-seen, key-wrong, refusal, search-by, seen-by, plain}
 use Rattle.theory.specs.Calls.{reply-number, reply-class, reply-buckets-read, ledger-records, ledger-invalid, update, call, lookup-lengths, all-lengths, lent-lengths, perform, run, areas-after, run-plain, list-after}
 use Rattle.theory.proofs.ListLaws.{by-test, All}
-use Rattle.theory.proofs.SettingsLaws.{Sound, sound}
+use Rattle.theory.proofs.SettingsLaws.{sound}
 use Rattle.theory.proofs.LookupLaws.{local-place, search-reads}
 use Rattle.theory.proofs.OrderLaws.{rising-answers}
 use Rattle.theory.proofs.CallLaws.{found-width, Small, HasLayout, Sized, sized, has-layout-empty, stays, step}

@@ -1,20 +1,20 @@
 -- Laws of the layout: the lengths of its areas, and what is read back from them. Assumes nothing.
-use mathlib.Core.Path.{_≡_, refl, sym, ap, _∙_, subst}
+use mathlib.Core.Path.{_≡_, refl, ap, _∙_}
 use mathlib.Core.Logic.{_≢_}
 use mathlib.Core.Bool.{Bool, true, false, cond}
-use mathlib.Core.List.{List, [], _∷_, _++_, map}
-use Prim.Native.Nat.{ℕ, zero, suc, _+_, _-_, _*_, _/_, _%_, _≤_, _<_, zero-le, min}
+use mathlib.Core.List.{List, []}
+use Prim.Native.Nat.{ℕ, _+_, _-_, _*_, _/_, _%_, _≤_, _<_, zero-le, min}
 use native.Mathlib.Nat.{mul-add, add-sub-of-le, zero-add, mul-comm, min-le-right, le-trans}
 use native.Mathlib.Omega.{arith}
-use lib.Dec.{eqb, ltb}
+use lib.Dec.{eqb}
 use borrow.Author.Tests.{ltb-false, eqb-true, eqb-false}
 use lib.ListN.{length, take, drop, getD, replicate, length-append, length-replicate, length-map}
 use lib.Seq.{take-at, drop-at}
-use Rattle.theory.specs.Lists.{filter, flat, upto}
-use Rattle.theory.specs.Records.{Record, to-bytes, of-bytes, count-of, record-bytes, records, find, find-bytes}
+use Rattle.theory.specs.Lists.{upto}
+use Rattle.theory.specs.Records.{Record, to-bytes, of-bytes, record-bytes, records, find, find-bytes}
 use Rattle.theory.specs.Settings.{Card, record-size, bucket-size, buckets-length}
 use Rattle.theory.specs.Placing.{clip, true-count, choosers, crowded, bucket-records, side-records}
-use Rattle.theory.specs.Layout.{Areas, layout, layout-by, places, counted-places, counter-bytes, bucket-bytes, buckets-bytes, side-bytes}
+use Rattle.theory.specs.Layout.{layout, layout-by, places, counted-places, counter-bytes, bucket-bytes, buckets-bytes}
 use Rattle.theory.specs.Lookup.{counter, bucket-part, part}
 use Rattle.theory.proofs.ListLaws.{All, length-flat, all-every, all-map, length-upto, getD-map-upto, piece, filter-all}
 use Rattle.theory.proofs.SettingsLaws.{Sound}

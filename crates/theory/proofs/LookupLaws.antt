@@ -1,23 +1,22 @@
 -- Laws of search: over the record-bytes of a list's layout it answers as the plain ledger does. Assumes nothing.
-use mathlib.Core.Path.{_≡_, refl, sym, ap, _∙_, subst}
-use mathlib.Core.Logic.{_≢_, _⊎_, inl, inr}
-use mathlib.Core.Bool.{Bool, true, false, cond, not, _&&_, _||_, true≢false, false≢true}
-use mathlib.Core.List.{List, [], _∷_, _++_, map}
+use mathlib.Core.Path.{_≡_, refl, ap, _∙_}
+use mathlib.Core.Bool.{Bool, true, false, cond}
+use mathlib.Core.List.{List, map}
 use mathlib.Core.Option.{Option, none, some}
-use Prim.Native.Nat.{ℕ, zero, suc, _+_, _-_, _*_, _/_, _%_, _≤_, _<_, zero-le, min}
+use Prim.Native.Nat.{ℕ, _≤_, zero-le}
 use native.Mathlib.Nat.{le-refl, le-trans}
 use native.Mathlib.Omega.{arith}
-use lib.Dec.{eqb, ltb, leb}
-use borrow.Author.Tests.{ltb-false, le-ltb, eqb-true, eqb-false, eq-eqb, ne-eqb, leb-true, leb-false}
-use lib.ListN.{length, take, drop, getD}
-use Rattle.theory.specs.Lists.{filter, any, all, has, least}
+use lib.Dec.{eqb, ltb}
+use borrow.Author.Tests.{le-ltb}
+use lib.ListN.{length, getD}
+use Rattle.theory.specs.Lists.{any, all, least}
 use Rattle.theory.specs.Records.{Record, count-of, records, find, comparisons}
 use Rattle.theory.specs.Settings.{Card}
-use Rattle.theory.specs.Placing.{clip, true-count, all-top, least-count, chosen, choosers, crowded, mark, bucket-records, side-records, side-need}
-use Rattle.theory.specs.Layout.{places, counted-places, counter-bytes, bucket-bytes, buckets-bytes, side-bytes}
-use Rattle.theory.specs.Lookup.{Answer, bare, answer, part, counter, Place, invalid, nowhere, among, bucket-part, side-place, bucket-place, by-counters, reads-bucket, place, answer-at, part-at, search-areas, fetch-areas}
+use Rattle.theory.specs.Placing.{clip, true-count, all-top, least-count, chosen, crowded, mark, bucket-records, side-records, side-need}
+use Rattle.theory.specs.Layout.{places, counter-bytes, bucket-bytes, buckets-bytes, side-bytes}
+use Rattle.theory.specs.Lookup.{answer, part, counter, Place, invalid, nowhere, among, bucket-part, side-place, bucket-place, by-counters, reads-bucket, place, answer-at, part-at, search-areas, fetch-areas}
 use Rattle.theory.specs.Ledger.{Seen, unseen, seen, answer-seen, seen-by, search-by}
-use Rattle.theory.proofs.ListLaws.{either, by-test, All, all-every, all-map, any-cong, all-cong, filter-cong, map-cong, any-false, any-none, least-zero, least-top, eqb-same}
+use Rattle.theory.proofs.ListLaws.{either, by-test, All, all-map, any-cong, all-cong, filter-cong, map-cong}
 use Rattle.theory.proofs.ByteLaws.{Fit}
 use Rattle.theory.proofs.SettingsLaws.{Sound}
 use Rattle.theory.proofs.LayoutLaws.{read-places, read-place-bytes, read-count, after-count, read-counter, read-bucket, bucket-fits, bucket-fit, side-fit}

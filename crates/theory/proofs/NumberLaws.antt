@@ -1,11 +1,11 @@
 -- Laws of bucket numbers: repeats dropped, none lost. Assumes nothing.
 use mathlib.Core.Path.{_≡_, refl, sym, ap, _∙_}
-use mathlib.Core.Bool.{Bool, true, false, cond, not, _&&_, _||_, true≢false, false≢true}
+use mathlib.Core.Bool.{Bool, true, false, not, _&&_, _||_, true≢false}
 use mathlib.Core.List.{List, [], _∷_}
-use Prim.Native.Nat.{ℕ, zero, suc}
+use Prim.Native.Nat.{ℕ}
 use lib.Dec.{eqb}
 use borrow.Author.Tests.{eqb-true, eq-eqb}
-use Rattle.theory.specs.Lists.{any, has, fresh}
+use Rattle.theory.specs.Lists.{has, fresh}
 use Rattle.theory.proofs.ListLaws.{by-test, All}
 
 -- no number twice

@@ -1,18 +1,18 @@
 -- Laws of the order of keys, and of a rising list that gains, changes or loses a record. Assumes nothing.
-use mathlib.Core.Path.{_≡_, refl, sym, ap, _∙_, subst}
+use mathlib.Core.Path.{_≡_, refl, sym, ap, _∙_}
 use mathlib.Core.Logic.{_≢_}
 use mathlib.Core.Bool.{Bool, true, false, cond, not, _&&_, _||_, true≢false, false≢true}
-use mathlib.Core.List.{List, [], _∷_, _++_, map}
-use mathlib.Core.Option.{Option, none, some}
-use Prim.Native.Nat.{ℕ, zero, suc, _+_, _≤_, _<_}
+use mathlib.Core.List.{List, [], _∷_, map}
+use mathlib.Core.Option.{none, some}
+use Prim.Native.Nat.{ℕ, suc}
 use native.Mathlib.Nat.{le-refl}
 use native.Mathlib.Omega.{arith}
-use lib.Dec.{eqb, ltb, leb}
-use borrow.Author.Tests.{ltb-true, ltb-false, lt-ltb, le-ltb, eqb-true, eqb-false, eq-eqb, ne-eqb}
-use lib.ListN.{length, length-map}
-use Rattle.theory.specs.Lists.{filter, any}
+use lib.Dec.{eqb, ltb}
+use borrow.Author.Tests.{ltb-true, ltb-false, lt-ltb, le-ltb, eqb-true, eqb-false, eq-eqb}
+use lib.ListN.{length}
+use Rattle.theory.specs.Lists.{filter}
 use Rattle.theory.specs.Records.{Record, same-key, key-below, below-first, rising, find}
-use Rattle.theory.specs.Ledger.{held, insert, replace, without}
+use Rattle.theory.specs.Ledger.{held, insert}
 use Rattle.theory.proofs.ListLaws.{by-test, and-left, and-right, and-both, or-left, or-right, All, filter-all}
 use Rattle.theory.proofs.PlacingLaws.{same-key-eq}
 

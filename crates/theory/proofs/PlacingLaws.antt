@@ -1,21 +1,21 @@
 -- Laws of placing: clipped counts choose as the counts do; a held key has no zero counter; a key's record lies where the key is looked for. Assumes nothing.
-use mathlib.Core.Path.{_≡_, refl, sym, ap, _∙_, subst}
+use mathlib.Core.Path.{_≡_, refl, sym, ap, _∙_}
 use mathlib.Core.Logic.{_≢_, _⊎_, inl, inr}
-use mathlib.Core.Bool.{Bool, true, false, cond, not, _&&_, _||_, true≢false, false≢true}
-use mathlib.Core.List.{List, [], _∷_, _++_, map}
+use mathlib.Core.Bool.{Bool, true, false, cond, not, _&&_, true≢false, false≢true}
+use mathlib.Core.List.{List, [], _∷_}
 use mathlib.Core.Option.{Option, none, some}
-use Prim.Native.Nat.{ℕ, zero, suc, _+_, _-_, _*_, _/_, _%_, _≤_, _<_, zero-le, min}
-use native.Mathlib.Nat.{le-refl, le-trans}
+use Prim.Native.Nat.{ℕ, zero, _≤_, _<_, min}
+use native.Mathlib.Nat.{le-trans}
 use native.Mathlib.Omega.{arith}
 use lib.Dec.{eqb, ltb, leb}
-use borrow.Author.Tests.{ltb-false, le-ltb, eqb-true, eqb-false, eq-eqb, ne-eqb, leb-true, leb-false, lt-leb, le-leb}
+use borrow.Author.Tests.{ltb-false, le-ltb, eqb-true, eqb-false, eq-eqb, ne-eqb, leb-true, leb-false}
 use lib.ListN.{length}
 use Rattle.theory.specs.Lists.{filter, any, all, has, least}
 use Rattle.theory.specs.Records.{Record, find, same-key}
 use Rattle.theory.specs.Settings.{Card}
 use Rattle.theory.specs.Placing.{clip, true-count, all-top, least-count, chosen, chooses, choosers, crowded, mark, bucket-records, belongs-to-side, side-records}
 use Rattle.theory.specs.Ledger.{Seen, unseen, seen, seen-by}
-use Rattle.theory.proofs.ListLaws.{by-test, All, all-every, all-map, any-cong, all-cong, filter-cong, map-cong, any-false, filter-first, filter-grows, all-has, least-le, least-clip, least-lt, attained, least-filter}
+use Rattle.theory.proofs.ListLaws.{by-test, All, all-every, all-map, all-cong, filter-cong, any-false, filter-first, filter-grows, all-has, least-clip, least-lt, attained, least-filter}
 use Rattle.theory.proofs.SettingsLaws.{Sound}
 
 -- ---- tests of a clipped number-after

@@ -1,9 +1,8 @@
 -- Laws of snapshots: what was saved loads to the same settings and flows, and a file that loads is the one that saving then writes. Assumes nothing.
 use mathlib.Core.Path.{_≡_, refl, sym, ap, _∙_}
-use mathlib.Core.Logic.{_≢_}
 use mathlib.Core.Bool.{Bool, true, false, cond, not, _||_}
 use mathlib.Core.List.{List, [], _∷_, _++_, append-assoc, append-nil}
-use Prim.Native.Nat.{ℕ, zero, suc, _+_, _*_, _^_, _≤_, _<_}
+use Prim.Native.Nat.{ℕ, _+_, _*_, _≤_, _<_}
 use native.Mathlib.Nat.{mul-comm, le-of-eq}
 use native.Mathlib.Omega.{arith}
 use lib.Dec.{ltb, eqb}
@@ -16,10 +15,10 @@ use Rattle.theory.specs.Settings.{Settings, allowed, Card, card-of, reco
 use Rattle.theory.specs.Layout.{Areas, layout, layout-by, counted-places}
 use Rattle.theory.specs.Ledger.{side-short}
 use Rattle.theory.specs.Calls.{ledger-records, ledger-invalid, all-lengths}
-use Rattle.theory.specs.Snapshot.{section, settings-list, snapshot, Saved, save, Loaded, setting, file-settings, file-count, file-records, not-loaded, load}
+use Rattle.theory.specs.Snapshot.{section, snapshot, Saved, save, Loaded, setting, file-settings, file-count, file-records, load}
 use Rattle.theory.proofs.ListLaws.{All, all-every, all-each, all-map, all-drop, length-flat, or-left, or-right}
-use Rattle.theory.proofs.SettingsLaws.{Ranges, ranges, Sound, sound}
-use Rattle.theory.proofs.ByteLaws.{Byte, Fit, length-to-bytes, of-to-bytes, to-of-bytes, length-record, read-entries, write-entries, length-records, read-records, records-fit, write-records}
+use Rattle.theory.proofs.SettingsLaws.{ranges, sound}
+use Rattle.theory.proofs.ByteLaws.{Byte, length-to-bytes, of-to-bytes, to-of-bytes, length-record, read-entries, write-entries, length-records, read-records, records-fit, write-records}
 use Rattle.theory.proofs.CallLaws.{HasLayout, Sized, sized, enough, not-enough, valid-has-layout, ledger-back, not-invalid}
 use Rattle.theory.proofs.Demands.{all-lengths-right}
 

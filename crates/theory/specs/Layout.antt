@@ -1,5 +1,5 @@
 -- Document 01, 'Settings and areas' and 'Placing': the bytes of the five areas that a list of records lays out. Assumes nothing.
-use mathlib.Core.List.{List, [], _∷_, _++_, map}
+use mathlib.Core.List.{List, _∷_, _++_, map}
 use Prim.Native.Nat.{ℕ, _+_, _-_, _*_, _/_}
 use lib.ListN.{length, replicate}
 use Rattle.theory.specs.Lists.{flat, upto}
