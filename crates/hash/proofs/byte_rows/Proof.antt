@@ -1,0 +1,56 @@
+-- `hash::byte_rows` meets its contract: each bit's row, one inside the other; the last is xor 0.
+-- Assumes nothing.
+use lib.Bits.{xor-zero-r}
+use Rattle.hash.specs.Table.{xor-set}
+use Rattle.hash.proofs.byte_rows.Statement.{statement}
+use Rattle.hash.proofs.byte_rows.Tie as tie
+
+if-set-requires : tie.Need-if-set-requires
+if-set-requires c κs = tt
+
+if-set-requires-2 : tie.Need-if-set-requires-2
+if-set-requires-2 c κs = tt
+
+if-set-requires-3 : tie.Need-if-set-requires-3
+if-set-requires-3 c κs = tt
+
+if-set-requires-4 : tie.Need-if-set-requires-4
+if-set-requires-4 c κs = tt
+
+if-set-requires-5 : tie.Need-if-set-requires-5
+if-set-requires-5 c κs = tt
+
+if-set-requires-6 : tie.Need-if-set-requires-6
+if-set-requires-6 c κs = tt
+
+if-set-requires-7 : tie.Need-if-set-requires-7
+if-set-requires-7 c κs = tt
+
+if-set-requires-8 : tie.Need-if-set-requires-8
+if-set-requires-8 c κs = tt
+
+returns : tie.Need-returns
+unfolding xor-set
+returns c =
+    let c7 = c .before in
+    let c6 = c7 .before in
+    let c5 = c6 .before in
+    let c4 = c5 .before in
+    let c3 = c4 .before in
+    let c2 = c3 .before in
+    let c1 = c2 .before in
+    rw (c1 .if-set .ensures, c2 .if-set2 .ensures, c3 .if-set3 .ensures, c4 .if-set4 .ensures, c5 .if-set5 .ensures, c6 .if-set6 .ensures, c7 .if-set7 .ensures, c .if-set8 .ensures, xor-zero-r)
+
+pub byte-rows-spec : {M : Type 1} → statement M
+byte-rows-spec =
+    tie.close
+    (tie.spec
+    if-set-requires
+    if-set-requires-2
+    if-set-requires-3
+    if-set-requires-4
+    if-set-requires-5
+    if-set-requires-6
+    if-set-requires-7
+    if-set-requires-8
+    returns)

@@ -1,0 +1,161 @@
+-- `hash::h_rows` meets its contract: from the last byte to the first, h is H of the bytes from there on.
+-- Assumes nothing.
+use native.Mathlib.Omega.{arith}
+use lib.Dec.{lit<}
+use Rattle.theory.specs.Hash.{H}
+use Rattle.hash.proofs.Constants.{rows}
+use Rattle.hash.proofs.KeyLaws.{byte-last, byte-more}
+use borrow.Author.Needs.{needs}
+use Rattle.hash.proofs.h_rows.Statement.{statement}
+use Rattle.hash.proofs.h_rows.Tie as tie
+
+shared-slice-read-byte-rows : tie.Need-shared-slice-read-byte-rows
+shared-slice-read-byte-rows c = search needs
+
+byte-rows-requires : tie.Need-byte-rows-requires
+byte-rows-requires c κs = tt
+
+shared-slice-read-byte-rows-2 : tie.Need-shared-slice-read-byte-rows-2
+shared-slice-read-byte-rows-2 c = search needs
+
+byte-rows-requires-2 : tie.Need-byte-rows-requires-2
+byte-rows-requires-2 c κs = tt
+
+shared-slice-read-byte-rows-3 : tie.Need-shared-slice-read-byte-rows-3
+shared-slice-read-byte-rows-3 c = search needs
+
+byte-rows-requires-3 : tie.Need-byte-rows-requires-3
+byte-rows-requires-3 c κs = tt
+
+shared-slice-read-byte-rows-4 : tie.Need-shared-slice-read-byte-rows-4
+shared-slice-read-byte-rows-4 c = search needs
+
+byte-rows-requires-4 : tie.Need-byte-rows-requires-4
+byte-rows-requires-4 c κs = tt
+
+shared-slice-read-byte-rows-5 : tie.Need-shared-slice-read-byte-rows-5
+shared-slice-read-byte-rows-5 c = search needs
+
+byte-rows-requires-5 : tie.Need-byte-rows-requires-5
+byte-rows-requires-5 c κs = tt
+
+shared-slice-read-byte-rows-6 : tie.Need-shared-slice-read-byte-rows-6
+shared-slice-read-byte-rows-6 c = search needs
+
+byte-rows-requires-6 : tie.Need-byte-rows-requires-6
+byte-rows-requires-6 c κs = tt
+
+shared-slice-read-byte-rows-7 : tie.Need-shared-slice-read-byte-rows-7
+shared-slice-read-byte-rows-7 c = search needs
+
+byte-rows-requires-7 : tie.Need-byte-rows-requires-7
+byte-rows-requires-7 c κs = tt
+
+shared-slice-read-byte-rows-8 : tie.Need-shared-slice-read-byte-rows-8
+shared-slice-read-byte-rows-8 c = search needs
+
+byte-rows-requires-8 : tie.Need-byte-rows-requires-8
+byte-rows-requires-8 c κs = tt
+
+shared-slice-read-byte-rows-9 : tie.Need-shared-slice-read-byte-rows-9
+shared-slice-read-byte-rows-9 c =
+    let half = c .before .before .before .before .before .before .before .before .before in
+    omega (arith, half .before .before .before .before .before .before .before .before .before .pre)
+
+byte-rows-requires-9 : tie.Need-byte-rows-requires-9
+byte-rows-requires-9 c κs = tt
+
+shared-slice-read-byte-rows-10 : tie.Need-shared-slice-read-byte-rows-10
+shared-slice-read-byte-rows-10 c =
+    let half = c .before .before .before .before .before .before .before .before .before .before in
+    omega (arith, half .before .before .before .before .before .before .before .before .before .before .pre)
+
+byte-rows-requires-10 : tie.Need-byte-rows-requires-10
+byte-rows-requires-10 c κs = tt
+
+shared-slice-read-byte-rows-11 : tie.Need-shared-slice-read-byte-rows-11
+shared-slice-read-byte-rows-11 c =
+    let half = c .before .before .before .before .before .before .before .before .before .before .before in
+    omega (arith, half .before .before .before .before .before .before .before .before .before .before .before .pre)
+
+byte-rows-requires-11 : tie.Need-byte-rows-requires-11
+byte-rows-requires-11 c κs = tt
+
+shared-slice-read-byte-rows-12 : tie.Need-shared-slice-read-byte-rows-12
+shared-slice-read-byte-rows-12 c =
+    let half = c .before .before .before .before .before .before .before .before .before .before .before .before in
+    omega (arith, half .before .before .before .before .before .before .before .before .before .before .before .before .pre)
+
+byte-rows-requires-12 : tie.Need-byte-rows-requires-12
+byte-rows-requires-12 c κs = tt
+
+shared-slice-read-byte-rows-13 : tie.Need-shared-slice-read-byte-rows-13
+shared-slice-read-byte-rows-13 c =
+    let half = c .before .before .before .before .before .before .before .before .before .before .before .before .before in
+    omega (arith, half .before .before .before .before .before .before .before .before .before .before .before .before .before .pre)
+
+byte-rows-requires-13 : tie.Need-byte-rows-requires-13
+byte-rows-requires-13 c κs = tt
+
+returns : tie.Need-returns
+unfolding rows H
+returns c =
+    let c12 = c .before .before in
+    let c11 = c12 .before .before in
+    let c10 = c11 .before .before in
+    let c9 = c10 .before .before in
+    let c8 = c9 .before .before in
+    let c7 = c8 .before .before in
+    let c6 = c7 .before .before in
+    let c5 = c6 .before .before in
+    let c4 = c5 .before .before in
+    let c3 = c4 .before .before in
+    let c2 = c3 .before .before in
+    let c1 = c2 .before .before in
+    let s = c1 .before .before .before in
+    let key = s .args .key .now in
+    let e12 = byte-last key (s .pre) (c1 .byte-rows .ensures) in
+    let e11 = byte-more key (s .pre) 11 (lit< tt) (c2 .byte-rows2 .ensures) e12 in
+    let e10 = byte-more key (s .pre) 10 (lit< tt) (c3 .byte-rows3 .ensures) e11 in
+    let e9 = byte-more key (s .pre) 9 (lit< tt) (c4 .byte-rows4 .ensures) e10 in
+    let e8 = byte-more key (s .pre) 8 (lit< tt) (c5 .byte-rows5 .ensures) e9 in
+    let e7 = byte-more key (s .pre) 7 (lit< tt) (c6 .byte-rows6 .ensures) e8 in
+    let e6 = byte-more key (s .pre) 6 (lit< tt) (c7 .byte-rows7 .ensures) e7 in
+    let e5 = byte-more key (s .pre) 5 (lit< tt) (c8 .byte-rows8 .ensures) e6 in
+    let e4 = byte-more key (s .pre) 4 (lit< tt) (c9 .byte-rows9 .ensures) e5 in
+    let e3 = byte-more key (s .pre) 3 (lit< tt) (c10 .byte-rows10 .ensures) e4 in
+    let e2 = byte-more key (s .pre) 2 (lit< tt) (c11 .byte-rows11 .ensures) e3 in
+    let e1 = byte-more key (s .pre) 1 (lit< tt) (c12 .byte-rows12 .ensures) e2 in
+    byte-more key (s .pre) 0 (lit< tt) (c .byte-rows13 .ensures) e1
+
+pub h-rows-spec : {M : Type 1} → statement M
+h-rows-spec =
+    tie.close
+    (tie.spec
+    shared-slice-read-byte-rows
+    byte-rows-requires
+    shared-slice-read-byte-rows-2
+    byte-rows-requires-2
+    shared-slice-read-byte-rows-3
+    byte-rows-requires-3
+    shared-slice-read-byte-rows-4
+    byte-rows-requires-4
+    shared-slice-read-byte-rows-5
+    byte-rows-requires-5
+    shared-slice-read-byte-rows-6
+    byte-rows-requires-6
+    shared-slice-read-byte-rows-7
+    byte-rows-requires-7
+    shared-slice-read-byte-rows-8
+    byte-rows-requires-8
+    shared-slice-read-byte-rows-9
+    byte-rows-requires-9
+    shared-slice-read-byte-rows-10
+    byte-rows-requires-10
+    shared-slice-read-byte-rows-11
+    byte-rows-requires-11
+    shared-slice-read-byte-rows-12
+    byte-rows-requires-12
+    shared-slice-read-byte-rows-13
+    byte-rows-requires-13
+    returns)

@@ -1,0 +1,20 @@
+-- `hash::table` meets its contract: the constant table is the table of the definitions.
+-- Assumes nothing.
+use mathlib.Core.Path.{subst⁻¹}
+use mathlib.Core.List.{List}
+use Prim.Native.Nat.{ℕ}
+use Rattle.hash.specs.Table.{TableRight}
+use Rattle.hash.proofs.Constants.{table}
+use Rattle.hash.proofs.TableLaws.{table-is, table-entries-right}
+use Rattle.hash.proofs.table.Statement.{statement}
+use Rattle.hash.proofs.table.Tie as tie
+
+right : TableRight 13 table
+right = subst⁻¹ (λ (t : List ℕ). TableRight 13 t) table-is (table-entries-right 13)
+
+returns : tie.Need-returns
+unfolding table
+returns c = right
+
+pub table-spec : {M : Type 1} → statement M
+table-spec = tie.close (tie.spec returns)
