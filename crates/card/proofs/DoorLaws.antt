@@ -1,0 +1,148 @@
+-- What each door's definition gives at each outcome. Assumes nothing.
+use mathlib.Core.Path.{_≡_, refl, ap, subst, _∙_}
+use mathlib.Core.Bool.{Bool, true, false, cond}
+use mathlib.Core.List.{List, [], _∷_}
+use Prim.Native.Nat.{ℕ, _^_}
+use lib.Dec.{eqb}
+use lib.ListN.{length}
+use borrow.Author.Tests.{eq-eqb, ne-eqb}
+use Rattle.theory.specs.Hash.{H, numbers-of}
+use Rattle.theory.specs.Settings.{Settings, allowed, card-of}
+use Rattle.settings.specs.declared.Settings as code
+use Rattle.settings.specs.Checked.{paper}
+use Rattle.hash.specs.declared.Numbers.{Numbers}
+use Rattle.hash.specs.Numbering.{Holds}
+use Rattle.hash.specs.Table.{TableRight, table-entries}
+use Rattle.hash.proofs.TableLaws.{table-entries-right}
+use Rattle.card.proofs.AreaLaws.{counted-is}
+use Rattle.card.specs.Doors.{
+  Filled,
+  refused,
+  filled,
+  settings-check-of,
+  lengths-of,
+  area-lengths-of,
+  hash-table-of,
+  hash-of,
+  hash-lent-of,
+  HashedLent,
+  Numbered,
+  first-hashes,
+  counted,
+  key-buckets-of,
+}
+
+module _ (t : Settings) where
+  pub settings-check-1 : allowed t ≡ false → 1 ≡ settings-check-of t
+  unfolding settings-check-of
+  settings-check-1 e = rw e
+
+  pub settings-check-0 : allowed t ≡ true → 0 ≡ settings-check-of t
+  unfolding settings-check-of
+  settings-check-0 e = rw e
+
+  module _ (lengths : List ℕ) where
+    pub area-lengths-1 : allowed t ≡ false → refused 1 lengths ≡ area-lengths-of t lengths
+    unfolding area-lengths-of
+    area-lengths-1 e = rw e
+
+    pub area-lengths-2 : allowed t ≡ true → (length lengths ≡ 6 → ⊥) → refused 2 lengths ≡ area-lengths-of t lengths
+    unfolding area-lengths-of
+    area-lengths-2 e wrong = rw (e, ne-eqb (length lengths) 6 wrong)
+
+    pub area-lengths-0 : allowed t ≡ true → length lengths ≡ 6 → filled (lengths-of (card-of t)) ≡ area-lengths-of t lengths
+    unfolding area-lengths-of
+    area-lengths-0 e right = rw (e, eq-eqb (length lengths) 6 right)
+
+module _ (table : List ℕ) where
+  pub hash-table-2 : (length table ≡ 3328 → ⊥) → refused 2 table ≡ hash-table-of table
+  unfolding hash-table-of
+  hash-table-2 wrong = rw (ne-eqb (length table) 3328 wrong)
+
+  pub hash-table-0 : length table ≡ 3328 → filled (table-entries 13) ≡ hash-table-of table
+  unfolding hash-table-of
+  hash-table-0 right = rw (eq-eqb (length table) 3328 right)
+
+  -- what it writes is a table that the door with a lent table takes
+  pub table-right : length table ≡ 3328 → TableRight 13 (hash-table-of table .area)
+  table-right right = subst (λ (f : Filled). TableRight 13 (f .area)) (hash-table-0 right) (table-entries-right 13)
+
+module _ (key h : List ℕ) where
+  pub hash-2 : (length h ≡ 1 → ⊥) → refused 2 h ≡ hash-of key h
+  unfolding hash-of
+  hash-2 wrong = rw (ne-eqb (length h) 1 wrong)
+
+  pub hash-3 : length h ≡ 1 → (length key ≡ 13 → ⊥) → refused 3 h ≡ hash-of key h
+  unfolding hash-of
+  hash-3 right wrong = rw (eq-eqb (length h) 1 right, ne-eqb (length key) 13 wrong)
+
+  pub hash-0 : length h ≡ 1 → length key ≡ 13 → filled (H key ∷ []) ≡ hash-of key h
+  unfolding hash-of
+  hash-0 right long = rw (eq-eqb (length h) 1 right, eq-eqb (length key) 13 long)
+
+  module _ (table : List ℕ) where
+    lent-wrong : (length table ≡ 3328 → ⊥) → refused 2 h ≡ hash-lent-of table key h
+    unfolding hash-lent-of
+    lent-wrong wrong = rw (ne-eqb (length table) 3328 wrong)
+
+    lent-right : length table ≡ 3328 → hash-of key h ≡ hash-lent-of table key h
+    unfolding hash-lent-of
+    lent-right right = rw (eq-eqb (length table) 3328 right)
+
+    -- a refusal meets the whole promise
+    lent-refused : (n : ℕ) → refused n h ≡ hash-lent-of table key h → HashedLent table key h n h
+    lent-refused n e = record { number-is = ap (λ (f : Filled). f .number) e; unaltered = λ _. refl; hashed = λ _. e }
+
+    pub lent-2-table : (length table ≡ 3328 → ⊥) → HashedLent table key h 2 h
+    lent-2-table wrong = lent-refused 2 (lent-wrong wrong)
+
+    pub lent-2 : length table ≡ 3328 → (length h ≡ 1 → ⊥) → HashedLent table key h 2 h
+    lent-2 right wrong = lent-refused 2 (hash-2 wrong ∙ lent-right right)
+
+    pub lent-3 : length table ≡ 3328 → length h ≡ 1 → (length key ≡ 13 → ⊥) → HashedLent table key h 3 h
+    lent-3 right one wrong = lent-refused 3 (hash-3 one wrong ∙ lent-right right)
+
+    pub lent-0 : length table ≡ 3328 → length h ≡ 1 → length key ≡ 13 → (x : ℕ) → (TableRight 13 table → x ≡ H key) → HashedLent table key h 0 (x ∷ [])
+    lent-0 right one long x gives =
+        let e = hash-0 one long ∙ lent-right right in
+        record {
+          number-is = ap (λ (f : Filled). f .number) e;
+          unaltered = λ no. absurd (no refl);
+          hashed = λ good. rw (gives good) e;
+        }
+
+-- both areas as they were
+abbrev pub kept : ℕ → List ℕ → List ℕ → Numbered
+kept n hashes numbers = record { number = n; hashes = hashes; numbers = numbers }
+
+module _ (t : Settings) (key hashes numbers : List ℕ) where
+  pub key-buckets-1 : allowed t ≡ false → kept 1 hashes numbers ≡ key-buckets-of t key hashes numbers
+  unfolding key-buckets-of
+  key-buckets-1 e = rw e
+
+  pub key-buckets-2 : allowed t ≡ true → (length hashes ≡ 4 → ⊥) → kept 2 hashes numbers ≡ key-buckets-of t key hashes numbers
+  unfolding key-buckets-of
+  key-buckets-2 e wrong = rw (e, ne-eqb (length hashes) 4 wrong)
+
+  module _ (e : allowed t ≡ true) (four : length hashes ≡ 4) where
+    pub key-buckets-2-numbers : (length numbers ≡ 5 → ⊥) → kept 2 hashes numbers ≡ key-buckets-of t key hashes numbers
+    unfolding key-buckets-of
+    key-buckets-2-numbers wrong = rw (e, eq-eqb (length hashes) 4 four, ne-eqb (length numbers) 5 wrong)
+
+    pub key-buckets-3 : length numbers ≡ 5 → (length key ≡ 13 → ⊥) → kept 3 hashes numbers ≡ key-buckets-of t key hashes numbers
+    unfolding key-buckets-of
+    key-buckets-3 five wrong = rw (e, eq-eqb (length hashes) 4 four, eq-eqb (length numbers) 5 five, ne-eqb (length key) 13 wrong)
+
+    pub key-buckets-0 : length numbers ≡ 5 → length key ≡ 13 → kept 0 (first-hashes (2 ^ t .p) (H key)) (counted (numbers-of (2 ^ t .p) (t .k) (H key))) ≡ key-buckets-of t key hashes numbers
+    unfolding key-buckets-of card-of
+    key-buckets-0 five long = rw (e, eq-eqb (length hashes) 4 four, eq-eqb (length numbers) 5 five, eq-eqb (length key) 13 long)
+
+    -- what the code wrote, with its own settings and its own H
+    pub key-buckets-written : (s : code.Settings) (h : ℕ) (r : Numbers) {after-hashes after-numbers : List ℕ}
+        → paper s ≡ t → length numbers ≡ 5 → length key ≡ 13 → h ≡ H key
+        → after-hashes ≡ first-hashes (2 ^ s .p) h → Holds r (numbers-of (2 ^ s .p) (s .k) h) → after-numbers ≡ r .count ∷ r .at
+        → kept 0 after-hashes after-numbers ≡ key-buckets-of t key hashes numbers
+    key-buckets-written s h r same five long h-is hashes-are held numbers-are =
+        let both : Settings → ℕ → Numbered = λ u x. kept 0 (first-hashes (2 ^ u .p) x) (counted (numbers-of (2 ^ u .p) (u .k) x)) in
+        rw (hashes-are, numbers-are, counted-is r (numbers-of (2 ^ s .p) (s .k) h) held)
+        (ap (λ (x : ℕ). both (paper s) x) h-is ∙ ap (λ (u : Settings). both u (H key)) same ∙ key-buckets-0 five long)

@@ -1,0 +1,34 @@
+-- `flow_hash` meets its contract: the one number of the area is stored. Assumes nothing.
+use Rattle.card.proofs.AreaLaws.{one-stored}
+use Rattle.card.proofs.DoorLaws.{hash-2, hash-3, hash-0}
+use borrow.Author.Needs.{needs}
+use Rattle.card.proofs.flow_hash.Statement.{statement}
+use Rattle.card.proofs.flow_hash.Tie as tie
+
+returns : tie.Need-returns
+returns c =
+    let start = c .before .before .before in
+    hash-2 (start .args .key .now) (start .args .h .now) (c .if1 .taken)
+
+returns-2 : tie.Need-returns-2
+returns-2 c =
+    let start = c .before .before .before .before in
+    hash-3 (start .args .key .now) (start .args .h .now) (c .before .if1 .left) (c .if2 .taken)
+
+h-rows-requires : tie.Need-h-rows-requires
+h-rows-requires c κs = search needs
+
+slice-write-h : tie.Need-slice-write-h
+slice-write-h c = search needs
+
+same-length : tie.Need-same-length
+same-length c = search needs
+
+returns-3 : tie.Need-returns-3
+returns-3 c =
+    let start = c .before .before .before .before .before in
+    rw (one-stored (start .args .h .now) (c .h-rows .result) (c .before .before .if1 .left), c .h-rows .ensures) (hash-0 (start .args .key .now) (start .args .h .now) (c .before .before .if1 .left) (c .before .if2 .left))
+
+pub flow-hash-spec : {M : Type 1} → statement M
+flow-hash-spec =
+    tie.close (tie.spec returns returns-2 h-rows-requires slice-write-h same-length returns-3)

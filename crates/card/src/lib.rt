@@ -1,0 +1,174 @@
+// The doors: every call as a C function, for a driver and control software to link. Each asks nothing of its caller; the definitions of
+// its answer and of each lent area at exit are in specs/Doors.antt.
+use hash::Numbers;
+use settings::Checked;
+use settings::Settings;
+ghost use mathlib.Core.Path.{_≡_};
+ghost use mathlib.Core.Bool.{true};
+ghost use mathlib.Core.List.{_∷_};
+ghost use Prim.Native.Nat.{_^_, _≤_};
+ghost use lib.ListN.{length};
+ghost use Rattle.theory.specs.Settings.{allowed, card-of};
+ghost use Rattle.settings.specs.Checked.{paper};
+ghost use Rattle.card.specs.Doors.{Filled, settings-check-of, lengths-of, area-lengths-of, hash-table-of, hash-of, HashedLent, first-hashes, Numbered, key-buckets-of};
+
+// The settings' verdict: 0, or 1 when one is out of range.
+#[no_mangle]
+pub extern "C" fn flow_settings_check(
+    p: u64,
+    k: u64,
+    room: u64,
+    top: u64,
+    capacity: u64,
+    side_places: u64,
+) -> u32
+    ensures { λ r. ⌜ r ≡ settings-check-of (record { p = p; k = k; room = room; top = top; capacity = capacity; side-places = «side_places» }) ⌝ }
+{
+    let checked = Settings::new(p, k, room, top, capacity, side_places);
+    match checked {
+        Checked::Allowed(_) => 0,
+        Checked::Refused => 1,
+    }
+}
+
+// The lengths of the six areas: 1; 2 if `lengths` is not of 6 numbers.
+#[no_mangle]
+pub extern "C" fn flow_area_lengths(
+    p: u64,
+    k: u64,
+    room: u64,
+    top: u64,
+    capacity: u64,
+    side_places: u64,
+    lengths: &mut [u64],
+) -> u32
+    ensures { λ r. ⌜ _≡_ {A = Filled} (record { number = r; area = now (lengths .exit) })
+        (area-lengths-of (record { p = p; k = k; room = room; top = top; capacity = capacity; side-places = «side_places» }) (now (lengths .entry))) ⌝ }
+{
+    let checked = Settings::new(p, k, room, top, capacity, side_places);
+    let Checked::Allowed(s) = checked else {
+        return 1;
+    };
+    if lengths.len() != 6 {
+        return 2;
+    }
+    write_lengths(s, &mut lengths[..]);
+    0
+}
+
+// The lengths in the paper's order.
+fn write_lengths(s: Settings, lengths: &mut [u64])
+    requires { ⌜ (allowed (paper s) ≡ true) × (length (now lengths) ≡ 6) ⌝ }
+    ensures { λ _. ⌜ now (lengths .exit) ≡ lengths-of (card-of (paper s)) ⌝ }
+{
+    lengths[0] = s.ledger_length() as u64;
+    lengths[1] = s.true_length() as u64;
+    lengths[2] = s.clipped_length() as u64;
+    lengths[3] = s.buckets_length() as u64;
+    lengths[4] = s.side_length() as u64;
+    lengths[5] = s.work_length() as u64;
+}
+
+// The table that `flow_hash_lent` reads: 2 if `table` is not of 3,328 numbers.
+#[no_mangle]
+pub extern "C" fn flow_hash_table(table: &mut [u64]) -> u32
+    ensures { λ r. ⌜ _≡_ {A = Filled} (record { number = r; area = now (table .exit) }) (hash-table-of (now (table .entry))) ⌝ }
+{
+    if table.len() != 3328 {
+        return 2;
+    }
+    hash::fill_table(&mut table[..]);
+    0
+}
+
+// H of a key, with no table: 2 if `h` is not of 1 number; 3 if the key is not of 13 bytes.
+#[no_mangle]
+pub extern "C" fn flow_hash(key: &[u8], h: &mut [u64]) -> u32
+    ensures { λ r. ⌜ _≡_ {A = Filled} (record { number = r; area = now (h .exit) }) (hash-of (now (key .entry)) (now (h .entry))) ⌝ }
+{
+    if h.len() != 1 {
+        return 2;
+    }
+    if key.len() != Settings::KEY_WIDTH {
+        return 3;
+    }
+    h[0] = hash::h_rows(key);
+    0
+}
+
+// H of a key, with a lent table: 2 if the table is not of 3,328 numbers, or `h` not of 1; 3 if the key is not of 13 bytes.
+#[no_mangle]
+pub extern "C" fn flow_hash_lent(lent: &[u64], key: &[u8], h: &mut [u64]) -> u32
+    ensures { λ r. ⌜ HashedLent (now (lent .entry)) (now (key .entry)) (now (h .entry)) r (now (h .exit)) ⌝ }
+{
+    if lent.len() != 3328 {
+        return 2;
+    }
+    if h.len() != 1 {
+        return 2;
+    }
+    if key.len() != Settings::KEY_WIDTH {
+        return 3;
+    }
+    h[0] = hash::h_lent(lent, key);
+    0
+}
+
+// A key's hashes and bucket numbers: 1; 2 if `hashes` is not of 4 numbers, or `numbers` not of 5; 3 if the key is not of 13 bytes.
+#[no_mangle]
+pub extern "C" fn flow_key_buckets(
+    p: u64,
+    k: u64,
+    room: u64,
+    top: u64,
+    capacity: u64,
+    side_places: u64,
+    key: &[u8],
+    hashes: &mut [u16],
+    numbers: &mut [u16],
+) -> u32
+    ensures { λ r. ⌜ _≡_ {A = Numbered} (record { number = r; hashes = now (hashes .exit); numbers = now (numbers .exit) })
+        (key-buckets-of (record { p = p; k = k; room = room; top = top; capacity = capacity; side-places = «side_places» }) (now (key .entry)) (now (hashes .entry)) (now (numbers .entry))) ⌝ }
+{
+    let checked = Settings::new(p, k, room, top, capacity, side_places);
+    let Checked::Allowed(s) = checked else {
+        return 1;
+    };
+    if hashes.len() != 4 {
+        return 2;
+    }
+    if numbers.len() != 5 {
+        return 2;
+    }
+    if key.len() != Settings::KEY_WIDTH {
+        return 3;
+    }
+    let h = hash::h_rows(key);
+    write_hashes(h, s.p, &mut hashes[..]);
+    write_numbers(hash::numbers_of(h, s.p, s.k), &mut numbers[..]);
+    0
+}
+
+// Hash 0 to 3 of a key whose H is h, for 2^p buckets.
+fn write_hashes(h: u64, p: usize, hashes: &mut [u16])
+    requires { ⌜ (p ≤ 12) × (length (now hashes) ≡ 4) ⌝ }
+    ensures { λ _. ⌜ now (hashes .exit) ≡ first-hashes (2 ^ p) h ⌝ }
+{
+    hashes[0] = hash::hash_at(h, 0, p);
+    hashes[1] = hash::hash_at(h, 1, p);
+    hashes[2] = hash::hash_at(h, 2, p);
+    hashes[3] = hash::hash_at(h, 3, p);
+}
+
+// How many numbers, then these, then zeros.
+fn write_numbers(found: Numbers, numbers: &mut [u16])
+    requires { ⌜ (found .count ≤ 4) × (length (now numbers) ≡ 5) ⌝ }
+    ensures { λ _. ⌜ now (numbers .exit) ≡ found .count ∷ found .at ⌝ }
+{
+    let at = found.at;
+    numbers[0] = found.count as u16;
+    numbers[1] = at[0];
+    numbers[2] = at[1];
+    numbers[3] = at[2];
+    numbers[4] = at[3];
+}

@@ -1,0 +1,128 @@
+//! The doors as they stand. Each answers 0 or the number of a refusal, on every input; a refused call alters nothing.
+//! Settings stand in the order p, k, room, top, capacity, side places.
+
+// What the static library defines. Nothing compares these lines with the Rattle source: they are those of include/flow.h. A slice
+// passes as a pointer and its length.
+mod c {
+    extern "C" {
+        pub fn flow_settings_check(
+            p: u64,
+            k: u64,
+            room: u64,
+            top: u64,
+            capacity: u64,
+            side_places: u64,
+        ) -> u32;
+
+        pub fn flow_area_lengths(
+            p: u64,
+            k: u64,
+            room: u64,
+            top: u64,
+            capacity: u64,
+            side_places: u64,
+            lengths: *mut u64,
+            lengths_length: usize,
+        ) -> u32;
+
+        pub fn flow_hash_table(table: *mut u64, table_length: usize) -> u32;
+
+        pub fn flow_hash(key: *const u8, key_length: usize, h: *mut u64, h_length: usize) -> u32;
+
+        pub fn flow_hash_lent(
+            table: *const u64,
+            table_length: usize,
+            key: *const u8,
+            key_length: usize,
+            h: *mut u64,
+            h_length: usize,
+        ) -> u32;
+
+        pub fn flow_key_buckets(
+            p: u64,
+            k: u64,
+            room: u64,
+            top: u64,
+            capacity: u64,
+            side_places: u64,
+            key: *const u8,
+            key_length: usize,
+            hashes: *mut u16,
+            hashes_length: usize,
+            numbers: *mut u16,
+            numbers_length: usize,
+        ) -> u32;
+    }
+}
+
+// Safe, here and below: the doors require nothing of their arguments, and a slice lends its whole length for the call.
+
+/// 0, or 1 when a setting is out of range.
+pub fn settings_check(settings: [u64; 6]) -> u32 {
+    let [p, k, room, top, capacity, side_places] = settings;
+    unsafe { c::flow_settings_check(p, k, room, top, capacity, side_places) }
+}
+
+/// The lengths of ledger, true counts, clipped counts, buckets, side store and work; 1; 2 if `lengths` is not of 6 numbers.
+pub fn area_lengths(settings: [u64; 6], lengths: &mut [u64]) -> u32 {
+    let [p, k, room, top, capacity, side_places] = settings;
+    unsafe {
+        c::flow_area_lengths(
+            p,
+            k,
+            room,
+            top,
+            capacity,
+            side_places,
+            lengths.as_mut_ptr(),
+            lengths.len(),
+        )
+    }
+}
+
+/// The table that [`hash_lent`] reads; 2 if it is not of 3,328 numbers.
+pub fn hash_table(table: &mut [u64]) -> u32 {
+    unsafe { c::flow_hash_table(table.as_mut_ptr(), table.len()) }
+}
+
+/// H of a key in `h[0]`, with no table; 2 if `h` is not of 1 number; 3 if the key is not of 13 bytes.
+pub fn hash(key: &[u8], h: &mut [u64]) -> u32 {
+    unsafe { c::flow_hash(key.as_ptr(), key.len(), h.as_mut_ptr(), h.len()) }
+}
+
+/// H of a key in `h[0]`, with the table of [`hash_table`]; 2 if that is not of 3,328 numbers, or `h` not of 1; 3 if the key is not of 13
+/// bytes.
+pub fn hash_lent(table: &[u64], key: &[u8], h: &mut [u64]) -> u32 {
+    unsafe {
+        c::flow_hash_lent(
+            table.as_ptr(),
+            table.len(),
+            key.as_ptr(),
+            key.len(),
+            h.as_mut_ptr(),
+            h.len(),
+        )
+    }
+}
+
+/// Hash 0 to hash 3 of a key; how many bucket numbers it has, these, and zeros; 1; 2 if `hashes` is not of 4 numbers, or `numbers` not
+/// of 5; 3 if the key is not of 13 bytes.
+pub fn key_buckets(settings: [u64; 6], key: &[u8], hashes: &mut [u16], numbers: &mut [u16]) -> u32 {
+    let [p, k, room, top, capacity, side_places] = settings;
+    unsafe {
+        c::flow_key_buckets(
+            p,
+            k,
+            room,
+            top,
+            capacity,
+            side_places,
+            key.as_ptr(),
+            key.len(),
+            hashes.as_mut_ptr(),
+            hashes.len(),
+            numbers.as_mut_ptr(),
+            numbers.len(),
+        )
+    }
+}

@@ -1,0 +1,98 @@
+//! The numbers that a refused call answers.
+
+use std::fmt;
+
+/// Why a call was refused. Where several apply, the one with the lowest number is given.
+#[derive(Clone, Copy, Debug, PartialEq, Eq, PartialOrd, Ord, Hash)]
+pub enum Refusal {
+    /// 1: a setting is out of range.
+    Setting = 1,
+    /// 2: an area that the call is lent is not of its length.
+    AreaLength = 2,
+    /// 3: a key, or a buffer for a packet's key, is not of 13 bytes.
+    KeyLength = 3,
+    /// 4: the ledger's count is above the capacity, its keys do not rise, or a byte after its last record is not zero.
+    DamagedLedger = 4,
+    /// 5: a clipped count is above the top count, a mark is above the room and not 255, or the side count is above the side places.
+    DamagedLookup = 5,
+    /// 6: the key to add is held.
+    Held = 6,
+    /// 7: the key to change or to remove is not held.
+    NotHeld = 7,
+    /// 8: as many flows as the capacity allows are held.
+    Full = 8,
+    /// 9: more flows would belong to the side than there are side places.
+    SideFull = 9,
+    /// 10: the packet has under 20 bytes, is not of version 4, or has a header length under 20 or beyond the packet.
+    PacketHeader = 10,
+    /// 11: a packet of protocol 6 or 17 has under 4 bytes after its header.
+    PacketPorts = 11,
+    /// 12: the file is cut or overlong, its first count is not 6, or the target of a save is not of the file's length.
+    FileLength = 12,
+    /// 13: the file's keys do not rise.
+    FileOrder = 13,
+    /// 14: the program's input has an unknown letter, or ends within a call.
+    Input = 14,
+}
+
+impl Refusal {
+    /// Every refusal, in the order of the numbers.
+    pub const ALL: [Refusal; 14] = [
+        Refusal::Setting,
+        Refusal::AreaLength,
+        Refusal::KeyLength,
+        Refusal::DamagedLedger,
+        Refusal::DamagedLookup,
+        Refusal::Held,
+        Refusal::NotHeld,
+        Refusal::Full,
+        Refusal::SideFull,
+        Refusal::PacketHeader,
+        Refusal::PacketPorts,
+        Refusal::FileLength,
+        Refusal::FileOrder,
+        Refusal::Input,
+    ];
+
+    /// The number that a door answers, 1 to 14.
+    pub fn number(self) -> u32 {
+        self as u32
+    }
+
+    /// The refusal of a number, if it is one.
+    pub fn from_number(number: u32) -> Option<Refusal> {
+        Refusal::ALL.into_iter().find(|r| r.number() == number)
+    }
+
+    /// What the refusal means, in one line.
+    pub fn meaning(self) -> &'static str {
+        match self {
+            Refusal::Setting => "a setting is out of range",
+            Refusal::AreaLength => "a lent area is not of its length",
+            Refusal::KeyLength => "a key is not of 13 bytes",
+            Refusal::DamagedLedger => "the ledger's count, key order or unused bytes are wrong",
+            Refusal::DamagedLookup => "a clipped count, a mark or the side count is too high",
+            Refusal::Held => "the key to add is held",
+            Refusal::NotHeld => "the key to change or to remove is not held",
+            Refusal::Full => "as many flows as the capacity allows are held",
+            Refusal::SideFull => "more flows would belong to the side than it has places",
+            Refusal::PacketHeader => {
+                "the packet's header is too short, too long or not of version 4"
+            }
+            Refusal::PacketPorts => "the packet ends before its ports",
+            Refusal::FileLength => {
+                "the file is cut or overlong, or its target has the wrong length"
+            }
+            Refusal::FileOrder => "the file's keys do not rise",
+            Refusal::Input => "the program's input has an unknown letter or ends within a call",
+        }
+    }
+}
+
+impl fmt::Display for Refusal {
+    fn fmt(&self, f: &mut fmt::Formatter<'_>) -> fmt::Result {
+        write!(f, "refusal {}: {}", self.number(), self.meaning())
+    }
+}
+
+impl std::error::Error for Refusal {}

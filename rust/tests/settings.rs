@@ -1,0 +1,117 @@
+//! The settings' verdicts and the areas' lengths against the model, on every combination of values at and around the limits.
+
+mod model;
+
+use flow::{doors, Refusal, Settings};
+use model::settings::{Settings as Model, LIMITS};
+
+// One below the least where there is one, the least, the next, one below the most, the most, one above, the least in numbers that agree
+// with an allowed one in their low 32 bits, and the largest number.
+fn around(low: u64, high: u64) -> Vec<u64> {
+    let mut values = vec![
+        low,
+        low + 1,
+        high - 1,
+        high,
+        high + 1,
+        (1 << 32) + low,
+        u64::MAX,
+    ];
+    if low > 0 {
+        values.push(low - 1);
+    }
+    values
+}
+
+// Calls f with every combination.
+fn each_combination(mut f: impl FnMut([u64; 6])) {
+    let values: Vec<Vec<u64>> = LIMITS
+        .iter()
+        .map(|&(low, high)| around(low, high))
+        .collect();
+    for &p in &values[0] {
+        for &k in &values[1] {
+            for &room in &values[2] {
+                for &top in &values[3] {
+                    for &capacity in &values[4] {
+                        for &side_places in &values[5] {
+                            f([p, k, room, top, capacity, side_places]);
+                        }
+                    }
+                }
+            }
+        }
+    }
+}
+
+#[test]
+fn verdicts_and_lengths_at_every_limit() {
+    const BEFORE: [u64; 6] = [9, 8, 7, 6, 5, 4];
+    let mut accepted = 0;
+    let mut refused = 0;
+    each_combination(|numbers| {
+        let model = Model::of(numbers);
+        let [p, k, room, top, capacity, side_places] = numbers;
+        let made = Settings::new(p, k, room, top, capacity, side_places);
+        let mut lengths = BEFORE;
+        if model.allowed() {
+            accepted += 1;
+            assert_eq!(doors::settings_check(numbers), 0, "{numbers:?}");
+            assert_eq!(doors::area_lengths(numbers, &mut lengths), 0, "{numbers:?}");
+            assert_eq!(lengths, model.area_lengths(), "{numbers:?}");
+            let settings = made.expect("allowed settings");
+            assert_eq!(settings.numbers(), numbers);
+            let named = settings.area_lengths();
+            assert_eq!(
+                [
+                    named.ledger,
+                    named.true_counts,
+                    named.clipped_counts,
+                    named.buckets,
+                    named.side_store,
+                    named.work
+                ],
+                model.area_lengths()
+            );
+        } else {
+            refused += 1;
+            assert_eq!(doors::settings_check(numbers), 1, "{numbers:?}");
+            assert_eq!(doors::area_lengths(numbers, &mut lengths), 1, "{numbers:?}");
+            assert_eq!(lengths, BEFORE, "{numbers:?}");
+            assert_eq!(made, Err(Refusal::Setting));
+        }
+    });
+    println!("{accepted} accepted, {refused} refused");
+    // four values of each setting are in range
+    assert_eq!(accepted, 4u32.pow(6));
+    assert!(refused > 0);
+}
+
+#[test]
+fn lengths_wrong() {
+    let allowed = [6, 3, 2, 4, 128, 8];
+    let not_allowed = [6, 3, 2, 4, 128, 65];
+    for n in (0..=12).filter(|&n| n != 6) {
+        let before: Vec<u64> = (100..100 + n).collect();
+        let mut lengths = before.clone();
+        assert_eq!(doors::area_lengths(allowed, &mut lengths), 2, "{n} numbers");
+        assert_eq!(lengths, before);
+        // the lowest refusal is given
+        assert_eq!(doors::area_lengths(not_allowed, &mut lengths), 1);
+        assert_eq!(lengths, before);
+    }
+}
+
+#[test]
+fn refusals_by_number() {
+    for (i, refusal) in Refusal::ALL.into_iter().enumerate() {
+        assert_eq!(refusal.number() as usize, i + 1);
+        assert_eq!(Refusal::from_number(refusal.number()), Some(refusal));
+        assert!(refusal
+            .to_string()
+            .starts_with(&format!("refusal {}: ", i + 1)));
+    }
+    for number in [0, 15, 100, u32::MAX] {
+        assert_eq!(Refusal::from_number(number), None);
+    }
+}
