@@ -1,0 +1,8 @@
+pub mod KeyLaws
+pub mod PartLaws
+pub mod NumberLaws
+pub mod RecordLaws
+pub mod LedgerLaws
+pub mod SpotLaws
+pub mod ShiftLaws
+pub mod EditLaws

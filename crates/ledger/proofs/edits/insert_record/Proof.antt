@@ -1,0 +1,132 @@
+-- `ledger::edits::insert_record` meets its contract: the gap opened, filled and counted is the ledger area of the new list, the law `inserted`. Assumes nothing.
+use borrow.Author.Needs.{needs}
+use mathlib.Core.Path.{sym, _∙_}
+use Prim.Native.Nat.{_+_, _-_, _*_, _≤_}
+use native.Mathlib.Omega.{arith}
+use lib.ListN.{length}
+use Rattle.theory.specs.Settings.{card-of}
+use Rattle.theory.proofs.SettingsLaws.{sound}
+use Rattle.settings.specs.Checked.{paper}
+use Rattle.ledger.proofs.PartLaws.{two-kept}
+use Rattle.ledger.proofs.LedgerLaws.{has-count}
+use Rattle.ledger.proofs.EditLaws.{bytes-of, listed, place-within, one-more-within, inserted}
+use Rattle.ledger.proofs.edits.insert_record.Statement.{statement}
+use Rattle.ledger.proofs.edits.insert_record.Tie as tie
+
+-- the place is no later than the records' end, after which a record has room
+room : (c : tie.After-record-size) → (c .record-size .result * c .before .before .before .before .before .args .at ≤ c .record-size .result
+    * c .before .count-at .result) × (2 + c .record-size .result * c .before .count-at .result + c .record-size .result ≤ length
+    (c .before .before .before .before .before .args .ledger .now))
+room c =
+    let start = c .before .before .before .before .before in
+    let ledger = start .args .ledger .now in
+    let card = card-of (paper (start .args .s)) in (
+      place-within card ledger (start .pre .0 .size) (start .pre .0 .rules) (c .record-size .result) (c .before .count-at .result) (c .record-size .ensures)
+          (c .before .count-at .ensures .0) (start .args .at) (start .pre .2),
+      one-more-within card ledger (start .pre .0 .size) (start .pre .0 .rules)
+          (c .record-size .result) (c .before .count-at .result) (c .record-size .ensures) (c .before .count-at .ensures .0) (start .pre .1),
+    )
+
+count-at-requires : tie.Need-count-at-requires
+count-at-requires c κs =
+    let start = c .before .before .before in
+    has-count (card-of (paper (start .args .s))) (start .args .ledger .now) (start .pre .0 .size)
+
+record-size-requires : tie.Need-record-size-requires
+record-size-requires c κs = search needs
+
+mul-place : tie.Need-mul-place
+mul-place c = omega (arith, room c)
+
+add-place : tie.Need-add-place
+add-place c = omega (arith, room c)
+
+mul-end : tie.Need-mul-end
+mul-end c = omega (arith, room c)
+
+add-end : tie.Need-add-end
+add-end c = omega (arith, room c)
+
+add-next : tie.Need-add-next
+add-next c = omega (arith, room c)
+
+open-gap-requires : tie.Need-open-gap-requires
+open-gap-requires c κs =
+    let r = room (c .before) in
+    (omega arith, r .1)
+
+sub-copy : tie.Need-sub-copy
+sub-copy c = search needs
+
+part-copy-start : tie.Need-part-copy-start
+part-copy-start c = search needs
+
+part-copy-end : tie.Need-part-copy-end
+part-copy-end c = omega (arith, room (c .before .before .before .before), c .before .before .open-gap .kept .0)
+
+copy-requires : tie.Need-copy-requires
+copy-requires c κs = search needs
+
+add-write-number : tie.Need-add-write-number
+add-write-number c = search needs
+
+write-number-requires : tie.Need-write-number-requires
+write-number-requires c κs =
+    let start = c .before .before .before .before .before .before .before .before .before .before .before .before .before .before in
+    let card = card-of (paper (start .args .s)) in
+    let record-size = c .before .before .before .before .before .before .before .before .before .record-size in
+    let count-at = c .before .before .before .before .before .before .before .before .before .before .count-at in
+    let open-gap = c .before .before .before .before .before .before .before .open-gap in
+    let copy = c .before .before .before .copy in (
+      two-kept (2 + record-size .result * start .args .at) (2 + record-size .result * start .args .at + record-size .result
+          - (2 + record-size .result * start .args .at)) (open-gap .last .0) (copy .last .0) (omega arith)
+          (omega (arith, room (c .before .before .before .before .before .before .before .before .before), open-gap .kept .0)),
+      omega (
+        arith,
+        count-at .ensures .0,
+        listed card (start .args .ledger .now) (start .pre .0 .size) (start .pre .0 .rules),
+        sound (paper (start .args .s))
+            (start .pre .0 .permitted) .capacity-small,
+      ),
+    )
+
+same-length : tie.Need-same-length
+same-length c = search needs
+
+returns : tie.Need-returns
+returns c =
+    let start = c .before .before .before .before .before .before .before .before .before .before .before .before .before .before .before .before .before in
+    let ledger = start .args .ledger .now in
+    let card = card-of (paper (start .args .s)) in
+    let record-size = c .before .before .before .before .before .before .before .before .before .before .before .before .record-size in
+    let count-at = c .before .before .before .before .before .before .before .before .before .before .before .before .before .count-at in
+    let open-gap = c .before .before .before .before .before .before .before .before .before .before .open-gap in
+    let copy = c .before .before .before .before .before .before .copy in
+    let write-number = c .before .before .write-number in
+    let slice-known = c .before .before .before .before .before .before .before .before .before .before .before .before .before .before .before .before .slice-known
+    in
+    λ x q. write-number .ensures
+    ∙ inserted card ledger (start .pre .0 .size) (start .pre .0 .rules) (bytes-of ledger (slice-known .given)) (record-size .result) (record-size .ensures)
+    (start .args .at) (count-at .result) (count-at .ensures .0) (start .pre .2) (start .pre .1) (open-gap .last .0) (copy .last .0) (open-gap .ensures) x (q
+    ∙ sym (copy .ensures))
+
+pub insert-record-spec : {M : Type 1} → statement M
+insert-record-spec =
+    tie.close
+    (tie.spec
+    count-at-requires
+    record-size-requires
+    mul-place
+    add-place
+    mul-end
+    add-end
+    add-next
+    open-gap-requires
+    sub-copy
+    part-copy-start
+    part-copy-end
+    copy-requires
+    add-write-number
+    write-number-requires
+    same-length
+    returns)

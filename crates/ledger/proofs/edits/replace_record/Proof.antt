@@ -1,0 +1,80 @@
+-- `ledger::edits::replace_record` meets its contract: the record's bytes put in place is the ledger area of the new list, the law `replaced`. Assumes nothing.
+use borrow.Author.Needs.{needs}
+use mathlib.Core.Path.{refl, sym, _∙_}
+use Prim.Native.Nat.{_+_, _*_, _≤_}
+use native.Mathlib.Omega.{arith}
+use lib.ListN.{length}
+use Rattle.theory.specs.Records.{count-of}
+use Rattle.theory.specs.Settings.{card-of}
+use Rattle.settings.specs.Checked.{paper}
+use Rattle.ledger.proofs.EditLaws.{bytes-of, record-within, ends-within, replaced}
+use Rattle.ledger.proofs.edits.replace_record.Statement.{statement}
+use Rattle.ledger.proofs.edits.replace_record.Tie as tie
+
+record-size-requires : tie.Need-record-size-requires
+record-size-requires c κs = search needs
+
+-- the record lies in the area
+room : (c : tie.After-record-size) → 2 + c .record-size .result * c .before .before .before .args .at + c .record-size .result ≤ length
+    (c .before .before .before .args .ledger .now)
+room c =
+    let start = c .before .before .before in
+    let ledger = start .args .ledger .now in
+    let card = card-of (paper (start .args .s)) in
+    omega (
+      arith,
+      record-within card ledger (start .pre .0 .size) (start .pre .0 .rules) (c .record-size .result) (count-of ledger) (c .record-size .ensures) refl
+          (start .args .at) (start .pre .1),
+      ends-within card ledger (start .pre .0 .size) (start .pre .0 .rules) (c .record-size .result) (count-of ledger)
+          (c .record-size .ensures) refl,
+    )
+
+mul-start : tie.Need-mul-start
+mul-start c = omega (arith, room c)
+
+add-start : tie.Need-add-start
+add-start c = omega (arith, room c)
+
+add-stop : tie.Need-add-stop
+add-stop c = omega (arith, room c)
+
+sub-copy : tie.Need-sub-copy
+sub-copy c = search needs
+
+part-copy-start : tie.Need-part-copy-start
+part-copy-start c = search needs
+
+part-copy-end : tie.Need-part-copy-end
+part-copy-end c = room c
+
+copy-requires : tie.Need-copy-requires
+copy-requires c κs = search needs
+
+same-length : tie.Need-same-length
+same-length c = search needs
+
+returns : tie.Need-returns
+returns c =
+    let start = c .before .before .before .before .before .before .before in
+    let ledger = start .args .ledger .now in
+    let card = card-of (paper (start .args .s)) in
+    let record-size = c .before .before .before .before .record-size in
+    let copy = c .before .before .copy in
+    let slice-known = c .before .before .before .before .before .before .slice-known in
+    λ x q. replaced card ledger (start .pre .0 .size) (start .pre .0 .rules) (bytes-of ledger (slice-known .given)) (record-size .result) (record-size .ensures)
+    (start .args .at) (start .pre .1) (copy .last .0) x (q ∙ sym (copy .ensures))
+
+pub replace-record-spec : {M : Type 1} → statement M
+replace-record-spec =
+    tie.close
+    (tie.spec
+    record-size-requires
+    mul-start
+    add-start
+    add-stop
+    sub-copy
+    part-copy-start
+    part-copy-end
+    copy-requires
+    same-length
+    returns)

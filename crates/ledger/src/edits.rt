@@ -1,0 +1,88 @@
+// A record put into a ledger area, taken out and replaced, at a place: each writes what the ledger area of the new list is.
+use super::bytes::copy;
+use super::bytes::count_at;
+use super::bytes::write_number;
+use super::bytes::zero_fill;
+use settings::Settings;
+ghost use mathlib.Core.Path.{_≡_};
+ghost use mathlib.Core.List.{_++_};
+ghost use Prim.Native.Nat.{_+_, _-_, _<_, _≤_};
+ghost use lib.ListN.{length, take, drop};
+ghost use Rattle.theory.specs.Records.{Record, record-bytes};
+ghost use Rattle.theory.specs.Settings.{card-of, record-size};
+ghost use Rattle.theory.specs.Layout.{counted-places};
+ghost use Rattle.theory.specs.Calls.{ledger-records};
+ghost use Rattle.settings.specs.Checked.{paper};
+ghost use Rattle.ledger.specs.Edits.{ValidLedger, inserted-at, removed-at, replaced-at};
+
+// The bytes between two places move up by a size, from the last down.
+fn open_gap(area: &mut [u8], size: usize, from: usize, to: usize)
+    requires { ⌜ (from ≤ to) × (to + size ≤ length (now area)) ⌝ }
+    ensures { λ _. ⌜ now (area .exit) ≡ take (from + size) (now (area .entry)) ++ (take (to - from) (drop from (now (area .entry))) ++ drop (to + size) (now (area .entry))) ⌝ }
+{
+    let mut j = to;
+    while from < j {
+        let i = j - 1;
+        let up = i + size;
+        area[up] = area[i];
+        j = i;
+    }
+}
+
+// The bytes up to a place move down by a size onto those from another place on.
+fn close_gap(area: &mut [u8], size: usize, from: usize, to: usize)
+    requires { ⌜ (from + size ≤ to) × (to ≤ length (now area)) ⌝ }
+    ensures { λ _. ⌜ now (area .exit) ≡ take from (now (area .entry)) ++ (take (to - size - from) (drop (from + size) (now (area .entry))) ++ drop (to - size) (now (area .entry))) ⌝ }
+{
+    let last = to - size;
+    let mut j = from;
+    while j < last {
+        let up = j + size;
+        area[j] = area[up];
+        j += 1;
+    }
+}
+
+// "the record is put in at its key's place"
+pub fn insert_record(s: Settings, ledger: &mut [u8], at: usize, record: &[u8])
+    requires { ⌜ ValidLedger s (now ledger) × (length (ledger-records (card-of (paper s)) (now ledger)) < card-of (paper s) .capacity)
+        × (at ≤ length (ledger-records (card-of (paper s)) (now ledger))) × (length (now «record») ≡ record-size (card-of (paper s))) ⌝ }
+    ensures { λ _. ⌜ ((x : Record) → record-bytes x ≡ now («record» .entry)
+        → now (ledger .exit) ≡ counted-places (card-of (paper s)) (card-of (paper s) .capacity) (inserted-at at x (ledger-records (card-of (paper s)) (now (ledger .entry))))) ⌝ }
+{
+    let n = count_at(&ledger[..]);
+    let size = s.record_size();
+    let place = 2 + size * at;
+    let end = 2 + size * n;
+    let next = place + size;
+    open_gap(&mut ledger[..], size, place, end);
+    copy(&mut ledger[place..next], record);
+    write_number(&mut ledger[..], n + 1);
+}
+
+// "the record of that key is taken out"
+pub fn remove_record(s: Settings, ledger: &mut [u8], at: usize)
+    requires { ⌜ ValidLedger s (now ledger) × (at < length (ledger-records (card-of (paper s)) (now ledger))) ⌝ }
+    ensures { λ _. ⌜ now (ledger .exit) ≡ counted-places (card-of (paper s)) (card-of (paper s) .capacity) (removed-at at (ledger-records (card-of (paper s)) (now (ledger .entry)))) ⌝ }
+{
+    let n = count_at(&ledger[..]);
+    let size = s.record_size();
+    let from = 2 + size * at;
+    let to = 2 + size * n;
+    let last = to - size;
+    close_gap(&mut ledger[..], size, from, to);
+    zero_fill(&mut ledger[last..to]);
+    write_number(&mut ledger[..], n - 1);
+}
+
+// "the record of that key gets the new class"
+pub fn replace_record(s: Settings, ledger: &mut [u8], at: usize, record: &[u8])
+    requires { ⌜ ValidLedger s (now ledger) × (at < length (ledger-records (card-of (paper s)) (now ledger))) × (length (now «record») ≡ record-size (card-of (paper s))) ⌝ }
+    ensures { λ _. ⌜ ((x : Record) → record-bytes x ≡ now («record» .entry)
+        → now (ledger .exit) ≡ counted-places (card-of (paper s)) (card-of (paper s) .capacity) (replaced-at at x (ledger-records (card-of (paper s)) (now (ledger .entry))))) ⌝ }
+{
+    let size = s.record_size();
+    let start = 2 + size * at;
+    let stop = start + size;
+    copy(&mut ledger[start..stop], record);
+}

@@ -1,0 +1,177 @@
+-- Laws of what both searches judge first, and of what they then give: each is `perform`'s. Assumes nothing.
+use mathlib.Core.Path.{_≡_, sym, ap, _∙_}
+use mathlib.Core.Bool.{Bool, true, false, cond, not, _&&_, and-true}
+use mathlib.Core.List.{List, []}
+use Prim.Native.Nat.{ℕ, _*_}
+use native.Mathlib.Omega.{arith}
+use lib.Dec.{eqb}
+use borrow.Author.Tests.{eqb-true, eq-eqb, ne-eqb}
+use lib.ListN.{length}
+use Rattle.theory.specs.Lists.{all}
+use Rattle.theory.specs.Settings as plain
+use Rattle.theory.specs.Settings.{allowed, card-of, clipped-length, buckets-length, side-length}
+use Rattle.theory.specs.Lookup.{Answer, bare, search-areas, fetch-areas}
+use Rattle.theory.specs.Ledger.{search, fetch, answered, handed, key-wrong}
+use Rattle.theory.specs.Calls.{call, lookup-lengths, lent-lengths, perform}
+use Rattle.theory.proofs.ListLaws.{by-test, all-each}
+use Rattle.hash.specs.Table.{TableRight}
+use Rattle.settings.specs.declared.Settings.{Settings}
+use Rattle.settings.specs.Checked.{paper, code}
+use Rattle.lookup.specs.declared.judging.Judged.the-variants.{Ready, Refused}
+use Rattle.lookup.specs.Places.{Lent}
+use Rattle.lookup.specs.Answers.{lookup-areas, judged-of, judged-lent, LentAnswer}
+
+module _ (t : plain.Settings) (clipped buckets side key : List ℕ) where
+  pub judged-1 : allowed t ≡ false → Refused 1 ≡ judged-of t clipped buckets side key
+  unfolding judged-of
+  judged-1 e = rw e
+
+  module _ (ok : allowed t ≡ true) (c : Settings) (same : paper c ≡ t) (x y z : ℕ)
+      (ex : x ≡ clipped-length (card-of (paper c))) (ey : y ≡ buckets-length (card-of (paper c))) (ez : z ≡ side-length (card-of (paper c))) where
+    abbrev lengths : Bool
+    lengths = eqb (length clipped) x && (eqb (length buckets) y && eqb (length side) z)
+
+    lengths-are : all (λ x. x) (lookup-lengths (card-of t) (lookup-areas clipped buckets side)) ≡ lengths
+    unfolding lookup-lengths
+    lengths-are = rw (and-true, ex, ey, ez, same)
+
+    pub judged-2 : lengths ≡ false → Refused 2 ≡ judged-of t clipped buckets side key
+    unfolding judged-of
+    judged-2 e = rw (ok, lengths-are, e)
+
+    module _ (right : lengths ≡ true) (w : ℕ) (wide : w ≡ card-of (paper c) .width) where
+      pub judged-3 : (length key ≡ w → ⊥) → Refused 3 ≡ judged-of t clipped buckets side key
+      unfolding judged-of
+      judged-3 n = rw (ok, lengths-are, right, ne-eqb (length key) (card-of t .width) (λ e. n (e ∙ ap (λ (u : plain.Settings). card-of u .width) (sym same) ∙ sym wide)))
+
+      pub judged-ready : length key ≡ w → Ready c ≡ judged-of t clipped buckets side key
+      unfolding judged-of
+      judged-ready e =
+          rw (ok, lengths-are, right, eq-eqb (length key) (card-of t .width) (e ∙ wide ∙ ap (λ (u : plain.Settings). card-of u .width) same))
+          (ap (λ (u : plain.Settings). Ready (code u)) same)
+
+-- ---- with a lent table
+module _ (table : List ℕ) (t : plain.Settings) (clipped buckets side key : List ℕ) where
+  pub lent-1 : allowed t ≡ false → Refused 1 ≡ judged-lent table t clipped buckets side key
+  unfolding judged-lent
+  lent-1 e = rw e
+
+  module _ (ok : allowed t ≡ true) (c : Settings) (same : paper c ≡ t) (w : ℕ) (wide : w ≡ card-of (paper c) .width) where
+    is-width : w ≡ card-of t .width
+    is-width = wide ∙ ap (λ (u : plain.Settings). card-of u .width) same
+
+    pub lent-2 : (length table ≡ 256 * w → ⊥) → Refused 2 ≡ judged-lent table t clipped buckets side key
+    unfolding judged-lent
+    lent-2 n = rw (ok, ne-eqb (length table) (256 * card-of t .width) (λ e. n (e ∙ ap (λ (x : ℕ). 256 * x) (sym is-width))))
+
+    pub lent-on : length table ≡ 256 * w → judged-of (paper c) clipped buckets side key ≡ judged-lent table t clipped buckets side key
+    unfolding judged-lent
+    lent-on e = rw (ok, eq-eqb (length table) (256 * card-of t .width) (e ∙ ap (λ (x : ℕ). 256 * x) is-width), same)
+
+-- ---- what a judgement says
+module _ (t : plain.Settings) (clipped buckets side key : List ℕ) where
+  abbrev lengths-right : Bool
+  lengths-right = all (λ x. x) (lookup-lengths (card-of t) (lookup-areas clipped buckets side))
+
+  -- 1, 2, 3, or x
+  abbrev pub refused-or : {X : Type 0} → (ℕ → X) → X → X
+  refused-or n x = cond (not (allowed t)) (n 1) (cond (not lengths-right) (n 2) (cond (key-wrong (card-of t) key) (n 3) x))
+
+  pub refused-is : {X : Type 0} (f : ℕ → X) (x : X) (n : ℕ) → judged-of t clipped buckets side key ≡ Refused n → refused-or f x ≡ f n
+  unfolding judged-of key-wrong
+  refused-is f x n e =
+      by-test (allowed t)
+      (λ a. by-test lengths-right
+      (λ l. by-test (eqb (length key) (card-of t .width)) (λ w. let e′ = rw (a, l, w) at e in let z : _≡_ {A = ℕ} 0 1 = cc in absurd (omega arith))
+      (λ w. let e′ = rw (a, l, w) at e in let q : 3 ≡ n = cc in rw (a, l, w, q)))
+      (λ l. let e′ = rw (a, l) at e in let q : 2 ≡ n = cc in rw (a, l, q)))
+      (λ a. let e′ = rw a at e in let q : 1 ≡ n = cc in rw (a, q))
+
+  -- the settings are those of the numbers, the areas have their lengths, the key its width
+  pub record Fine (c : Settings) : Type 0 where
+    pub same : paper c ≡ t
+    pub lent : Lent (paper c) clipped buckets side
+    pub wide : length key ≡ card-of (paper c) .width
+
+  pub fine : (c : Settings) → judged-of t clipped buckets side key ≡ Ready c → Fine c
+  unfolding judged-of key-wrong lookup-lengths
+  fine c e =
+      by-test (allowed t)
+      (λ a. by-test lengths-right
+      (λ l. by-test (eqb (length key) (card-of t .width))
+      (λ w. let e′ = rw (a, l, w) at e in
+      let q : c ≡ code t = cc in
+      let s : paper c ≡ t = ap paper q in
+      let h = all-each (λ x. x) (lookup-lengths (card-of t) (lookup-areas clipped buckets side)) l in
+      record {
+        same = s;
+        lent = rw s (record { ok = a; clipped-size = eqb-true _ _ (h .0); buckets-size = eqb-true _ _ (h .1 .0); side-size = eqb-true _ _ (h .1 .1 .0) });
+        wide = rw s (eqb-true (length key) (card-of t .width) w);
+      })
+      (λ w. let e′ = rw (a, l, w) at e in let z : _≡_ {A = ℕ} 0 1 = cc in absurd (omega arith)))
+      (λ l. let e′ = rw (a, l) at e in let z : _≡_ {A = ℕ} 0 1 = cc in absurd (omega arith)))
+      (λ a. let e′ = rw a at e in let z : _≡_ {A = ℕ} 0 1 = cc in absurd (omega arith))
+
+  -- and no refusal applies
+  pub passes : (c : Settings) → judged-of t clipped buckets side key ≡ Ready c → {X : Type 0} (f : ℕ → X) (x : X) → refused-or f x ≡ x
+  unfolding judged-of key-wrong
+  passes c e f x =
+      by-test (allowed t)
+      (λ a. by-test lengths-right
+      (λ l. by-test (eqb (length key) (card-of t .width)) (λ w. rw (a, l, w))
+      (λ w. let e′ = rw (a, l, w) at e in let z : _≡_ {A = ℕ} 0 1 = cc in absurd (omega arith)))
+      (λ l. let e′ = rw (a, l) at e in let z : _≡_ {A = ℕ} 0 1 = cc in absurd (omega arith)))
+      (λ a. let e′ = rw a at e in let z : _≡_ {A = ℕ} 0 1 = cc in absurd (omega arith))
+
+  -- ---- a search is `perform`'s, as soon as its answer is the refusal or what the areas give
+  pub search-performs : (x : Answer) → refused-or bare (search-areas (card-of t) clipped buckets side key) ≡ x
+      → record { reply = answered x; state = lookup-areas clipped buckets side } ≡ perform t 0 (search key) (lookup-areas clipped buckets side)
+  unfolding perform call lent-lengths
+  search-performs x e =
+      rw (← e) (by-test (allowed t) (λ a. rw a (by-test lengths-right (λ l. rw l) (λ l. rw l))) (λ a. rw a))
+
+  pub fetch-performs : (x : List ℕ) → refused-or (λ n. []) (fetch-areas (card-of t) clipped buckets side key) ≡ x
+      → record { reply = handed x; state = lookup-areas clipped buckets side } ≡ perform t 0 (fetch key) (lookup-areas clipped buckets side)
+  unfolding perform call lent-lengths
+  fetch-performs x e =
+      rw (← e) (by-test (allowed t) (λ a. rw a (by-test lengths-right (λ l. rw l) (λ l. rw l))) (λ a. rw a))
+
+-- ---- the same with a lent table
+module _ (table : List ℕ) (t : plain.Settings) (clipped buckets side key : List ℕ) where
+  abbrev long : ℕ
+  long = 256 * card-of t .width
+
+  lent-judged : length table ≡ long → judged-lent table t clipped buckets side key ≡ judged-of t clipped buckets side key
+  unfolding judged-lent judged-of
+  lent-judged l = by-test (allowed t) (λ a. rw (a, eq-eqb (length table) long l)) (λ a. rw a)
+
+  pub lent-refused : (n : ℕ) → judged-lent table t clipped buckets side key ≡ Refused n → LentAnswer table t clipped buckets side key (bare n)
+  unfolding judged-lent
+  lent-refused n e =
+      record {
+        other-length = λ o.
+            by-test (allowed t)
+            (λ a. let e′ = rw (a, ne-eqb (length table) long o) at e in let q : 2 ≡ n = cc in rw (a, q))
+            (λ a. let e′ = rw a at e in let q : 1 ≡ n = cc in rw (a, q));
+        right-table = λ l right.
+            search-performs t clipped buckets side key (bare n)
+            (refused-is t clipped buckets side key bare (search-areas (card-of t) clipped buckets side key) n (sym (lent-judged l) ∙ e));
+      }
+
+  module _ (c : Settings) (e : judged-lent table t clipped buckets side key ≡ Ready c) where
+    pub lent-ready : (length table ≡ long) × (judged-of t clipped buckets side key ≡ Ready c)
+    unfolding judged-lent
+    lent-ready =
+        by-test (allowed t)
+        (λ a. by-test (eqb (length table) long) (λ l. (eqb-true (length table) long l, rw (a, l) at e))
+        (λ l. let e′ = rw (a, l) at e in let z : _≡_ {A = ℕ} 0 1 = cc in absurd (omega arith)))
+        (λ a. let e′ = rw a at e in let z : _≡_ {A = ℕ} 0 1 = cc in absurd (omega arith))
+
+    pub lent-answers : (x : Answer) → (TableRight (card-of t .width) table → x ≡ search-areas (card-of t) clipped buckets side key) → LentAnswer table t clipped buckets side key x
+    lent-answers x f =
+        record {
+          other-length = λ o. absurd (o (lent-ready .0));
+          right-table = λ l right.
+              search-performs t clipped buckets side key x
+              (passes t clipped buckets side key c (lent-ready .1) bare (search-areas (card-of t) clipped buckets side key) ∙ sym (f right));
+        }

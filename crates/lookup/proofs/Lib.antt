@@ -1,0 +1,6 @@
+pub mod CounterLaws
+pub mod ScanLaws
+pub mod PlaceLaws
+pub mod JudgeLaws
+pub mod FetchLaws
+pub mod TallyLaws

@@ -1,0 +1,40 @@
+-- `lookup::fetching::record_in_side` meets its contract: a part of what follows the count lies in the side store. Assumes nothing.
+use mathlib.Core.Path.{refl, subst}
+use mathlib.Core.List.{List}
+use Prim.Native.Nat.{ℕ, _-_}
+use native.Mathlib.Omega.{arith}
+use lib.ListN.{length}
+use Rattle.theory.specs.Settings.{card-of}
+use Rattle.settings.specs.Checked.{paper}
+use Rattle.settings.proofs.Laws.{bounds, width-is}
+use Rattle.lookup.specs.Parts.{InPart}
+use Rattle.lookup.proofs.PlaceLaws.{side-room, to-end}
+use Rattle.lookup.proofs.FetchLaws.{in-part}
+use borrow.Author.Needs.{needs}
+use Rattle.lookup.proofs.fetching.record_in_side.Statement.{statement}
+use Rattle.lookup.proofs.fetching.record_in_side.Tie as tie
+
+sub-record-of : tie.Need-sub-record-of
+sub-record-of c = let b = bounds (paper (c .before .before .args .s)) (c .before .before .pre .0) in omega (arith, c .before .before .pre .1)
+
+part-record-of-start : tie.Need-part-record-of-start
+part-record-of-start c = let b = bounds (paper (c .before .before .args .s)) (c .before .before .pre .0) in omega (arith, c .before .before .pre .1)
+
+part-record-of-end : tie.Need-part-record-of-end
+part-record-of-end c = search needs
+
+record-of-requires : tie.Need-record-of-requires
+record-of-requires c κs = (
+  side-room (paper (c .before .before .before .args .s)) (c .before .before .before .pre .0) (length (c .before .before .before .args .key .now)) (c .before .before .before .args .n) (c .before .before .before .pre .2) (c .before .before .before .args .side .now) (c .before .before .before .pre .1) (c .before .before .before .pre .3),
+  omega (arith, c .before .before .before .pre .2, width-is (paper (c .before .before .before .args .s))),
+)
+
+returns : tie.Need-returns
+returns c =
+    subst (λ (x : List ℕ). InPart (card-of (paper (c .before .before .before .before .args .s))) x (c .before .before .before .before .args .n) (c .before .before .before .before .args .side) (c .before .before .before .before .args .key .now) (c .record-of .result)) (to-end (c .before .before .before .before .args .side .now))
+    (in-part (card-of (paper (c .before .before .before .before .args .s))) (c .before .before .before .before .args .side) _ (c .record-of .result) 2 (length (c .before .before .before .before .args .side .now) - 2) (c .before .before .before .before .args .n) (c .before .before .before .before .args .key .now) (c .before .before .before .before .pre .2) refl refl (c .record-of .ensures))
+
+pub record-in-side-spec : {M : Type 1} → statement M
+record-in-side-spec =
+    tie.close
+    (tie.spec sub-record-of part-record-of-start part-record-of-end record-of-requires returns)

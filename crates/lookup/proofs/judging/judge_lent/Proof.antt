@@ -1,0 +1,50 @@
+-- `lookup::judging::judge_lent` meets its contract: refusal 1, the table's length, then the areas' judgement. Assumes nothing.
+use mathlib.Core.Path.{_∙_}
+use native.Mathlib.Omega.{arith}
+use Rattle.settings.specs.Checked.{paper}
+use Rattle.settings.proofs.Laws.{allowed-arm, refused-arm, allowed-settings, width-is}
+use Rattle.lookup.proofs.JudgeLaws.{lent-1, lent-2, lent-on}
+use borrow.Author.Needs.{needs}
+use Rattle.lookup.proofs.judging.judge_lent.Statement.{statement}
+use Rattle.lookup.proofs.judging.judge_lent.Tie as tie
+
+new-requires : tie.Need-new-requires
+new-requires c κs = search needs
+
+enum-known-checked : tie.Need-enum-known-checked
+enum-known-checked c = search needs
+
+enum-told : tie.Need-enum-told
+enum-told c = search needs
+
+returns : tie.Need-returns
+returns c = lent-1 (c .before .before .before .before .before .before .before .before .args .table .now) (record { p = c .before .before .before .before .before .before .before .before .args .p; k = c .before .before .before .before .before .before .before .before .args .k; room = c .before .before .before .before .before .before .before .before .args .room; top = c .before .before .before .before .before .before .before .before .args .top; capacity = c .before .before .before .before .before .before .before .before .args .capacity; side-places = c .before .before .before .before .before .before .before .before .args .side-places }) (c .before .before .before .before .before .before .before .before .args .clipped .now) (c .before .before .before .before .before .before .before .before .args .buckets .now) (c .before .before .before .before .before .before .before .before .args .side .now) (c .before .before .before .before .before .before .before .before .args .key .now) (refused-arm (record { p = c .before .before .before .before .before .before .before .before .args .p; k = c .before .before .before .before .before .before .before .before .args .k; room = c .before .before .before .before .before .before .before .before .args .room; top = c .before .before .before .before .before .before .before .before .args .top; capacity = c .before .before .before .before .before .before .before .before .args .capacity; side-places = c .before .before .before .before .before .before .before .before .args .side-places }) (c .before .before .new .result) (c .before .before .new .ensures) (c .enum-told .given .1))
+
+width-requires : tie.Need-width-requires
+width-requires c κs = search needs
+
+mul-if1 : tie.Need-mul-if1
+mul-if1 c = omega (arith, c .width .ensures, width-is (paper (c .before .before .checked .given .0 .0)))
+
+returns-2 : tie.Need-returns-2
+returns-2 c = let arm = allowed-arm (record { p = c .before .before .before .before .before .before .before .before .before .before .before .args .p; k = c .before .before .before .before .before .before .before .before .before .before .before .args .k; room = c .before .before .before .before .before .before .before .before .before .before .before .args .room; top = c .before .before .before .before .before .before .before .before .before .before .before .args .top; capacity = c .before .before .before .before .before .before .before .before .before .before .before .args .capacity; side-places = c .before .before .before .before .before .before .before .before .before .before .before .args .side-places }) (c .before .before .before .before .before .new .result) (c .before .before .before .before .before .new .ensures) (c .before .before .before .checked .given .0 .0) (c .before .before .before .checked .given .1) in lent-2 (c .before .before .before .before .before .before .before .before .before .before .before .args .table .now) (record { p = c .before .before .before .before .before .before .before .before .before .before .before .args .p; k = c .before .before .before .before .before .before .before .before .before .before .before .args .k; room = c .before .before .before .before .before .before .before .before .before .before .before .args .room; top = c .before .before .before .before .before .before .before .before .before .before .before .args .top; capacity = c .before .before .before .before .before .before .before .before .before .before .before .args .capacity; side-places = c .before .before .before .before .before .before .before .before .before .before .before .args .side-places }) (c .before .before .before .before .before .before .before .before .before .before .before .args .clipped .now) (c .before .before .before .before .before .before .before .before .before .before .before .args .buckets .now) (c .before .before .before .before .before .before .before .before .before .before .before .args .side .now) (c .before .before .before .before .before .before .before .before .before .before .before .args .key .now) (arm .0) (c .before .before .before .checked .given .0 .0) (arm .1) (c .before .width .result) (c .before .width .ensures) (c .if1 .taken)
+
+judge-areas-requires : tie.Need-judge-areas-requires
+judge-areas-requires c κs = allowed-settings (record { p = c .before .before .before .before .before .before .before .before .before .before .before .args .p; k = c .before .before .before .before .before .before .before .before .before .before .before .args .k; room = c .before .before .before .before .before .before .before .before .before .before .before .args .room; top = c .before .before .before .before .before .before .before .before .before .before .before .args .top; capacity = c .before .before .before .before .before .before .before .before .before .before .before .args .capacity; side-places = c .before .before .before .before .before .before .before .before .before .before .before .args .side-places }) (c .before .before .before .before .before .new .result) (c .before .before .before .before .before .new .ensures) (c .before .before .before .checked .given .0 .0) (c .before .before .before .checked .given .1)
+
+returns-3 : tie.Need-returns-3
+returns-3 c = let arm = allowed-arm (record { p = c .before .before .before .before .before .before .before .before .before .before .before .before .args .p; k = c .before .before .before .before .before .before .before .before .before .before .before .before .args .k; room = c .before .before .before .before .before .before .before .before .before .before .before .before .args .room; top = c .before .before .before .before .before .before .before .before .before .before .before .before .args .top; capacity = c .before .before .before .before .before .before .before .before .before .before .before .before .args .capacity; side-places = c .before .before .before .before .before .before .before .before .before .before .before .before .args .side-places }) (c .before .before .before .before .before .before .new .result) (c .before .before .before .before .before .before .new .ensures) (c .before .before .before .before .checked .given .0 .0) (c .before .before .before .before .checked .given .1) in c .judge-areas .ensures ∙ lent-on (c .before .before .before .before .before .before .before .before .before .before .before .before .args .table .now) (record { p = c .before .before .before .before .before .before .before .before .before .before .before .before .args .p; k = c .before .before .before .before .before .before .before .before .before .before .before .before .args .k; room = c .before .before .before .before .before .before .before .before .before .before .before .before .args .room; top = c .before .before .before .before .before .before .before .before .before .before .before .before .args .top; capacity = c .before .before .before .before .before .before .before .before .before .before .before .before .args .capacity; side-places = c .before .before .before .before .before .before .before .before .before .before .before .before .args .side-places }) (c .before .before .before .before .before .before .before .before .before .before .before .before .args .clipped .now) (c .before .before .before .before .before .before .before .before .before .before .before .before .args .buckets .now) (c .before .before .before .before .before .before .before .before .before .before .before .before .args .side .now) (c .before .before .before .before .before .before .before .before .before .before .before .before .args .key .now) (arm .0) (c .before .before .before .before .checked .given .0 .0) (arm .1) (c .before .before .width .result) (c .before .before .width .ensures) (c .before .if1 .left)
+
+pub judge-lent-spec : {M : Type 1} → statement M
+judge-lent-spec =
+    tie.close
+    (tie.spec
+    new-requires
+    enum-known-checked
+    enum-told
+    returns
+    width-requires
+    mul-if1
+    returns-2
+    judge-areas-requires
+    returns-3)

@@ -1,0 +1,84 @@
+-- `lookup::scanning::scan` meets its contract: what is left of the scan gives what the whole does. Assumes nothing.
+use mathlib.Core.Path.{sym, _∙_}
+use Prim.Native.Nat.{_+_}
+use native.Mathlib.Nat.{add-sub-cancel-left, add-assoc}
+use native.Mathlib.Omega.{arith}
+use lib.ListN.{length}
+use Rattle.ledger.proofs.RecordLaws.{room-next}
+use Rattle.lookup.proofs.ScanLaws.{Scanning, scanning-start, scanning-hit, scanning-on, scanning-end, length-part}
+use Rattle.lookup.proofs.scanning.scan.Statement.{statement}
+use Rattle.lookup.proofs.scanning.scan.Tie as tie
+
+abbrev Inv-loop : tie.InvT-loop
+Inv-loop place n key width left₀ compared₀ at₀ left compared at = Scanning key (length key) n place left compared at
+
+abbrev μ-loop : tie.MeasureT-loop
+μ-loop place n key width left₀ compared₀ at₀ left compared at = left
+
+loop-holds : tie.Need-loop-holds Inv-loop μ-loop
+loop-holds c = scanning-start (c .before .before .args .key .now) (length (c .before .before .args .key .now)) (c .before .before .args .n) (c .before .before .args .place .now) (c .before .before .pre .0)
+
+add-end : tie.Need-add-end Inv-loop μ-loop
+add-end c = omega (arith, (room-next (c .before .loop .at) (c .before .loop .left) (length (c .before .before .before .before .args .key .now) + 4) (length (c .before .before .before .before .args .place .now)) (c .before .loop .inv .room) (omega arith)))
+
+sub-same-key : tie.Need-sub-same-key Inv-loop μ-loop
+sub-same-key c = omega arith
+
+part-same-key-start : tie.Need-part-same-key-start Inv-loop μ-loop
+part-same-key-start c = omega (arith, (room-next (c .before .loop .at) (c .before .loop .left) (length (c .before .before .before .before .args .key .now) + 4) (length (c .before .before .before .before .args .place .now)) (c .before .loop .inv .room) (omega arith)))
+
+part-same-key-end : tie.Need-part-same-key-end Inv-loop μ-loop
+part-same-key-end c = omega (arith, (room-next (c .before .loop .at) (c .before .loop .left) (length (c .before .before .before .before .args .key .now) + 4) (length (c .before .before .before .before .args .place .now)) (c .before .loop .inv .room) (omega arith)))
+
+same-key-requires : tie.Need-same-key-requires Inv-loop μ-loop
+same-key-requires c κs = omega (arith, length-part (c .before .before .before .before .before .args .place .now) (c .before .before .loop .at) (length (c .before .before .before .before .before .args .key .now)) ((room-next (c .before .before .loop .at) (c .before .before .loop .left) (length (c .before .before .before .before .before .args .key .now) + 4) (length (c .before .before .before .before .before .args .place .now)) (c .before .before .loop .inv .room) (omega arith)) .0))
+
+add-t15 : tie.Need-add-t15 Inv-loop μ-loop
+add-t15 c = omega (arith, c .before .before .before .before .loop .inv .count)
+
+returns : tie.Need-returns Inv-loop μ-loop
+returns c =
+    scanning-hit (c .before .before .before .before .before .before .before .args .key .now) (length (c .before .before .before .before .before .before .before .args .key .now)) (c .before .before .before .before .before .before .before .args .n) (c .before .before .before .before .before .before .before .args .place .now) (c .before .before .before .before .loop .left) (c .before .before .before .before .loop .compared) (c .before .before .before .before .loop .at) (c .before .before .before .before .loop .inv) (omega arith)
+    (rw (add-sub-cancel-left (c .before .before .before .before .loop .at) (length (c .before .before .before .before .before .before .before .args .key .now))) at (sym (c .before .same-key .ensures) ∙ c .if1 .taken))
+
+sub-left : tie.Need-sub-left Inv-loop μ-loop
+sub-left c = omega arith
+
+add-compared : tie.Need-add-compared Inv-loop μ-loop
+add-compared c = omega (arith, c .before .before .before .before .loop .inv .count)
+
+add-at : tie.Need-add-at Inv-loop μ-loop
+add-at c = omega (arith, (room-next (c .before .before .before .before .loop .at) (c .before .before .before .before .loop .left) (length (c .before .before .before .before .before .before .before .args .key .now) + 4) (length (c .before .before .before .before .before .before .before .args .place .now)) (c .before .before .before .before .loop .inv .room) (omega arith)))
+
+loop-less : tie.Need-loop-less Inv-loop μ-loop
+loop-less c = omega arith
+
+loop-again : tie.Need-loop-again Inv-loop μ-loop
+loop-again c =
+    rw (add-assoc (c .before .before .before .before .loop .at) (length (c .before .before .before .before .before .before .before .args .key .now)) 4)
+    (scanning-on (c .before .before .before .before .before .before .before .args .key .now) (length (c .before .before .before .before .before .before .before .args .key .now)) (c .before .before .before .before .before .before .before .args .n) (c .before .before .before .before .before .before .before .args .place .now) (c .before .before .before .before .loop .left) (c .before .before .before .before .loop .compared) (c .before .before .before .before .loop .at) (c .before .before .before .before .loop .inv) (omega arith)
+    (rw (add-sub-cancel-left (c .before .before .before .before .loop .at) (length (c .before .before .before .before .before .before .before .args .key .now))) at (sym (c .before .same-key .ensures) ∙ c .if1 .left)))
+
+returns-2 : tie.Need-returns-2 Inv-loop μ-loop
+returns-2 c = scanning-end (c .before .before .before .before .args .key .now) (length (c .before .before .before .before .args .key .now)) (c .before .before .before .before .args .n) (c .before .before .before .before .args .place .now) (c .before .loop .left) (c .before .loop .compared) (c .before .loop .at) (c .before .loop .inv) (omega arith)
+
+pub scan-spec : {M : Type 1} → statement M
+scan-spec =
+    tie.close
+    (tie.spec
+    Inv-loop
+    μ-loop
+    loop-holds
+    add-end
+    sub-same-key
+    part-same-key-start
+    part-same-key-end
+    same-key-requires
+    add-t15
+    returns
+    sub-left
+    add-compared
+    add-at
+    loop-less
+    loop-again
+    returns-2)

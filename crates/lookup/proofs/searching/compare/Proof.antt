@@ -1,0 +1,32 @@
+-- `lookup::searching::compare` meets its contract, by what the scan says. Assumes nothing.
+use native.Mathlib.Omega.{arith}
+use lib.ListN.{length}
+use lib.Seq.{drop-drop}
+use Rattle.theory.specs.Records.{record-at}
+use borrow.Author.Needs.{needs}
+use Rattle.lookup.proofs.searching.compare.Statement.{statement}
+use Rattle.lookup.proofs.searching.compare.Tie as tie
+
+scan-requires : tie.Need-scan-requires
+scan-requires c κs = search needs
+
+cast-compared : tie.Need-cast-compared
+cast-compared c = search needs
+
+add-at : tie.Need-add-at
+add-at c = omega (arith, c .before .before .before .scan .ensures .room (c .before .if1 .taken))
+
+class-at-requires : tie.Need-class-at-requires
+class-at-requires c κs = omega (arith, c .before .before .before .scan .ensures .room (c .before .if1 .taken))
+
+returns : tie.Need-returns
+returns c =
+    let e = c .before .before .before .before .scan .ensures in
+    rw (e .finds, e .compares, c .before .before .if1 .taken, c .class-at .ensures) (unfold record-at in rw (drop-drop (length (c .before .before .before .before .before .before .before .args .key .now)) (c .before .before .before .before .scan .result .at) (c .before .before .before .before .before .before .before .args .place .now)))
+
+returns-2 : tie.Need-returns-2
+returns-2 c = let e = c .before .before .scan .ensures in rw (e .finds, e .compares, c .if1 .left)
+
+pub compare-spec : {M : Type 1} → statement M
+compare-spec =
+    tie.close (tie.spec scan-requires cast-compared add-at class-at-requires returns returns-2)

@@ -1,0 +1,36 @@
+-- `lookup::searching::compare_side` meets its contract: the part that is lent on is the side store after its count. Assumes nothing.
+use native.Mathlib.Omega.{arith}
+use lib.ListN.{length}
+use Rattle.theory.specs.Lookup.{answer-at}
+use Rattle.theory.proofs.SettingsLaws.{ranges}
+use Rattle.settings.specs.Checked.{paper}
+use Rattle.settings.proofs.Laws.{bounds, width-is}
+use Rattle.lookup.proofs.PlaceLaws.{side-room, to-end}
+use borrow.Author.Needs.{needs}
+use Rattle.lookup.proofs.searching.compare_side.Statement.{statement}
+use Rattle.lookup.proofs.searching.compare_side.Tie as tie
+
+sub-compare : tie.Need-sub-compare
+sub-compare c = let b = bounds (paper (c .before .before .args .s)) (c .before .before .pre .0) in omega (arith, c .before .before .pre .1)
+
+part-compare-start : tie.Need-part-compare-start
+part-compare-start c = let b = bounds (paper (c .before .before .args .s)) (c .before .before .pre .0) in omega (arith, c .before .before .pre .1)
+
+part-compare-end : tie.Need-part-compare-end
+part-compare-end c = search needs
+
+compare-requires : tie.Need-compare-requires
+compare-requires c κs =
+    let r = ranges (paper (c .before .before .before .args .s)) (c .before .before .before .pre .0) in (
+      side-room (paper (c .before .before .before .args .s)) (c .before .before .before .pre .0) (length (c .before .before .before .args .key .now)) (c .before .before .before .args .n) (c .before .before .before .pre .2) (c .before .before .before .args .side .now) (c .before .before .before .pre .1) (c .before .before .before .pre .3),
+      omega (arith, c .before .before .before .pre .2, width-is (paper (c .before .before .before .args .s))),
+      omega (arith, c .before .before .before .pre .3),
+    )
+
+returns : tie.Need-returns
+unfolding answer-at
+returns c = rw (c .compare .ensures, c .before .before .before .before .pre .2, to-end (c .before .before .before .before .args .side .now))
+
+pub compare-side-spec : {M : Type 1} → statement M
+compare-side-spec =
+    tie.close (tie.spec sub-compare part-compare-start part-compare-end compare-requires returns)

@@ -1,0 +1,74 @@
+-- `lookup::searching::search_at` meets its contract: the answer at the place where the search looks. Assumes nothing.
+use mathlib.Core.Path.{sym, ap, _∙_, subst}
+use native.Mathlib.Omega.{arith}
+use Rattle.theory.specs.Settings.{card-of}
+use Rattle.theory.specs.Lookup.{invalid, nowhere, answer-at}
+use Rattle.settings.specs.Checked.{paper}
+use Rattle.lookup.specs.Places.{place-of, Inside}
+use Rattle.lookup.proofs.PlaceLaws.{search-is}
+use borrow.Author.Needs.{needs}
+use Rattle.lookup.proofs.searching.search_at.Statement.{statement}
+use Rattle.lookup.proofs.searching.search_at.Tie as tie
+
+find-place-requires : tie.Need-find-place-requires
+find-place-requires c κs = search needs
+
+enum-told : tie.Need-enum-told
+enum-told c = search needs
+
+bare-requires : tie.Need-bare-requires
+bare-requires c κs = search needs
+
+enum-told-2 : tie.Need-enum-told-2
+enum-told-2 c = search needs
+
+bare-requires-2 : tie.Need-bare-requires-2
+bare-requires-2 c κs = search needs
+
+enum-known-place : tie.Need-enum-known-place
+enum-known-place c = search needs
+
+compare-bucket-requires : tie.Need-compare-bucket-requires
+compare-bucket-requires c κs = let i = subst (Inside (paper (c .before .before .before .before .before .before .before .before .args .s))) (c .before .place .given .1) (c .before .before .before .find-place .ensures .1) in (c .before .before .before .before .before .before .before .before .pre .0 .ok, c .before .before .before .before .before .before .before .before .pre .0 .buckets-size, c .before .before .before .before .before .before .before .before .pre .1, omega (arith, i .0, c .before .before .before .before .before .before .before .before .pre .0 .buckets-size), i .1)
+
+enum-known-place-2 : tie.Need-enum-known-place-2
+enum-known-place-2 c = search needs
+
+compare-side-requires : tie.Need-compare-side-requires
+compare-side-requires c κs = let i = subst (Inside (paper (c .before .before .before .before .before .before .before .before .args .s))) (c .before .place2 .given .1) (c .before .before .before .find-place .ensures .1) in (c .before .before .before .before .before .before .before .before .pre .0 .ok, c .before .before .before .before .before .before .before .before .pre .0 .side-size, c .before .before .before .before .before .before .before .before .pre .1, i .0)
+
+returns : tie.Need-returns
+unfolding answer-at
+returns c = c .bare .ensures ∙ search-is (paper (c .before .before .before .before .before .before .before .before .args .s)) (c .before .before .before .before .before .before .before .before .args .h) (c .before .before .before .before .before .before .before .before .args .clipped .now) (c .before .before .before .before .before .before .before .before .args .buckets .now) (c .before .before .before .before .before .before .before .before .args .side .now) (c .before .before .before .before .before .before .before .before .args .key .now) invalid
+    (ap (place-of (card-of (paper (c .before .before .before .before .before .before .before .before .args .s))) (c .before .before .before .before .before .before .before .before .args .buckets .now) (c .before .before .before .before .before .before .before .before .args .side .now)) (sym (c .before .enum-told .given .1)) ∙ c .before .before .before .find-place .ensures .0 (c .before .before .before .before .before .before .before .before .args .key .now))
+
+returns-2 : tie.Need-returns-2
+unfolding answer-at
+returns-2 c = c .bare2 .ensures ∙ search-is (paper (c .before .before .before .before .before .before .before .before .args .s)) (c .before .before .before .before .before .before .before .before .args .h) (c .before .before .before .before .before .before .before .before .args .clipped .now) (c .before .before .before .before .before .before .before .before .args .buckets .now) (c .before .before .before .before .before .before .before .before .args .side .now) (c .before .before .before .before .before .before .before .before .args .key .now) nowhere
+    (ap (place-of (card-of (paper (c .before .before .before .before .before .before .before .before .args .s))) (c .before .before .before .before .before .before .before .before .args .buckets .now) (c .before .before .before .before .before .before .before .before .args .side .now)) (sym (c .before .enum-told2 .given .1)) ∙ c .before .before .before .find-place .ensures .0 (c .before .before .before .before .before .before .before .before .args .key .now))
+
+returns-3 : tie.Need-returns-3
+returns-3 c = c .compare-bucket .ensures ∙ search-is (paper (c .before .before .before .before .before .before .before .before .before .args .s)) (c .before .before .before .before .before .before .before .before .before .args .h) (c .before .before .before .before .before .before .before .before .before .args .clipped .now) (c .before .before .before .before .before .before .before .before .before .args .buckets .now) (c .before .before .before .before .before .before .before .before .before .args .side .now) (c .before .before .before .before .before .before .before .before .before .args .key .now) _
+    (ap (place-of (card-of (paper (c .before .before .before .before .before .before .before .before .before .args .s))) (c .before .before .before .before .before .before .before .before .before .args .buckets .now) (c .before .before .before .before .before .before .before .before .before .args .side .now)) (sym (c .before .before .place .given .1)) ∙ c .before .before .before .before .find-place .ensures .0 (c .before .before .before .before .before .before .before .before .before .args .key .now))
+
+returns-4 : tie.Need-returns-4
+returns-4 c = c .compare-side .ensures ∙ search-is (paper (c .before .before .before .before .before .before .before .before .before .args .s)) (c .before .before .before .before .before .before .before .before .before .args .h) (c .before .before .before .before .before .before .before .before .before .args .clipped .now) (c .before .before .before .before .before .before .before .before .before .args .buckets .now) (c .before .before .before .before .before .before .before .before .before .args .side .now) (c .before .before .before .before .before .before .before .before .before .args .key .now) _
+    (ap (place-of (card-of (paper (c .before .before .before .before .before .before .before .before .before .args .s))) (c .before .before .before .before .before .before .before .before .before .args .buckets .now) (c .before .before .before .before .before .before .before .before .before .args .side .now)) (sym (c .before .before .place2 .given .1)) ∙ c .before .before .before .before .find-place .ensures .0 (c .before .before .before .before .before .before .before .before .before .args .key .now))
+
+pub search-at-spec : {M : Type 1} → statement M
+search-at-spec =
+    tie.close
+    (tie.spec
+    find-place-requires
+    enum-told
+    bare-requires
+    enum-told-2
+    bare-requires-2
+    enum-known-place
+    compare-bucket-requires
+    enum-known-place-2
+    compare-side-requires
+    returns
+    returns-2
+    returns-3
+    returns-4)

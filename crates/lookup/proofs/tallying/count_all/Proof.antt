@@ -1,0 +1,42 @@
+-- `lookup::tallying::count_all` meets its contract, by what its callees count. Assumes nothing.
+use native.Mathlib.Omega.{arith}
+use Rattle.theory.specs.Ledger.{totals-of}
+use Rattle.settings.specs.Checked.{paper}
+use Rattle.settings.proofs.Laws.{bounds}
+use borrow.Author.Needs.{needs}
+use Rattle.lookup.proofs.tallying.count_all.Statement.{statement}
+use Rattle.lookup.proofs.tallying.count_all.Tie as tie
+
+sum-marks-requires : tie.Need-sum-marks-requires
+sum-marks-requires c κs = search needs
+
+count-at-requires : tie.Need-count-at-requires
+count-at-requires c κs = let b = bounds (paper (c .before .before .before .before .args .s)) (c .before .before .before .before .pre .0) in omega (arith, c .before .before .before .before .pre .3)
+
+cast-t7 : tie.Need-cast-t7
+cast-t7 c = search needs
+
+count-at-requires-2 : tie.Need-count-at-requires-2
+count-at-requires-2 c κs = let b = bounds (paper (c .before .before .before .before .before .args .s)) (c .before .before .before .before .before .pre .0) in omega (arith, c .before .before .before .before .before .pre .1)
+
+buckets-requires : tie.Need-buckets-requires
+buckets-requires c κs = search needs
+
+fill-requires : tie.Need-fill-requires
+fill-requires c κs = let b = bounds (paper (c .before .before .before .before .before .before .before .args .s)) (c .before .before .before .before .before .before .before .pre .0) in (omega (arith, c .before .count-at2 .ensures .1), omega (arith, c .buckets .ensures), omega (arith, c .buckets .ensures))
+
+returns : tie.Need-returns
+unfolding totals-of
+returns c = rw (c .before .before .before .before .sum-marks .ensures .0, c .before .before .before .before .sum-marks .ensures .1, c .before .before .before .count-at .ensures .0, c .fill .ensures, c .before .before .count-at2 .ensures .0, c .before .buckets .ensures)
+
+pub count-all-spec : {M : Type 1} → statement M
+count-all-spec =
+    tie.close
+    (tie.spec
+    sum-marks-requires
+    count-at-requires
+    cast-t7
+    count-at-requires-2
+    buckets-requires
+    fill-requires
+    returns)

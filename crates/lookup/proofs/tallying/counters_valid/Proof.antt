@@ -1,0 +1,67 @@
+-- `lookup::tallying::counters_valid` meets its contract: whether a counter from bucket b on is above T is whether any is. Assumes nothing.
+use mathlib.Core.Path.{_≡_, ap}
+use mathlib.Core.List.{List, map}
+use Prim.Native.Nat.{ℕ, _-_, _≤_}
+use native.Mathlib.Omega.{arith}
+use lib.Dec.{ltb}
+use borrow.Author.Needs.{needs}
+use borrow.Author.Tests.{lt-ltb, le-ltb}
+use Rattle.theory.specs.Lists.{any, upto}
+use Rattle.theory.specs.Lookup.{counter}
+use Rattle.settings.specs.Checked.{paper}
+use Rattle.lookup.proofs.TallyLaws.{rest, rest-all, any-here, any-on, any-none-left, any-map, counter-in}
+use Rattle.lookup.proofs.tallying.counters_valid.Statement.{statement}
+use Rattle.lookup.proofs.tallying.counters_valid.Tie as tie
+
+abbrev Inv-loop : tie.InvT-loop
+Inv-loop clipped m top b₀ b = (b ≤ m) × (any (λ x. ltb top x) (map (counter clipped) (rest b m)) ≡ any (λ x. ltb top x) (map (counter clipped) (upto 0 m)))
+
+abbrev μ-loop : tie.MeasureT-loop
+μ-loop clipped m top b₀ b = m - b
+
+buckets-requires : tie.Need-buckets-requires Inv-loop μ-loop
+buckets-requires c κs = c .before .pre .0
+
+loop-holds : tie.Need-loop-holds Inv-loop μ-loop
+loop-holds c = (omega arith, ap (λ (l : List ℕ). any (λ x. ltb (c .before .before .args .s .top) x) (map (counter (c .before .before .args .clipped .now)) l)) (rest-all (c .buckets .result)))
+
+counter-requires : tie.Need-counter-requires Inv-loop μ-loop
+counter-requires c κs = counter-in (paper (c .before .before .before .before .args .s)) (c .before .before .before .before .pre .0) (c .before .before .before .before .args .clipped .now) (c .before .loop .b) (c .before .before .buckets .result) (c .loop-test .taken) (c .before .before .buckets .ensures) (c .before .before .before .before .pre .1)
+
+cast-if1 : tie.Need-cast-if1 Inv-loop μ-loop
+cast-if1 c = search needs
+
+returns : tie.Need-returns Inv-loop μ-loop
+returns c =
+    let e = any-here (counter (c .before .before .before .before .before .before .before .args .clipped .now)) (λ x. ltb (c .before .before .before .before .before .before .before .args .s .top) x) (c .before .before .before .before .loop .b) (c .before .before .before .before .before .buckets .result) (c .before .before .before .loop-test .taken) (rw (← c .before .before .counter .ensures) (lt-ltb _ _ (c .if1 .taken))) (c .before .before .before .before .loop .inv .1) in
+    rw (← c .before .before .before .before .before .buckets .ensures, ← any-map (λ x. ltb (c .before .before .before .before .before .before .before .args .s .top) x) (counter (c .before .before .before .before .before .before .before .args .clipped .now)) (upto 0 (c .before .before .before .before .before .buckets .result)), e)
+
+add-b : tie.Need-add-b Inv-loop μ-loop
+add-b c = omega arith
+
+loop-less : tie.Need-loop-less Inv-loop μ-loop
+loop-less c = omega arith
+
+loop-again : tie.Need-loop-again Inv-loop μ-loop
+loop-again c = (omega arith, any-on (counter (c .before .before .before .before .before .before .before .args .clipped .now)) (λ x. ltb (c .before .before .before .before .before .before .before .args .s .top) x) (c .before .before .before .before .loop .b) (c .before .before .before .before .before .buckets .result) (c .before .before .before .loop-test .taken) (rw (← c .before .before .counter .ensures) (le-ltb _ _ (c .if1 .left))) (c .before .before .before .before .loop .inv .1))
+
+returns-2 : tie.Need-returns-2 Inv-loop μ-loop
+returns-2 c =
+    let e = any-none-left (counter (c .before .before .before .before .args .clipped .now)) (λ x. ltb (c .before .before .before .before .args .s .top) x) (c .before .loop .b) (c .before .before .buckets .result) (c .loop-test .left) (c .before .loop .inv .1) in
+    rw (← c .before .before .buckets .ensures, ← any-map (λ x. ltb (c .before .before .before .before .args .s .top) x) (counter (c .before .before .before .before .args .clipped .now)) (upto 0 (c .before .before .buckets .result)), e)
+
+pub counters-valid-spec : {M : Type 1} → statement M
+counters-valid-spec =
+    tie.close
+    (tie.spec
+    Inv-loop
+    μ-loop
+    buckets-requires
+    loop-holds
+    counter-requires
+    cast-if1
+    returns
+    add-b
+    loop-less
+    loop-again
+    returns-2)

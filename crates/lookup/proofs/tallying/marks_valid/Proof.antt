@@ -1,0 +1,74 @@
+-- `lookup::tallying::marks_valid` meets its contract: whether a mark from bucket b on cannot be is whether any cannot. Assumes nothing.
+use mathlib.Core.Path.{_≡_, ap}
+use mathlib.Core.Bool.{not, _&&_}
+use mathlib.Core.List.{List, map}
+use Prim.Native.Nat.{ℕ, _*_, _-_, _≤_}
+use native.Mathlib.Omega.{arith}
+use lib.Dec.{eqb, ltb}
+use Rattle.theory.specs.Lists.{any, upto}
+use Rattle.settings.specs.Checked.{paper}
+use Rattle.settings.proofs.Laws.{bounds}
+use Rattle.lookup.proofs.TallyLaws.{rest, rest-all, any-here, any-on, any-none-left, mark-at, marks-are, mark-there}
+use Rattle.lookup.proofs.tallying.marks_valid.Statement.{statement}
+use Rattle.lookup.proofs.tallying.marks_valid.Tie as tie
+
+abbrev Inv-loop : tie.InvT-loop
+Inv-loop buckets m size room b₀ at₀ b at = (b ≤ m) × (at ≡ b * size) × (any (λ x. ltb room x && not (eqb x 255)) (map (mark-at buckets size) (rest b m)) ≡ any (λ x. ltb room x && not (eqb x 255)) (map (mark-at buckets size) (upto 0 m)))
+
+abbrev μ-loop : tie.MeasureT-loop
+μ-loop buckets m size room b₀ at₀ b at = m - b
+
+buckets-requires : tie.Need-buckets-requires Inv-loop μ-loop
+buckets-requires c κs = c .before .pre .0
+
+bucket-size-requires : tie.Need-bucket-size-requires Inv-loop μ-loop
+bucket-size-requires c κs = c .before .before .pre .0
+
+loop-holds : tie.Need-loop-holds Inv-loop μ-loop
+loop-holds c = (omega arith, omega arith, ap (λ (l : List ℕ). any (λ x. ltb (c .before .before .before .args .s .room) x && not (eqb x 255)) (map (mark-at (c .before .before .before .args .buckets .now) (c .bucket-size .result)) l)) (rest-all (c .before .buckets .result)))
+
+shared-slice-read-mark : tie.Need-shared-slice-read-mark Inv-loop μ-loop
+shared-slice-read-mark c = let b = bounds (paper (c .before .before .before .before .before .before .args .s)) (c .before .before .before .before .before .before .pre .0) in omega (arith, (mark-there (paper (c .before .before .before .before .before .before .args .s)) (c .before .before .before .before .before .before .pre .0) (c .before .before .before .before .before .before .args .buckets .now) (c .before .before .loop .b) (c .before .before .before .before .buckets .result) (c .before .before .before .bucket-size .result) (c .before .loop-test .taken) (c .before .before .before .before .buckets .ensures) (c .before .before .before .bucket-size .ensures) (c .before .before .before .before .before .before .pre .1)), c .before .before .loop .inv .1, c .before .before .before .bucket-size .ensures)
+
+cast-mark : tie.Need-cast-mark Inv-loop μ-loop
+cast-mark c = omega (arith, c .before .before .before .before .before .shared-slice-known .given (c .before .before .loop .at))
+
+returns : tie.Need-returns Inv-loop μ-loop
+returns c =
+    let e = any-here (mark-at (c .before .before .before .before .before .before .before .args .buckets .now) (c .before .before .before .before .bucket-size .result)) (λ x. ltb (c .before .before .before .before .before .before .before .args .s .room) x && not (eqb x 255)) (c .before .before .before .loop .b) (c .before .before .before .before .before .buckets .result) (c .before .before .loop-test .taken) (rw (← c .before .before .before .loop .inv .1) (c .if1 .taken)) (c .before .before .before .loop .inv .2) in
+    rw (marks-are (paper (c .before .before .before .before .before .before .before .args .s)) (c .before .before .before .before .before .before .before .pre .0) (c .before .before .before .before .before .before .before .args .buckets .now), ← c .before .before .before .before .bucket-size .ensures, ← c .before .before .before .before .before .buckets .ensures, e)
+
+add-at : tie.Need-add-at Inv-loop μ-loop
+add-at c = omega (arith, (mark-there (paper (c .before .before .before .before .before .before .before .args .s)) (c .before .before .before .before .before .before .before .pre .0) (c .before .before .before .before .before .before .before .args .buckets .now) (c .before .before .before .loop .b) (c .before .before .before .before .before .buckets .result) (c .before .before .before .before .bucket-size .result) (c .before .before .loop-test .taken) (c .before .before .before .before .before .buckets .ensures) (c .before .before .before .before .bucket-size .ensures) (c .before .before .before .before .before .before .before .pre .1)), c .before .before .before .loop .inv .1)
+
+add-b : tie.Need-add-b Inv-loop μ-loop
+add-b c = omega arith
+
+loop-less : tie.Need-loop-less Inv-loop μ-loop
+loop-less c = omega arith
+
+loop-again : tie.Need-loop-again Inv-loop μ-loop
+loop-again c = (omega arith, omega (arith, c .before .before .before .loop .inv .1), any-on (mark-at (c .before .before .before .before .before .before .before .args .buckets .now) (c .before .before .before .before .bucket-size .result)) (λ x. ltb (c .before .before .before .before .before .before .before .args .s .room) x && not (eqb x 255)) (c .before .before .before .loop .b) (c .before .before .before .before .before .buckets .result) (c .before .before .loop-test .taken) (rw (← c .before .before .before .loop .inv .1) (c .if1 .left)) (c .before .before .before .loop .inv .2))
+
+returns-2 : tie.Need-returns-2 Inv-loop μ-loop
+returns-2 c =
+    let e = any-none-left (mark-at (c .before .before .before .before .before .args .buckets .now) (c .before .before .bucket-size .result)) (λ x. ltb (c .before .before .before .before .before .args .s .room) x && not (eqb x 255)) (c .before .loop .b) (c .before .before .before .buckets .result) (c .loop-test .left) (c .before .loop .inv .2) in
+    rw (marks-are (paper (c .before .before .before .before .before .args .s)) (c .before .before .before .before .before .pre .0) (c .before .before .before .before .before .args .buckets .now), ← c .before .before .bucket-size .ensures, ← c .before .before .before .buckets .ensures, e)
+
+pub marks-valid-spec : {M : Type 1} → statement M
+marks-valid-spec =
+    tie.close
+    (tie.spec
+    Inv-loop
+    μ-loop
+    buckets-requires
+    bucket-size-requires
+    loop-holds
+    shared-slice-read-mark
+    cast-mark
+    returns
+    add-at
+    add-b
+    loop-less
+    loop-again
+    returns-2)

@@ -1,0 +1,47 @@
+-- What the search calls answer, as the code holds it. Assumes nothing.
+use mathlib.Core.Path.{_≡_}
+use mathlib.Core.Bool.{cond, not}
+use mathlib.Core.List.{List, []}
+use Prim.Native.Nat.{ℕ, _*_}
+use lib.Dec.{eqb}
+use lib.ListN.{length}
+use Rattle.theory.specs.Lists.{all}
+use Rattle.theory.specs.Settings as plain
+use Rattle.theory.specs.Layout.{Areas}
+use Rattle.theory.specs.Lookup as plain-lookup
+use Rattle.theory.specs.Ledger.{search, Step, answered}
+use Rattle.theory.specs.Calls.{lookup-lengths, perform}
+use Rattle.hash.specs.Table.{TableRight}
+use Rattle.settings.specs.Checked.{code}
+use Rattle.lookup.specs.declared.searching.Answer.{Answer}
+use Rattle.lookup.specs.declared.judging.Judged.{Judged}
+use Rattle.lookup.specs.declared.judging.Judged.the-variants.{Ready, Refused}
+
+-- the paper's number and values
+abbrev pub answer-of : Answer → plain-lookup.Answer
+answer-of r =
+    record { number = r .number; class = r .class; buckets-read = r .«buckets_read»; records-compared = r .«records_compared» }
+
+-- the three lookup areas as the areas of a call that is lent no others
+abbrev pub lookup-areas : List ℕ → List ℕ → List ℕ → Areas
+lookup-areas clipped buckets side = record { ledger = []; true-counts = []; clipped-counts = clipped; buckets = buckets; side-store = side }
+
+-- what both searches judge first: 1, 2 and 3
+unfoldable pub judged-of : plain.Settings → List ℕ → List ℕ → List ℕ → List ℕ → Judged
+judged-of t clipped buckets side key =
+    cond (not (plain.allowed t)) (Refused 1)
+    (cond (not (all (λ x. x) (lookup-lengths (plain.card-of t) (lookup-areas clipped buckets side)))) (Refused 2)
+    (cond (not (eqb (length key) (plain.card-of t .width))) (Refused 3) (Ready (code t))))
+
+-- the same with a lent table of the hash: 256 numbers for each byte of a key, else 2
+unfoldable pub judged-lent : List ℕ → plain.Settings → List ℕ → List ℕ → List ℕ → List ℕ → Judged
+judged-lent table t clipped buckets side key =
+    cond (not (plain.allowed t)) (Refused 1)
+    (cond (not (eqb (length table) (256 * plain.card-of t .width))) (Refused 2) (judged-of t clipped buckets side key))
+
+-- what a search with a lent table answers: a table of another length is refused with 2 (after 1); with the right table it is the search call's answer.
+-- On another table of the right length it answers some way, and alters nothing
+pub record LentAnswer (table : List ℕ) (t : plain.Settings) (clipped buckets side key : List ℕ) (x : plain-lookup.Answer) : Type 0 where
+  pub other-length : (length table ≡ 256 * plain.card-of t .width → ⊥) → x ≡ plain-lookup.bare (cond (plain.allowed t) 2 1)
+  pub right-table : length table ≡ 256 * plain.card-of t .width → TableRight (plain.card-of t .width) table
+      → _≡_ {A = Step Areas} (record { reply = answered x; state = lookup-areas clipped buckets side }) (perform t 0 (search key) (lookup-areas clipped buckets side))

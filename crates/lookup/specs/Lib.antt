@@ -1,0 +1,6 @@
+pub mod Choosing
+pub mod Scanning
+pub mod Places
+pub mod Answers
+pub mod Parts
+pub mod Tallies

@@ -1,0 +1,45 @@
+-- Where a search looks, as the code holds it. Assumes nothing.
+use mathlib.Core.Path.{_≡_}
+use mathlib.Core.Bool.{Bool, true, false, not, _&&_}
+use mathlib.Core.List.{List}
+use Prim.Native.Nat.{ℕ, _+_, _-_, _≤_}
+use lib.Dec.{eqb}
+use lib.ListN.{length, take, drop, getD}
+use Rattle.theory.specs.Placing.{chosen}
+use Rattle.theory.specs.Settings.{Settings, Card, card-of, allowed, bucket-size, clipped-length, buckets-length, side-length}
+use Rattle.theory.specs.Lookup as plain
+use Rattle.lookup.specs.declared.placing.Place.{Place}
+use Rattle.lookup.specs.declared.placing.Place.the-variants.{Invalid, Nowhere, Bucket, Side}
+
+-- what the functions inside are lent: allowed settings, and lookup areas of their lengths
+pub record Lent (t : Settings) (clipped buckets side : List ℕ) : Type 0 where
+  pub ok : allowed t ≡ true
+  pub clipped-size : length clipped ≡ clipped-length (card-of t)
+  pub buckets-size : length buckets ≡ buckets-length (card-of t)
+  pub side-size : length side ≡ side-length (card-of t)
+
+-- a place of the code as the definition has it: the records of a bucket stand after its mark, those of the side store after its count
+abbrev pub place-of : Card → List ℕ → List ℕ → Place → plain.Place
+place-of s buckets side Invalid = plain.invalid
+place-of s buckets side Nowhere = plain.nowhere
+place-of s buckets side (Bucket from records) = plain.among (take (bucket-size s - 1) (drop from buckets)) records 1
+place-of s buckets side (Side records read) = plain.among (drop 2 side) records read
+
+-- the records lie inside the areas, and at most one bucket was read
+abbrev pub Inside : Settings → Place → Type 0
+Inside t Invalid = Unit {0}
+Inside t Nowhere = Unit {0}
+Inside t (Bucket from records) = (from + (bucket-size (card-of t) - 1) ≤ buckets-length (card-of t)) × (records ≤ t .room)
+Inside t (Side records read) = (records ≤ t .side-places) × (read ≤ 1)
+
+-- a search ends in a bucket: the counters send the key to one, and its mark is not 255
+unfoldable pub goes-to-bucket : Card → List ℕ → List ℕ → List ℕ → Bool
+goes-to-bucket s clipped buckets key =
+    plain.reads-bucket s clipped key && not (eqb (getD (plain.bucket-part s buckets (chosen s (plain.counter clipped) key)) 0 0) 255)
+
+-- a place in the buckets or in the side store, as the test says
+abbrev pub Goes : Bool → Place → Type 0
+Goes b Invalid = Unit {0}
+Goes b Nowhere = Unit {0}
+Goes b (Bucket from records) = b ≡ true
+Goes b (Side records read) = b ≡ false

@@ -1,0 +1,184 @@
+// Search: the answer with its counts.
+use crate::judging::Judged;
+use crate::judging::judge;
+use crate::judging::judge_lent;
+use crate::placing::Place;
+use crate::placing::find_place;
+use crate::scanning::scan;
+use settings::Settings;
+ghost use mathlib.Core.Path.{_≡_};
+ghost use mathlib.Core.Bool.{true};
+ghost use Prim.Native.Nat.{_+_, _-_, _*_, _≤_};
+ghost use lib.ListN.{length, take, drop};
+ghost use Rattle.theory.specs.Records.{records, find, comparisons};
+ghost use Rattle.theory.specs.Settings.{allowed, card-of, bucket-size, buckets-length, side-length};
+ghost use Rattle.theory.specs.Lookup as plain;
+ghost use Rattle.theory.specs.Layout.{Areas};
+ghost use Rattle.theory.specs.Ledger.{Step, answered};
+ghost use Rattle.theory.specs.Ledger as calls;
+ghost use Rattle.theory.specs.Calls.{perform};
+ghost use Rattle.settings.specs.Checked.{paper};
+ghost use Rattle.lookup.specs.Choosing.{card-at};
+ghost use Rattle.lookup.specs.Places.{Lent};
+ghost use Rattle.lookup.specs.Answers.{answer-of, lookup-areas, LentAnswer};
+
+// The answer's number (0 held, 100 absent, else the refusal), class, buckets read, records compared.
+pub struct Answer {
+    pub number: u32,
+    pub class: u32,
+    pub buckets_read: u32,
+    pub records_compared: u32,
+}
+
+// The number, with class and counts zero.
+pub fn bare(number: u32) -> Answer
+    ensures { λ r. ⌜ answer-of r ≡ plain.bare number ⌝ }
+{
+    Answer {
+        number,
+        class: 0,
+        buckets_read: 0,
+        records_compared: 0,
+    }
+}
+
+// The answer of a scan of some records.
+fn compare(place: &[u8], n: usize, key: &[u8], read: u32) -> Answer
+    requires { ⌜ (n * (length (now key) + 4) ≤ length (now place)) × (length (now key) ≤ 64) × (n ≤ 4096) ⌝ }
+    ensures { λ r. ⌜ answer-of r ≡ plain.answer (find (now (key .entry)) (records (length (now (key .entry))) n (now (place .entry)))) read
+        (comparisons (now (key .entry)) (records (length (now (key .entry))) n (now (place .entry)))) ⌝ }
+{
+    let hit = scan(place, n, key);
+    let compared = hit.compared as u32;
+    if hit.found {
+        let at = hit.at + key.len();
+        return Answer {
+            number: 0,
+            class: ledger::bytes::class_at(place, at),
+            buckets_read: read,
+            records_compared: compared,
+        };
+    }
+    Answer {
+        number: 100,
+        class: 0,
+        buckets_read: read,
+        records_compared: compared,
+    }
+}
+
+// The records of a bucket, which start after its mark.
+fn compare_bucket(s: Settings, buckets: &[u8], from: usize, n: usize, key: &[u8]) -> Answer
+    requires { ⌜ (allowed (paper s) ≡ true) × (length (now buckets) ≡ buckets-length (card-of (paper s))) × (length (now key) ≡ card-of (paper s) .width)
+        × (from + (bucket-size (card-of (paper s)) - 1) ≤ length (now buckets)) × (n ≤ s .room) ⌝ }
+    ensures { λ r. ⌜ answer-of r ≡ plain.answer-at (card-of (paper s)) (now (key .entry))
+        (plain.among (take (bucket-size (card-of (paper s)) - 1) (drop from (now (buckets .entry)))) n 1) ⌝ }
+{
+    let end = from + (s.bucket_size() - 1);
+    compare(&buckets[from..end], n, key, 1)
+}
+
+// The records of the side store, which start after its count.
+fn compare_side(s: Settings, side: &[u8], n: usize, read: u32, key: &[u8]) -> Answer
+    requires { ⌜ (allowed (paper s) ≡ true) × (length (now side) ≡ side-length (card-of (paper s))) × (length (now key) ≡ card-of (paper s) .width)
+        × (n ≤ s .«side_places») ⌝ }
+    ensures { λ r. ⌜ answer-of r ≡ plain.answer-at (card-of (paper s)) (now (key .entry)) (plain.among (drop 2 (now (side .entry))) n read) ⌝ }
+{
+    compare(&side[2..], n, key, read)
+}
+
+// Search for a key whose H is h, whichever way it was hashed.
+pub fn search_at(
+    s: Settings,
+    h: u64,
+    clipped: &[u8],
+    buckets: &[u8],
+    side: &[u8],
+    key: &[u8],
+) -> Answer
+    requires { ⌜ Lent (paper s) (now clipped) (now buckets) (now side) × (length (now key) ≡ card-of (paper s) .width) ⌝ }
+    ensures { λ r. ⌜ answer-of r ≡ plain.search-areas (card-at (paper s) h) (now (clipped .entry)) (now (buckets .entry)) (now (side .entry)) (now (key .entry)) ⌝ }
+{
+    let place = find_place(s, h, clipped, buckets, side);
+    match place {
+        Place::Invalid => bare(5),
+        Place::Nowhere => bare(100),
+        Place::Bucket { from, records } => compare_bucket(s, buckets, from, records, key),
+        Place::Side { records, read } => compare_side(s, side, records, read, key),
+    }
+}
+
+// Search, whole by itself: the key is hashed from the rows.
+pub fn search(
+    p: u64,
+    k: u64,
+    room: u64,
+    top: u64,
+    capacity: u64,
+    side_places: u64,
+    clipped: &[u8],
+    buckets: &[u8],
+    side: &[u8],
+    key: &[u8],
+) -> Answer
+    ensures { λ r. ⌜ _≡_ {A = Step Areas} (record { reply = answered (answer-of r); state = lookup-areas (now (clipped .entry)) (now (buckets .entry)) (now (side .entry)) })
+        (perform (record { p = p; k = k; room = room; top = top; capacity = capacity; side-places = «side_places» }) 0 (calls.search (now (key .entry))) (lookup-areas (now (clipped .entry)) (now (buckets .entry)) (now (side .entry)))) ⌝ }
+{
+    let judged = judge(
+        p,
+        k,
+        room,
+        top,
+        capacity,
+        side_places,
+        clipped,
+        buckets,
+        side,
+        key,
+    );
+    match judged {
+        Judged::Refused(number) => bare(number),
+        Judged::Ready(s) => {
+            let h = hash::h_rows(key);
+            search_at(s, h, clipped, buckets, side, key)
+        }
+    }
+}
+
+// Search with a lent table of the hash: the same where the table is right, and safe on any other.
+pub fn search_lent(
+    table: &[u64],
+    p: u64,
+    k: u64,
+    room: u64,
+    top: u64,
+    capacity: u64,
+    side_places: u64,
+    clipped: &[u8],
+    buckets: &[u8],
+    side: &[u8],
+    key: &[u8],
+) -> Answer
+    ensures { λ r. ⌜ LentAnswer (now (table .entry)) (record { p = p; k = k; room = room; top = top; capacity = capacity; side-places = «side_places» }) (now (clipped .entry)) (now (buckets .entry)) (now (side .entry)) (now (key .entry)) (answer-of r) ⌝ }
+{
+    let judged = judge_lent(
+        table,
+        p,
+        k,
+        room,
+        top,
+        capacity,
+        side_places,
+        clipped,
+        buckets,
+        side,
+        key,
+    );
+    match judged {
+        Judged::Refused(number) => bare(number),
+        Judged::Ready(s) => {
+            let h = hash::h_lent(table, key);
+            search_at(s, h, clipped, buckets, side, key)
+        }
+    }
+}

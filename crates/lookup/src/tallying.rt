@@ -1,0 +1,206 @@
+// Tally: what the areas hold, counted.
+use crate::counters::counter;
+use settings::Checked;
+use settings::Settings;
+ghost use mathlib.Core.Path.{_≡_};
+ghost use mathlib.Core.Bool.{true, false, not, cond, _&&_};
+ghost use mathlib.Core.List.{List};
+ghost use Prim.Native.Nat.{ℕ, _+_, _*_, _≤_, _<_};
+ghost use lib.Dec.{eqb, ltb};
+ghost use lib.ListN.{length};
+ghost use Rattle.theory.specs.Lists.{any, upto, sum, filter};
+ghost use Rattle.theory.specs.Settings.{allowed, card-of, ledger-length, clipped-length, buckets-length, side-length};
+ghost use Rattle.theory.specs.Records.{count-of};
+ghost use Rattle.theory.specs.Layout.{Areas};
+ghost use Rattle.theory.specs.Lookup as plain;
+ghost use Rattle.theory.specs.Ledger as ledgers;
+ghost use Rattle.theory.specs.Ledger.{Step, totalled};
+ghost use Rattle.theory.specs.Calls.{marks, lookup-invalid, tally-areas, perform};
+ghost use Rattle.settings.specs.Checked.{paper};
+ghost use Rattle.lookup.specs.Places.{Lent};
+ghost use Rattle.lookup.specs.Tallies.{totals-of, read-areas};
+
+// The answer's number, records in buckets, records in the side store, buckets marked 255, fill.
+pub struct Totals {
+    pub number: u32,
+    pub in_buckets: u32,
+    pub in_side: u32,
+    pub marked_255: u32,
+    pub fill: u32,
+}
+
+fn no_totals(number: u32) -> Totals
+    ensures { λ r. ⌜ totals-of r ≡ ledgers.no-totals number ⌝ }
+{
+    Totals {
+        number,
+        in_buckets: 0,
+        in_side: 0,
+        marked_255: 0,
+        fill: 0,
+    }
+}
+
+// No clipped count is above T.
+fn counters_valid(s: Settings, clipped: &[u8]) -> bool
+    requires { ⌜ (allowed (paper s) ≡ true) × (length (now clipped) ≡ clipped-length (card-of (paper s))) ⌝ }
+    ensures { λ r. ⌜ r ≡ not (any (λ b. ltb (s .top) (plain.counter (now (clipped .entry)) b)) (upto 0 (card-of (paper s) .buckets))) ⌝ }
+{
+    let m = s.buckets();
+    let top = s.top;
+    let mut b: usize = 0;
+    while b < m {
+        let c = counter(clipped, b);
+        if top < (c.0 as usize) {
+            return false;
+        }
+        b += 1;
+    }
+    true
+}
+
+// No mark is above B but 255.
+fn marks_valid(s: Settings, buckets: &[u8]) -> bool
+    requires { ⌜ (allowed (paper s) ≡ true) × (length (now buckets) ≡ buckets-length (card-of (paper s))) ⌝ }
+    ensures { λ r. ⌜ r ≡ not (any (λ x. ltb (s .room) x && not (eqb x 255)) (marks (card-of (paper s)) (now (buckets .entry)))) ⌝ }
+{
+    let m = s.buckets();
+    let size = s.bucket_size();
+    let room = s.room;
+    let mut b: usize = 0;
+    let mut at: usize = 0;
+    while b < m {
+        let mark = buckets[at] as usize;
+        if (room < mark) & (mark != 255) {
+            return false;
+        }
+        at += size;
+        b += 1;
+    }
+    true
+}
+
+// The sum of the marks other than 255, and how many are 255.
+struct Marks {
+    in_buckets: u32,
+    marked_255: u32,
+}
+
+fn with_mark(sums: Marks, mark: u8) -> Marks
+    requires { ⌜ (sums .«in_buckets» ≤ 2000000) × (sums .«marked_255» ≤ 2000000) ⌝ }
+    ensures { λ r. ⌜ (r .«in_buckets» ≡ sums .«in_buckets» + cond (eqb mark 255) 0 mark) × (r .«marked_255» ≡ sums .«marked_255» + cond (eqb mark 255) 1 0) ⌝ }
+{
+    if mark == 255 {
+        return Marks {
+            in_buckets: sums.in_buckets,
+            marked_255: sums.marked_255 + 1,
+        };
+    }
+    Marks {
+        in_buckets: sums.in_buckets + (mark as u32),
+        marked_255: sums.marked_255,
+    }
+}
+
+fn sum_marks(s: Settings, buckets: &[u8]) -> Marks
+    requires { ⌜ (allowed (paper s) ≡ true) × (length (now buckets) ≡ buckets-length (card-of (paper s))) ⌝ }
+    ensures { λ r. ⌜ (r .«in_buckets» ≡ sum (filter (λ x. not (eqb x 255)) (marks (card-of (paper s)) (now (buckets .entry)))))
+        × (r .«marked_255» ≡ length (filter (λ x. eqb x 255) (marks (card-of (paper s)) (now (buckets .entry))))) ⌝ }
+{
+    let m = s.buckets();
+    let size = s.bucket_size();
+    let mut sums = Marks {
+        in_buckets: 0,
+        marked_255: 0,
+    };
+    let mut b: usize = 0;
+    let mut at: usize = 0;
+    while b < m {
+        sums = with_mark(sums, buckets[at]);
+        at += size;
+        b += 1;
+    }
+    sums
+}
+
+// "5, in what a search or tally reads, a clipped count above T, a mark above B other than 255, a side count above S"
+fn lookup_valid(s: Settings, clipped: &[u8], buckets: &[u8], side: &[u8]) -> bool
+    requires { ⌜ Lent (paper s) (now clipped) (now buckets) (now side) ⌝ }
+    ensures { λ r. ⌜ ((ledger : List ℕ) → r ≡ not (lookup-invalid (card-of (paper s)) (read-areas ledger (now (clipped .entry)) (now (buckets .entry)) (now (side .entry))))) ⌝ }
+{
+    if !counters_valid(s, clipped) {
+        return false;
+    }
+    if !marks_valid(s, buckets) {
+        return false;
+    }
+    ledger::bytes::count_at(side) <= s.side_places
+}
+
+// "100 × ledger count / m to the nearest whole number, a half going up"
+fn fill(n: usize, m: usize) -> u32
+    requires { ⌜ (n ≤ 65535) × (16 ≤ m) × (m ≤ 4096) ⌝ }
+    ensures { λ r. ⌜ r ≡ ledgers.fill-of n m ⌝ }
+{
+    ((200 * n + m) / (2 * m)) as u32
+}
+
+// The four numbers of areas within the rules.
+fn count_all(s: Settings, ledger: &[u8], buckets: &[u8], side: &[u8]) -> Totals
+    requires { ⌜ (allowed (paper s) ≡ true) × (length (now ledger) ≡ ledger-length (card-of (paper s)))
+        × (length (now buckets) ≡ buckets-length (card-of (paper s))) × (length (now side) ≡ side-length (card-of (paper s))) ⌝ }
+    ensures { λ r. ⌜ totals-of r ≡ ledgers.totals-of (marks (card-of (paper s)) (now (buckets .entry))) (count-of (now (side .entry))) (count-of (now (ledger .entry)))
+        (card-of (paper s) .buckets) ⌝ }
+{
+    let sums = sum_marks(s, buckets);
+    Totals {
+        number: 0,
+        in_buckets: sums.in_buckets,
+        in_side: ledger::bytes::count_at(side) as u32,
+        marked_255: sums.marked_255,
+        fill: fill(ledger::bytes::count_at(ledger), s.buckets()),
+    }
+}
+
+// Tally on allowed settings and areas of their lengths: 4, then 5, then the four numbers.
+fn tally_lent(s: Settings, ledger: &[u8], clipped: &[u8], buckets: &[u8], side: &[u8]) -> Totals
+    requires { ⌜ Lent (paper s) (now clipped) (now buckets) (now side) × (length (now ledger) ≡ ledger-length (card-of (paper s))) ⌝ }
+    ensures { λ r. ⌜ totals-of r ≡ tally-areas (card-of (paper s)) (read-areas (now (ledger .entry)) (now (clipped .entry)) (now (buckets .entry)) (now (side .entry))) ⌝ }
+{
+    if !ledger::valid(s, ledger) {
+        return no_totals(4);
+    }
+    if !lookup_valid(s, clipped, buckets, side) {
+        return no_totals(5);
+    }
+    count_all(s, ledger, buckets, side)
+}
+
+pub fn tally(
+    p: u64,
+    k: u64,
+    room: u64,
+    top: u64,
+    capacity: u64,
+    side_places: u64,
+    ledger: &[u8],
+    clipped: &[u8],
+    buckets: &[u8],
+    side: &[u8],
+) -> Totals
+    ensures { λ r. ⌜ _≡_ {A = Step Areas} (record { reply = totalled (totals-of r); state = read-areas (now (ledger .entry)) (now (clipped .entry)) (now (buckets .entry)) (now (side .entry)) })
+        (perform (record { p = p; k = k; room = room; top = top; capacity = capacity; side-places = «side_places» }) 0 ledgers.tally (read-areas (now (ledger .entry)) (now (clipped .entry)) (now (buckets .entry)) (now (side .entry)))) ⌝ }
+{
+    let checked = Settings::new(p, k, room, top, capacity, side_places);
+    let Checked::Allowed(s) = checked else {
+        return no_totals(1);
+    };
+    let ledger_right = ledger.len() == s.ledger_length();
+    let clipped_right = clipped.len() == s.clipped_length();
+    let buckets_right = buckets.len() == s.buckets_length();
+    let side_right = side.len() == s.side_length();
+    if !(ledger_right & (clipped_right & (buckets_right & side_right))) {
+        return no_totals(2);
+    }
+    tally_lent(s, ledger, clipped, buckets, side)
+}
