@@ -2,7 +2,6 @@
 #define _POSIX_C_SOURCE 199309L
 #include "flow.h"
 #include "plain.h"
-#include <inttypes.h>
 #include <stdio.h>
 #include <stdlib.h>
 #include <time.h>
@@ -88,10 +87,13 @@ int main(void)
     for (int way = 0; way < WAYS; way++) {
         t[way] = median(times[way]);
     }
-    printf("%-26s %10s %10s\n", "hash of a 13-byte key", "ns a key", "to plain C");
-    printf("%-26s %10.2f %10.2f\n", "flow_hash_lent", t[0], t[0] / t[1]);
-    printf("%-26s %10.2f %10.2f\n", "plain C, the same table", t[1], 1.0);
-    printf("%-26s %10.2f %10.2f\n", "flow_hash (no table)", t[2], t[2] / t[1]);
-    printf("sums %016" PRIx64 " %016" PRIx64 " %016" PRIx64 "\n", sums[0], sums[1], sums[2]);
-    return sums[0] == sums[1] && sums[0] == sums[2] ? 0 : 1;
+    if (sums[0] != sums[1] || sums[0] != sums[2]) {
+        printf("the hashes differ\n");
+        return 1;
+    }
+    printf("| hash of a 13-byte key | ns a key | to plain C |\n|---|---|---|\n");
+    printf("| flow_hash_lent | %.2f | %.2f |\n", t[0], t[0] / t[1]);
+    printf("| plain C, the same table | %.2f | %.2f |\n", t[1], 1.0);
+    printf("| flow_hash (no table) | %.2f | %.2f |\n", t[2], t[2] / t[1]);
+    return 0;
 }

@@ -11,10 +11,21 @@
  *   capacity     1 to 4096 flows held
  *   side_places  0 to 64 records in the side store
  *
- * A door answers 0, or the number of a refusal; where several apply, the lowest. A refused call alters no area.
+ * A door answers 0, or the number of a refusal; where several apply, the lowest. A search that finds nothing answers 100. A refused call
+ * alters no area.
  *   1  a setting is out of range
  *   2  a lent area is not of its length
  *   3  a key is not of 13 bytes
+ *   4  the ledger is damaged: its count is above the capacity, its keys do not rise, or a byte after its last record is not zero
+ *   5  what is read of the lookup areas is damaged: a clipped count is above the top count, a mark is above the room and not 255, or the
+ *      side count is above the side places
+ *
+ * The areas that hold a table, with a record of 17 bytes: a key of 13, then its class in 4, high byte first:
+ *   ledger          2 + 17 * capacity bytes: a two-byte count, high byte first, records in rising key order, zeros
+ *   clipped counts  m / 2 bytes: bucket b in byte b / 2, an even b in the low four bits
+ *   buckets         m times 1 + 17 * room bytes: a mark, then places for records
+ *   side store      2 + 17 * side_places bytes, shaped as the ledger
+ * The last three are the lookup areas.
  */
 #ifndef FLOW_H
 #define FLOW_H
@@ -36,7 +47,7 @@ uint32_t flow_settings_check(uint64_t p, uint64_t k, uint64_t room, uint64_t top
 uint32_t flow_area_lengths(uint64_t p, uint64_t k, uint64_t room, uint64_t top, uint64_t capacity, uint64_t side_places,
                            uint64_t *lengths, size_t lengths_length);
 
-/* Fills a table that flow_hash_lent reads. Lent: table, of 3328 numbers.
+/* Fills a table that flow_hash_lent and flow_search_lent read. Lent: table, of 3328 numbers.
  * 0: number 256 * a + v of the table is what byte value v at key byte a adds to H.
  * 2: table is not of 3328 numbers. */
 uint32_t flow_hash_table(uint64_t *table, size_t table_length);
@@ -60,6 +71,36 @@ uint32_t flow_hash_lent(const uint64_t *table, size_t table_length, const uint8_
 uint32_t flow_key_buckets(uint64_t p, uint64_t k, uint64_t room, uint64_t top, uint64_t capacity, uint64_t side_places,
                           const uint8_t *key, size_t key_length, uint16_t *hashes, size_t hashes_length, uint16_t *numbers,
                           size_t numbers_length);
+
+/* The class of a flow, for the forwarding driver. It only reads, and reads at most one bucket. Lent: the lookup areas, of their lengths
+ * under the settings, with any contents; key, of 13 bytes.
+ * It returns answer * 2^32 + class; the class is zero unless the answer is 0.
+ *   0: the flow is held, with this class. 100: it is absent.
+ *   1: a setting is out of range. 2: clipped, buckets or side is not of its length. 3: key is not of 13 bytes.
+ *   5: a counter of the key is above top, the mark of the bucket that is read is above room and not 255, or the side store is compared and
+ *      its count is above side_places. */
+uint64_t flow_search(uint64_t p, uint64_t k, uint64_t room, uint64_t top, uint64_t capacity, uint64_t side_places,
+                     const uint8_t *clipped, size_t clipped_length, const uint8_t *buckets, size_t buckets_length,
+                     const uint8_t *side, size_t side_length, const uint8_t *key, size_t key_length);
+
+/* flow_search with a lent table: faster, for a driver that keeps one. Lent: table, of 3328 numbers, which flow_hash_table filled; the rest
+ * as for flow_search. On another table the answer is 0, 100 or 5, and the call is safe.
+ * 2 also: table is not of 3328 numbers. */
+uint64_t flow_search_lent(const uint64_t *table, size_t table_length, uint64_t p, uint64_t k, uint64_t room, uint64_t top,
+                          uint64_t capacity, uint64_t side_places, const uint8_t *clipped, size_t clipped_length,
+                          const uint8_t *buckets, size_t buckets_length, const uint8_t *side, size_t side_length,
+                          const uint8_t *key, size_t key_length);
+
+/* Counts what a table holds. Lent: ledger and the lookup areas, of their lengths under the settings, which are only read; totals, of 4
+ * numbers.
+ * 0: totals holds how many records are in buckets, how many in the side store, how many buckets are marked 255, and the fill: 100 * the
+ *    ledger's count / m, to the nearest whole number, a half going up.
+ * 1: a setting is out of range. 2: ledger, clipped, buckets or side is not of its length, or totals not of 4 numbers.
+ * 4: the ledger is damaged. 5: a lookup area is, in any counter, any mark or the side count. */
+uint32_t flow_tally(uint64_t p, uint64_t k, uint64_t room, uint64_t top, uint64_t capacity, uint64_t side_places,
+                    const uint8_t *ledger, size_t ledger_length, const uint8_t *clipped, size_t clipped_length,
+                    const uint8_t *buckets, size_t buckets_length, const uint8_t *side, size_t side_length, uint32_t *totals,
+                    size_t totals_length);
 
 #ifdef __cplusplus
 }

@@ -1,5 +1,5 @@
-//! The doors as they stand. Each answers 0 or the number of a refusal, on every input; a refused call alters nothing.
-//! Settings stand in the order p, k, room, top, capacity, side places.
+//! The doors as they stand. Each answers 0 or the number of a refusal, on every input, and a search also 100 for absent; a refused call
+//! alters nothing. Settings stand in the order p, k, room, top, capacity, side places.
 
 // What the static library defines. Nothing compares these lines with the Rattle source: they are those of include/flow.h. A slice
 // passes as a pointer and its length.
@@ -51,6 +51,61 @@ mod c {
             hashes_length: usize,
             numbers: *mut u16,
             numbers_length: usize,
+        ) -> u32;
+
+        pub fn flow_search(
+            p: u64,
+            k: u64,
+            room: u64,
+            top: u64,
+            capacity: u64,
+            side_places: u64,
+            clipped: *const u8,
+            clipped_length: usize,
+            buckets: *const u8,
+            buckets_length: usize,
+            side: *const u8,
+            side_length: usize,
+            key: *const u8,
+            key_length: usize,
+        ) -> u64;
+
+        pub fn flow_search_lent(
+            table: *const u64,
+            table_length: usize,
+            p: u64,
+            k: u64,
+            room: u64,
+            top: u64,
+            capacity: u64,
+            side_places: u64,
+            clipped: *const u8,
+            clipped_length: usize,
+            buckets: *const u8,
+            buckets_length: usize,
+            side: *const u8,
+            side_length: usize,
+            key: *const u8,
+            key_length: usize,
+        ) -> u64;
+
+        pub fn flow_tally(
+            p: u64,
+            k: u64,
+            room: u64,
+            top: u64,
+            capacity: u64,
+            side_places: u64,
+            ledger: *const u8,
+            ledger_length: usize,
+            clipped: *const u8,
+            clipped_length: usize,
+            buckets: *const u8,
+            buckets_length: usize,
+            side: *const u8,
+            side_length: usize,
+            totals: *mut u32,
+            totals_length: usize,
         ) -> u32;
     }
 }
@@ -123,6 +178,95 @@ pub fn key_buckets(settings: [u64; 6], key: &[u8], hashes: &mut [u16], numbers: 
             hashes.len(),
             numbers.as_mut_ptr(),
             numbers.len(),
+        )
+    }
+}
+
+/// The forwarding driver's search: answer x 2^32 + class. Answer 0 held; 100 absent; 1; 2 if an area is not of its length; 3 if the key is
+/// not of 13 bytes; 5 if what is read is damaged. Class zero unless held.
+pub fn search(settings: [u64; 6], clipped: &[u8], buckets: &[u8], side: &[u8], key: &[u8]) -> u64 {
+    let [p, k, room, top, capacity, side_places] = settings;
+    unsafe {
+        c::flow_search(
+            p,
+            k,
+            room,
+            top,
+            capacity,
+            side_places,
+            clipped.as_ptr(),
+            clipped.len(),
+            buckets.as_ptr(),
+            buckets.len(),
+            side.as_ptr(),
+            side.len(),
+            key.as_ptr(),
+            key.len(),
+        )
+    }
+}
+
+/// [`search`] with the table of [`hash_table`]; 2 also if that is not of 3,328 numbers.
+pub fn search_lent(
+    table: &[u64],
+    settings: [u64; 6],
+    clipped: &[u8],
+    buckets: &[u8],
+    side: &[u8],
+    key: &[u8],
+) -> u64 {
+    let [p, k, room, top, capacity, side_places] = settings;
+    unsafe {
+        c::flow_search_lent(
+            table.as_ptr(),
+            table.len(),
+            p,
+            k,
+            room,
+            top,
+            capacity,
+            side_places,
+            clipped.as_ptr(),
+            clipped.len(),
+            buckets.as_ptr(),
+            buckets.len(),
+            side.as_ptr(),
+            side.len(),
+            key.as_ptr(),
+            key.len(),
+        )
+    }
+}
+
+/// Records in buckets, records in the side store, buckets marked 255, and fill; 1; 2 if an area is not of its length, or `totals` not of
+/// 4 numbers; 4 if the ledger is damaged; 5 if a lookup area is.
+pub fn tally(
+    settings: [u64; 6],
+    ledger: &[u8],
+    clipped: &[u8],
+    buckets: &[u8],
+    side: &[u8],
+    totals: &mut [u32],
+) -> u32 {
+    let [p, k, room, top, capacity, side_places] = settings;
+    unsafe {
+        c::flow_tally(
+            p,
+            k,
+            room,
+            top,
+            capacity,
+            side_places,
+            ledger.as_ptr(),
+            ledger.len(),
+            clipped.as_ptr(),
+            clipped.len(),
+            buckets.as_ptr(),
+            buckets.len(),
+            side.as_ptr(),
+            side.len(),
+            totals.as_mut_ptr(),
+            totals.len(),
         )
     }
 }

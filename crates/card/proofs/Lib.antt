@@ -1,2 +1,3 @@
 mod AreaLaws
 mod DoorLaws
+mod ReadingLaws

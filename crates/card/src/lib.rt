@@ -12,6 +12,9 @@ ghost use Rattle.theory.specs.Settings.{allowed, card-of};
 ghost use Rattle.settings.specs.Checked.{paper};
 ghost use Rattle.card.specs.Doors.{Filled, settings-check-of, lengths-of, area-lengths-of, hash-table-of, hash-of, HashedLent, first-hashes, Numbered, key-buckets-of};
 
+pub mod reading; // reading.rt: the doors that only read
+pub mod updating; // updating.rt: the doors that write
+
 // The settings' verdict: 0, or 1 when one is out of range.
 #[no_mangle]
 pub extern "C" fn flow_settings_check(

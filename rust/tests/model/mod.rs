@@ -1,7 +1,14 @@
 //! Document 01 in plain Rust, written from the paper alone. It shares no code with the doors or with the crate over them.
+//! Clear before fast: a layout takes time in proportion to records and buckets, all else is done as the paper says it.
 
 // each test takes the part of the model that it needs
 #![allow(dead_code)]
 
+pub mod card;
 pub mod hash;
+pub mod layout;
+pub mod ledger;
+pub mod lookup;
+pub mod placing;
+pub mod records;
 pub mod settings;

@@ -1,0 +1,105 @@
+#include "lay.h"
+#include <stdlib.h>
+#include <string.h>
+
+enum { KEY = 13, RECORD = 17, MOST_FLOWS = 4096, MOST_BUCKETS = 4096 };
+
+static int by_key(const void *a, const void *b) { return memcmp(a, b, KEY); }
+
+static void put(uint8_t *to, const uint8_t *key, uint32_t class)
+{
+    memcpy(to, key, KEY);
+    for (int i = 0; i < 4; i++) {
+        to[KEY + i] = (uint8_t)(class >> 8 * (3 - i));
+    }
+}
+
+/* The key's bucket numbers, repeats dropped; how many. */
+static size_t numbers_of(const struct settings *set, const uint64_t *table, const uint8_t *key, size_t *numbers)
+{
+    uint64_t h = 0;
+    size_t n = 0;
+    for (size_t a = 0; a < KEY; a++) {
+        h ^= table[256 * a + key[a]];
+    }
+    for (size_t j = 0; j < set->k; j++) {
+        size_t b = h >> 16 * j & (((size_t)1 << set->p) - 1), i = 0;
+        while (i < n && numbers[i] != b) {
+            i++;
+        }
+        if (i == n) {
+            numbers[n++] = b;
+        }
+    }
+    return n;
+}
+
+int lay(const struct settings *set, const uint64_t *table, uint8_t keys[][13], uint32_t *classes, struct lookup *at)
+{
+    static uint8_t records[MOST_FLOWS][RECORD];
+    static size_t true_counts[MOST_BUCKETS], choosers[MOST_BUCKETS], choice[MOST_FLOWS];
+    const size_t m = (size_t)1 << set->p, bucket_size = 1 + RECORD * set->room, nowhere = m;
+    size_t numbers[4];
+
+    for (size_t i = 0; i < set->flows; i++) {
+        put(records[i], keys[i], classes[i]);
+    }
+    qsort(records, set->flows, RECORD, by_key);
+    memset(true_counts, 0, sizeof true_counts);
+    memset(choosers, 0, sizeof choosers);
+    for (size_t i = 0; i < set->flows; i++) {
+        const uint8_t *r = records[i];
+        memcpy(keys[i], r, KEY);
+        classes[i] = (uint32_t)r[13] << 24 | (uint32_t)r[14] << 16 | (uint32_t)r[15] << 8 | r[16];
+        size_t n = numbers_of(set, table, r, numbers);
+        for (size_t j = 0; j < n; j++) {
+            true_counts[numbers[j]]++;
+        }
+    }
+    /* the least count below T and, of its buckets, the lowest */
+    for (size_t i = 0; i < set->flows; i++) {
+        size_t n = numbers_of(set, table, records[i], numbers), least = set->top, best = nowhere;
+        for (size_t j = 0; j < n; j++) {
+            size_t b = numbers[j], count = true_counts[b];
+            if (count < least || (best != nowhere && count == least && b < best)) {
+                least = count;
+                best = b;
+            }
+        }
+        choice[i] = best;
+        if (best != nowhere) {
+            choosers[best]++;
+        }
+    }
+
+    free(at->clipped);
+    free(at->buckets);
+    free(at->side);
+    at->clipped_length = m / 2;
+    at->buckets_length = m * bucket_size;
+    at->side_length = 2 + RECORD * set->side_places;
+    at->clipped = calloc(at->clipped_length, 1);
+    at->buckets = calloc(at->buckets_length, 1);
+    at->side = calloc(at->side_length, 1);
+    if (at->clipped == NULL || at->buckets == NULL || at->side == NULL) {
+        return 1;
+    }
+    for (size_t b = 0; b < m; b++) {
+        size_t count = true_counts[b] < set->top ? true_counts[b] : set->top;
+        at->clipped[b / 2] = (uint8_t)(at->clipped[b / 2] | count << 4 * (b % 2));
+        at->buckets[b * bucket_size] = choosers[b] > set->room ? 255 : 0;
+    }
+    size_t on_side = 0;
+    for (size_t i = 0; i < set->flows; i++) {
+        uint8_t *bucket = choice[i] == nowhere ? NULL : at->buckets + choice[i] * bucket_size;
+        if (bucket != NULL && bucket[0] != 255) {
+            memcpy(bucket + 1 + RECORD * bucket[0]++, records[i], RECORD);
+        } else if (on_side < set->side_places) {
+            memcpy(at->side + 2 + RECORD * on_side++, records[i], RECORD);
+        } else {
+            return 1;
+        }
+    }
+    at->side[1] = (uint8_t)on_side;
+    return 0;
+}

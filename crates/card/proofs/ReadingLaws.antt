@@ -1,0 +1,48 @@
+-- Laws of the doors of search and tally: each answer is `perform`'s. Assumes nothing.
+use mathlib.Core.Path.{_≡_, sym, ap, _∙_}
+use mathlib.Core.List.{List, [], _∷_}
+use Prim.Native.Nat.{ℕ}
+use borrow.Author.Tests.{eq-eqb, ne-eqb}
+use lib.ListN.{length}
+use Rattle.theory.specs.Settings.{Settings}
+use Rattle.theory.specs.Layout.{Areas}
+use Rattle.theory.specs.Lookup.{Answer, driver-number}
+use Rattle.theory.specs.Ledger.{search, tally, Totals, Step, answered, totalled}
+use Rattle.theory.specs.Calls.{perform}
+use Rattle.lookup.specs.Answers.{lookup-areas, LentAnswer}
+use Rattle.lookup.specs.Tallies.{read-areas}
+use Rattle.card.specs.Reading.{driver-of, search-of, SearchedLent, totals-in, tally-of}
+
+module _ (t : Settings) (clipped buckets side key : List ℕ) (x : Answer) (n : ℕ) (number : n ≡ driver-number x) where
+  pub searched : record { reply = answered x; state = lookup-areas clipped buckets side } ≡ perform t 0 (search key) (lookup-areas clipped buckets side)
+      → n ≡ search-of t clipped buckets side key
+  unfolding search-of
+  searched e = number ∙ ap (λ (s : Step Areas). driver-of (s .reply)) e
+
+  pub searched-lent : (table : List ℕ) → LentAnswer table t clipped buckets side key x → SearchedLent table t clipped buckets side key n
+  searched-lent table a =
+      record { other-length = λ o. number ∙ ap driver-number (a .other-length o); right-table = λ l right. searched (a .right-table l right) }
+
+module _ (t : Settings) (ledger clipped buckets side totals : List ℕ) (x : Totals)
+    (e : record { reply = totalled x; state = read-areas ledger clipped buckets side } ≡ perform t 0 tally (read-areas ledger clipped buckets side)) where
+  is : totals-in (perform t 0 tally (read-areas ledger clipped buckets side) .reply) ≡ x
+  is = ap (λ (s : Step Areas). totals-in (s .reply)) (sym e)
+
+  pub tallied-1 : x .number ≡ 1 → record { number = 1; area = totals } ≡ tally-of t ledger clipped buckets side totals
+  unfolding tally-of
+  tallied-1 q = rw (is, eq-eqb (x .number) 1 q)
+
+  module _ (not-1 : x .number ≡ 1 → ⊥) where
+    pub tallied-2 : (length totals ≡ 4 → ⊥) → record { number = 2; area = totals } ≡ tally-of t ledger clipped buckets side totals
+    unfolding tally-of
+    tallied-2 q = rw (is, ne-eqb (x .number) 1 not-1, ne-eqb (length totals) 4 q)
+
+    module _ (four : length totals ≡ 4) where
+      pub tallied-refused : (x .number ≡ 0 → ⊥) → record { number = x .number; area = totals } ≡ tally-of t ledger clipped buckets side totals
+      unfolding tally-of
+      tallied-refused q = rw (is, ne-eqb (x .number) 1 not-1, eq-eqb (length totals) 4 four, ne-eqb (x .number) 0 q)
+
+      pub tallied : x .number ≡ 0 → (after : List ℕ) → after ≡ x .in-buckets ∷ x .in-side ∷ x .marked-255 ∷ x .fill ∷ []
+          → record { number = 0; area = after } ≡ tally-of t ledger clipped buckets side totals
+      unfolding tally-of
+      tallied q after w = rw (is, ne-eqb (x .number) 1 not-1, eq-eqb (length totals) 4 four, eq-eqb (x .number) 0 q, w)

@@ -1,0 +1,134 @@
+// The doors that only read: search and tally.
+use lookup::searching::Answer;
+use lookup::tallying::Totals;
+ghost use mathlib.Core.Path.{_≡_};
+ghost use mathlib.Core.List.{[], _∷_};
+ghost use lib.ListN.{length};
+ghost use Rattle.theory.specs.Lookup.{driver-number};
+ghost use Rattle.lookup.specs.Answers.{answer-of};
+ghost use Rattle.card.specs.Doors.{Filled};
+ghost use Rattle.card.specs.Reading.{search-of, SearchedLent, tally-of};
+
+// "answer × 2^32 + class"
+fn one_number(a: Answer) -> u64
+    ensures { λ r. ⌜ r ≡ driver-number (answer-of a) ⌝ }
+{
+    (a.number as u64) * 4294967296 + (a.class as u64)
+}
+
+// The forwarding driver's search, whole by itself.
+#[no_mangle]
+pub extern "C" fn flow_search(
+    p: u64,
+    k: u64,
+    room: u64,
+    top: u64,
+    capacity: u64,
+    side_places: u64,
+    clipped: &[u8],
+    buckets: &[u8],
+    side: &[u8],
+    key: &[u8],
+) -> u64
+    ensures { λ r. ⌜ r ≡ search-of (record { p = p; k = k; room = room; top = top; capacity = capacity; side-places = «side_places» }) (now (clipped .entry)) (now (buckets .entry)) (now (side .entry)) (now (key .entry)) ⌝ }
+{
+    one_number(lookup::searching::search(
+        p,
+        k,
+        room,
+        top,
+        capacity,
+        side_places,
+        clipped,
+        buckets,
+        side,
+        key,
+    ))
+}
+
+// The same with a table that the driver keeps: one read of it a byte.
+#[no_mangle]
+pub extern "C" fn flow_search_lent(
+    table: &[u64],
+    p: u64,
+    k: u64,
+    room: u64,
+    top: u64,
+    capacity: u64,
+    side_places: u64,
+    clipped: &[u8],
+    buckets: &[u8],
+    side: &[u8],
+    key: &[u8],
+) -> u64
+    ensures { λ r. ⌜ SearchedLent (now (table .entry)) (record { p = p; k = k; room = room; top = top; capacity = capacity; side-places = «side_places» }) (now (clipped .entry)) (now (buckets .entry)) (now (side .entry)) (now (key .entry)) r ⌝ }
+{
+    one_number(lookup::searching::search_lent(
+        table,
+        p,
+        k,
+        room,
+        top,
+        capacity,
+        side_places,
+        clipped,
+        buckets,
+        side,
+        key,
+    ))
+}
+
+// Records in buckets, records in the side store, buckets marked 255, fill.
+fn write_totals(x: Totals, totals: &mut [u32])
+    requires { ⌜ length (now totals) ≡ 4 ⌝ }
+    ensures { λ _. ⌜ now (totals .exit) ≡ x .«in_buckets» ∷ x .«in_side» ∷ x .«marked_255» ∷ x .fill ∷ [] ⌝ }
+{
+    totals[0] = x.in_buckets;
+    totals[1] = x.in_side;
+    totals[2] = x.marked_255;
+    totals[3] = x.fill;
+}
+
+// Tally: 1; 2; 4; 5; else its four numbers.
+#[no_mangle]
+pub extern "C" fn flow_tally(
+    p: u64,
+    k: u64,
+    room: u64,
+    top: u64,
+    capacity: u64,
+    side_places: u64,
+    ledger: &[u8],
+    clipped: &[u8],
+    buckets: &[u8],
+    side: &[u8],
+    totals: &mut [u32],
+) -> u32
+    ensures { λ r. ⌜ _≡_ {A = Filled} (record { number = r; area = now (totals .exit) })
+        (tally-of (record { p = p; k = k; room = room; top = top; capacity = capacity; side-places = «side_places» }) (now (ledger .entry)) (now (clipped .entry)) (now (buckets .entry)) (now (side .entry)) (now (totals .entry))) ⌝ }
+{
+    let x = lookup::tallying::tally(
+        p,
+        k,
+        room,
+        top,
+        capacity,
+        side_places,
+        ledger,
+        clipped,
+        buckets,
+        side,
+    );
+    let number = x.number;
+    if number == 1 {
+        return 1;
+    }
+    if totals.len() != 4 {
+        return 2;
+    }
+    if number != 0 {
+        return number;
+    }
+    write_totals(x, &mut totals[..]);
+    0
+}

@@ -1,0 +1,165 @@
+// The doors that write: clear, add, change and remove. Each answers the number of the call, and writes every area or none.
+use update::Edit;
+ghost use mathlib.Core.Path.{_≡_};
+ghost use lib.ListN.{length};
+ghost use Rattle.theory.specs.Layout.{Areas};
+ghost use Rattle.theory.specs.Lookup.{bare};
+ghost use Rattle.theory.specs.Ledger.{Step, answered};
+ghost use Rattle.theory.specs.Ledger as calls;
+ghost use Rattle.theory.specs.Calls.{perform};
+
+// "Clear lays out the empty list, on areas with any contents."
+#[no_mangle]
+pub extern "C" fn flow_clear(
+    p: u64,
+    k: u64,
+    room: u64,
+    top: u64,
+    capacity: u64,
+    side_places: u64,
+    ledger: &mut [u8],
+    true_counts: &mut [u16],
+    clipped: &mut [u8],
+    buckets: &mut [u8],
+    side: &mut [u8],
+) -> u32
+    ensures { λ r. ⌜ _≡_ {A = Step Areas} (record { reply = answered (bare r); state = record { ledger = now (ledger .exit); true-counts = now («true_counts» .exit); clipped-counts = now (clipped .exit); buckets = now (buckets .exit); side-store = now (side .exit) } })
+        (perform (record { p = p; k = k; room = room; top = top; capacity = capacity; side-places = «side_places» }) 0 calls.clear
+        (record { ledger = now (ledger .entry); true-counts = now («true_counts» .entry); clipped-counts = now (clipped .entry); buckets = now (buckets .entry); side-store = now (side .entry) })) ⌝ }
+{
+    update::clear(
+        p,
+        k,
+        room,
+        top,
+        capacity,
+        side_places,
+        &mut ledger[..],
+        &mut true_counts[..],
+        &mut clipped[..],
+        &mut buckets[..],
+        &mut side[..],
+    )
+}
+
+// Adds a flow: 1, 2, 3, 4, 6, 8, 9; else the layout of the list with the record put in at its key's place.
+#[no_mangle]
+pub extern "C" fn flow_add(
+    p: u64,
+    k: u64,
+    room: u64,
+    top: u64,
+    capacity: u64,
+    side_places: u64,
+    ledger: &mut [u8],
+    true_counts: &mut [u16],
+    clipped: &mut [u8],
+    buckets: &mut [u8],
+    side: &mut [u8],
+    work: &mut [u16],
+    key: &[u8],
+    class: u32,
+) -> u32
+    ensures { λ r. ⌜ _≡_ {A = Step Areas} (record { reply = answered (bare r); state = record { ledger = now (ledger .exit); true-counts = now («true_counts» .exit); clipped-counts = now (clipped .exit); buckets = now (buckets .exit); side-store = now (side .exit) } })
+        (perform (record { p = p; k = k; room = room; top = top; capacity = capacity; side-places = «side_places» }) (length (now (work .entry))) (calls.add (now (key .entry)) class)
+        (record { ledger = now (ledger .entry); true-counts = now («true_counts» .entry); clipped-counts = now (clipped .entry); buckets = now (buckets .entry); side-store = now (side .entry) })) ⌝ }
+{
+    update::update(
+        Edit::Insert,
+        p,
+        k,
+        room,
+        top,
+        capacity,
+        side_places,
+        &mut ledger[..],
+        &mut true_counts[..],
+        &mut clipped[..],
+        &mut buckets[..],
+        &mut side[..],
+        &mut work[..],
+        key,
+        class,
+    )
+}
+
+// Gives a held flow a new class: 1, 2, 3, 4, 7, 9; else the layout of the list with that class.
+#[no_mangle]
+pub extern "C" fn flow_change(
+    p: u64,
+    k: u64,
+    room: u64,
+    top: u64,
+    capacity: u64,
+    side_places: u64,
+    ledger: &mut [u8],
+    true_counts: &mut [u16],
+    clipped: &mut [u8],
+    buckets: &mut [u8],
+    side: &mut [u8],
+    work: &mut [u16],
+    key: &[u8],
+    class: u32,
+) -> u32
+    ensures { λ r. ⌜ _≡_ {A = Step Areas} (record { reply = answered (bare r); state = record { ledger = now (ledger .exit); true-counts = now («true_counts» .exit); clipped-counts = now (clipped .exit); buckets = now (buckets .exit); side-store = now (side .exit) } })
+        (perform (record { p = p; k = k; room = room; top = top; capacity = capacity; side-places = «side_places» }) (length (now (work .entry))) (calls.change (now (key .entry)) class)
+        (record { ledger = now (ledger .entry); true-counts = now («true_counts» .entry); clipped-counts = now (clipped .entry); buckets = now (buckets .entry); side-store = now (side .entry) })) ⌝ }
+{
+    update::update(
+        Edit::Replace,
+        p,
+        k,
+        room,
+        top,
+        capacity,
+        side_places,
+        &mut ledger[..],
+        &mut true_counts[..],
+        &mut clipped[..],
+        &mut buckets[..],
+        &mut side[..],
+        &mut work[..],
+        key,
+        class,
+    )
+}
+
+// Takes a held flow out: 1, 2, 3, 4, 7, 9; else the layout of the list without it.
+#[no_mangle]
+pub extern "C" fn flow_remove(
+    p: u64,
+    k: u64,
+    room: u64,
+    top: u64,
+    capacity: u64,
+    side_places: u64,
+    ledger: &mut [u8],
+    true_counts: &mut [u16],
+    clipped: &mut [u8],
+    buckets: &mut [u8],
+    side: &mut [u8],
+    work: &mut [u16],
+    key: &[u8],
+) -> u32
+    ensures { λ r. ⌜ _≡_ {A = Step Areas} (record { reply = answered (bare r); state = record { ledger = now (ledger .exit); true-counts = now («true_counts» .exit); clipped-counts = now (clipped .exit); buckets = now (buckets .exit); side-store = now (side .exit) } })
+        (perform (record { p = p; k = k; room = room; top = top; capacity = capacity; side-places = «side_places» }) (length (now (work .entry))) (calls.remove (now (key .entry)))
+        (record { ledger = now (ledger .entry); true-counts = now («true_counts» .entry); clipped-counts = now (clipped .entry); buckets = now (buckets .entry); side-store = now (side .entry) })) ⌝ }
+{
+    update::update(
+        Edit::Remove,
+        p,
+        k,
+        room,
+        top,
+        capacity,
+        side_places,
+        &mut ledger[..],
+        &mut true_counts[..],
+        &mut clipped[..],
+        &mut buckets[..],
+        &mut side[..],
+        &mut work[..],
+        key,
+        0,
+    )
+}

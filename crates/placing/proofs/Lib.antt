@@ -1,0 +1,4 @@
+pub mod CountingLaws
+pub mod RecordLaws
+pub mod WorkLaws
+pub mod ReadyLaws

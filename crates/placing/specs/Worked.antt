@@ -1,0 +1,27 @@
+-- What the work area holds once a list is placed, and the list that a call would make as it lies in memory. Assumes nothing.
+use mathlib.Core.Path.{_≡_}
+use mathlib.Core.Bool.{Bool, _||_}
+use mathlib.Core.List.{List, _++_}
+use Prim.Native.Nat.{ℕ}
+use lib.Dec.{ltb}
+use lib.ListN.{length, take, drop, getD}
+use Rattle.theory.specs.Records.{Record, records}
+use Rattle.theory.specs.Settings.{Card}
+use Rattle.theory.specs.Placing.{true-count, all-top, chosen, choosers}
+
+-- the number at place b, 0 past the end
+abbrev pub nth : List ℕ → ℕ → ℕ
+nth l b = getD l b 0
+
+-- a key belongs to the side, by counts c and by d, how many keys choose each bucket
+unfoldable pub belongs-by : Card → (ℕ → ℕ) → (ℕ → ℕ) → List ℕ → Bool
+belongs-by s c d k = all-top s c k || ltb (s .room) (d (chosen s c k))
+
+-- the m true counts of l, then for each bucket how many keys choose it
+pub record Worked (s : Card) (m : ℕ) (l : List Record) (work : List ℕ) : Type 0 where
+  pub counts : (b : ℕ) → nth (take m work) b ≡ true-count s l b
+  pub choices : (b : ℕ) → nth (drop m work) b ≡ length (choosers s (true-count s l) l b)
+
+-- the list that a call would make lies in three areas: n records before, k (the new record or none), j records after
+abbrev pub parts : ℕ → List ℕ → ℕ → List ℕ → ℕ → List ℕ → ℕ → List Record
+parts w a n mid k b j = records w n a ++ (records w k mid ++ records w j b)

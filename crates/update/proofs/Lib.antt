@@ -1,0 +1,4 @@
+pub mod EditLaws
+pub mod PlanLaws
+pub mod WriteLaws
+pub mod CallLaws

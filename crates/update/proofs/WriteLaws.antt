@@ -1,0 +1,115 @@
+-- Laws of writing the new list: what stands in the edited ledger is that list, and the five areas are its layout. Assumes nothing.
+use mathlib.Core.Path.{_≡_, _∙_}
+use mathlib.Core.Bool.{false}
+use mathlib.Core.List.{List, [], _∷_, _++_, map}
+use Prim.Native.Nat.{ℕ, zero, suc, _+_, _-_, _*_, _≤_}
+use native.Mathlib.Omega.{arith}
+use borrow.Author.Tests.{eq-eqb, ne-eqb}
+use lib.ListN.{length, take, drop, length-drop}
+use lib.Seq.{take-all}
+use Rattle.theory.specs.Lists.{upto}
+use Rattle.theory.specs.Records.{Record, records}
+use Rattle.theory.specs.Settings.{Card, card-of, ledger-length, work-length}
+use Rattle.theory.specs.Placing.{true-count}
+use Rattle.theory.specs.Layout.{Areas, places, counted-places, counter-bytes, buckets-bytes, side-bytes, layout, layout-by}
+use Rattle.theory.proofs.ListLaws.{by-test, All, all-drop}
+use Rattle.theory.proofs.ByteLaws.{Fit}
+use Rattle.theory.proofs.LayoutLaws.{read-places, after-count, length-counted}
+use Rattle.ledger.proofs.LedgerLaws.{has-count, records-room}
+use Rattle.ledger.proofs.PartLaws.{tail-is}
+use Rattle.update.specs.declared.Edit.{Edit}
+use Rattle.update.specs.declared.Edit.the-variants.{Insert, Replace, Remove}
+use Rattle.update.specs.declared.Plan.{Plan}
+use Rattle.update.specs.Editing.{call-of, edited, brings, leaves-out, judged-number, Planned}
+use Rattle.settings.specs.declared.Settings.{Settings}
+use Rattle.settings.specs.Checked.{paper}
+use Rattle.theory.specs.Lookup.{bare}
+use Rattle.theory.specs.Ledger.{key-wrong, next, refusal, answered}
+use Rattle.theory.specs.Calls.{ledger-records, ledger-invalid, update}
+use Rattle.update.proofs.EditLaws.{within}
+use Rattle.update.proofs.PlanLaws.{length-edited}
+
+-- ---- what holds of each record of a list and of the call's holds of each that an edit makes
+module _ {A : Type 0} (P : A → Type 0) where
+  all-append : (l m : List A) → All P l → All P m → All P (l ++ m)
+  all-append [] m a b = b
+  all-append (x ∷ xs) m a b = (a .0, all-append xs m (a .1) b)
+
+  all-take : (n : ℕ) (l : List A) → All P l → All P (take n l)
+  all-take zero l a = tt
+  all-take (suc n) [] a = tt
+  all-take (suc n) (x ∷ xs) a = (a .0, all-take n xs (a .1))
+
+pub all-edited : (P : Record → Type 0) (edit : Edit) (at : ℕ) (x : Record) (l : List Record) → P x → All P l → All P (edited edit at x l)
+all-edited P Insert at x l p a = all-append P (take at l) (x ∷ drop at l) (all-take P at l a) (p, all-drop P at l a)
+all-edited P Replace at x l p a = all-append P (take at l) (x ∷ drop (at + 1) l) (all-take P at l a) (p, all-drop P (at + 1) l a)
+all-edited P Remove at x l p a = all-append P (take at l) (drop (at + 1) l) (all-take P at l a) (all-drop P (at + 1) l a)
+
+-- ---- the records of a ledger area that was laid out, as they are lent
+module _ (c : Card) (l : List Record) (fit : All (Fit (c .width)) l) (few : length l ≤ c .capacity) (a : List ℕ) (is : a ≡ counted-places c (c .capacity) l) where
+  pub long : length a ≡ ledger-length c
+  unfolding ledger-length
+  long = rw is (length-counted c (c .capacity) l fit few)
+
+  lent : take (length a - 2) (drop 2 a) ≡ places c (c .capacity) l
+  lent = take-all (length a - 2) (drop 2 a) (rw length-drop (omega arith)) ∙ rw (is, after-count c (c .capacity) l)
+
+  pub lent-records : (n : ℕ) → n ≡ length l → records (c .width) n (take (length a - 2) (drop 2 a)) ≡ l
+  lent-records n e = rw (lent, e) (read-places c (c .capacity) l fit)
+
+  pub lent-room : (n : ℕ) → n ≡ length l → n * (c .width + 4) ≤ length (take (length a - 2) (drop 2 a))
+  lent-room n e = rw (tail-is 2 a (has-count c a long)) (records-room c a long n (omega (arith, few, e)))
+
+  -- ---- the five areas are the layout
+  pub laid-out : (n : ℕ) → n ≡ length l → (trues clipped buckets side : List ℕ)
+      → trues ≡ map (true-count c (records (c .width) n (take (length a - 2) (drop 2 a)))) (upto 0 (c .buckets))
+      → clipped ≡ counter-bytes c (true-count c (records (c .width) n (take (length a - 2) (drop 2 a))))
+      → buckets ≡ buckets-bytes c (true-count c (records (c .width) n (take (length a - 2) (drop 2 a)))) (records (c .width) n (take (length a - 2) (drop 2 a)))
+      → side ≡ side-bytes c (true-count c (records (c .width) n (take (length a - 2) (drop 2 a)))) (records (c .width) n (take (length a - 2) (drop 2 a)))
+      → record { ledger = a; true-counts = trues; clipped-counts = clipped; buckets = buckets; side-store = side } ≡ layout c l
+  unfolding layout layout-by
+  laid-out n e trues clipped buckets side et ec eb es = rw (et, ec, eb, es, lent-records n e, is)
+
+-- ---- what a plan says of the list that it makes
+module _ (s : Settings) (m : ℕ) (edit : Edit) (k : List ℕ) (x : ℕ) (ledger work : List ℕ) (plan : Plan) (p : Planned s m edit k x ledger work plan) where
+  abbrev flows : List Record
+  flows = ledger-records (card-of (paper s)) ledger
+
+  abbrev made : List Record
+  made = next (card-of (paper s)) (call-of edit k x) flows
+
+  pub plan-room : length flows + brings edit ≤ card-of (paper s) .capacity + leaves-out edit
+  plan-room =
+      let few : length (edited edit (plan .at) (record { key = k; class = x }) flows) ≤ card-of (paper s) .capacity = rw (p .list) at (p .room) in
+      omega (arith, few, length-edited edit (plan .at) (record { key = k; class = x }) flows (p .place), within edit (plan .at) (length flows) (p .place))
+
+  pub plan-fit : Fit (card-of (paper s) .width) (record { key = k; class = x }) → All (Fit (card-of (paper s) .width)) flows → All (Fit (card-of (paper s) .width)) made
+  plan-fit f a = rw (p .list) (all-edited (Fit (card-of (paper s) .width)) edit (plan .at) (record { key = k; class = x }) flows f a)
+
+-- the work area has room for two numbers a bucket
+pub double : (c : Card) (work : List ℕ) (m : ℕ) → m ≡ c .buckets → length work ≡ work-length c → length work ≡ m + m
+unfolding work-length
+double c work m e size = omega (arith, e, size)
+
+-- ---- the call: 3, what judging refuses, or the layout of the new list
+module _ (c : Card) (edit : Edit) (k : List ℕ) (x : ℕ) (a : Areas) where
+  pub updated-3 : (length k ≡ c .width → ⊥) → record { reply = answered (bare 3); state = a } ≡ update c k (call-of edit k x) a
+  unfolding update key-wrong
+  updated-3 n = rw (ne-eqb (length k) (c .width) n)
+
+  module _ (wide : length k ≡ c .width) where
+    pub updated-refused : (n : ℕ) → n ≡ judged-number c (call-of edit k x) (a .ledger) → (n ≡ 0 → ⊥)
+        → record { reply = answered (bare n); state = a } ≡ update c k (call-of edit k x) a
+    unfolding update key-wrong judged-number
+    updated-refused n e some =
+        by-test (ledger-invalid c (a .ledger))
+        (λ i. let q : n ≡ 4 = rw i at e in rw (eq-eqb (length k) (c .width) wide, i, q))
+        (λ i. let q : n ≡ refusal c (call-of edit k x) (ledger-records c (a .ledger)) = rw i at e in
+        rw (eq-eqb (length k) (c .width) wide, i, ← q, ne-eqb n 0 some))
+
+    pub updated-made : judged-number c (call-of edit k x) (a .ledger) ≡ 0 → ledger-invalid c (a .ledger) ≡ false → (b : Areas)
+        → b ≡ layout c (next c (call-of edit k x) (ledger-records c (a .ledger))) → record { reply = answered (bare 0); state = b } ≡ update c k (call-of edit k x) a
+    unfolding update key-wrong judged-number
+    updated-made e i b is =
+        let q : refusal c (call-of edit k x) (ledger-records c (a .ledger)) ≡ 0 = rw i at e in
+        rw (eq-eqb (length k) (c .width) wide, i, eq-eqb (refusal c (call-of edit k x) (ledger-records c (a .ledger))) 0 q, is)

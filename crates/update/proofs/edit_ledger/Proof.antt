@@ -1,0 +1,66 @@
+-- `update::edit_ledger` meets its contract: each edit is its callee's. Assumes nothing.
+use mathlib.Core.Path.{subst}
+use Prim.Native.Nat.{_+_, _≤_}
+use native.Mathlib.Omega.{arith}
+use lib.ListN.{length}
+use Rattle.theory.specs.Settings.{card-of}
+use Rattle.theory.specs.Calls.{ledger-records}
+use Rattle.settings.specs.Checked.{paper}
+use Rattle.update.specs.declared.Edit.{Edit}
+use Rattle.update.specs.Editing.{Fits, brings, leaves-out}
+use borrow.Author.Needs.{needs}
+use Rattle.update.proofs.edit_ledger.Statement.{statement}
+use Rattle.update.proofs.edit_ledger.Tie as tie
+
+enum-told : tie.Need-enum-told
+enum-told c = search needs
+
+insert-record-requires : tie.Need-insert-record-requires
+insert-record-requires c κs = let f = subst (λ (e : Edit). Fits e (c .before .before .before .before .before .args .at) (length (ledger-records (card-of (paper (c .before .before .before .before .before .args .s))) (c .before .before .before .before .before .args .ledger .now)))) (c .before .enum-told .given .1) (c .before .before .before .before .before .pre .1) in let room = subst (λ (e : Edit). (length (ledger-records (card-of (paper (c .before .before .before .before .before .args .s))) (c .before .before .before .before .before .args .ledger .now))) + brings e ≤ card-of (paper (c .before .before .before .before .before .args .s)) .capacity + leaves-out e) (c .before .enum-told .given .1) (c .before .before .before .before .before .pre .2) in (c .before .before .before .before .before .pre .0, omega (arith, room), f, c .before .before .before .before .before .pre .3)
+
+enum-told-2 : tie.Need-enum-told-2
+enum-told-2 c = search needs
+
+replace-record-requires : tie.Need-replace-record-requires
+replace-record-requires c κs = (c .before .before .before .before .before .pre .0, subst (λ (e : Edit). Fits e (c .before .before .before .before .before .args .at) (length (ledger-records (card-of (paper (c .before .before .before .before .before .args .s))) (c .before .before .before .before .before .args .ledger .now)))) (c .before .enum-told2 .given .1) (c .before .before .before .before .before .pre .1), c .before .before .before .before .before .pre .3)
+
+enum-told-3 : tie.Need-enum-told-3
+enum-told-3 c = search needs
+
+remove-record-requires : tie.Need-remove-record-requires
+remove-record-requires c κs = (c .before .before .before .before .before .pre .0, subst (λ (e : Edit). Fits e (c .before .before .before .before .before .args .at) (length (ledger-records (card-of (paper (c .before .before .before .before .before .args .s))) (c .before .before .before .before .before .args .ledger .now)))) (c .before .enum-told3 .given .1) (c .before .before .before .before .before .pre .1))
+
+same-length : tie.Need-same-length
+same-length c = search needs
+
+returns : tie.Need-returns
+returns c = λ x e. rw (c .before .before .before .before .enum-told .given .1) (c .before .before .insert-record .ensures x e)
+
+same-length-2 : tie.Need-same-length-2
+same-length-2 c = search needs
+
+returns-2 : tie.Need-returns-2
+returns-2 c = λ x e. rw (c .before .before .before .before .enum-told2 .given .1) (c .before .before .replace-record .ensures x e)
+
+same-length-3 : tie.Need-same-length-3
+same-length-3 c = search needs
+
+returns-3 : tie.Need-returns-3
+returns-3 c = λ x e. rw (c .before .before .before .before .enum-told3 .given .1) (c .before .before .remove-record .ensures)
+
+pub edit-ledger-spec : {M : Type 1} → statement M
+edit-ledger-spec =
+    tie.close
+    (tie.spec
+    enum-told
+    insert-record-requires
+    enum-told-2
+    replace-record-requires
+    enum-told-3
+    remove-record-requires
+    same-length
+    returns
+    same-length-2
+    returns-2
+    same-length-3
+    returns-3)

@@ -1,0 +1,36 @@
+-- `update::record_of` meets its contract: what is written to the first bytes stands there. Assumes nothing.
+use mathlib.Core.Path.{_≡_, sym, _∙_}
+use native.Mathlib.Omega.{arith}
+use lib.ListN.{length, drop, length-append, length-drop}
+use lib.Seq.{length-take-le, take-at}
+use borrow.Author.Needs.{needs}
+use Rattle.update.proofs.record_of.Statement.{statement}
+use Rattle.update.proofs.record_of.Tie as tie
+
+new-buffer-requires : tie.Need-new-buffer-requires
+new-buffer-requires c κs = search needs
+
+array-borrow-prefix-buffer : tie.Need-array-borrow-prefix-buffer
+array-borrow-prefix-buffer c = search needs
+
+slice-aggregate-write-record : tie.Need-slice-aggregate-write-record
+slice-aggregate-write-record c = sym (length-take-le (c .before .before .before .args .size) (c .before .new-buffer .result) (omega (arith, c .before .new-buffer .ensures, c .before .before .before .pre .1)))
+
+write-record-requires : tie.Need-write-record-requires
+write-record-requires c κs = length-take-le (c .before .before .before .args .size) (c .before .new-buffer .result) (omega (arith, c .before .new-buffer .ensures, c .before .before .before .pre .1)) ∙ c .before .before .before .pre .0
+
+returns : tie.Need-returns
+returns c =
+    let written = c .before .write-record .ensures in
+    let size : length (c .before .write-record .last .0) ≡ c .before .before .before .before .before .args .size = c .before .write-record .kept .0 ∙ length-take-le (c .before .before .before .before .before .args .size) (c .before .before .before .new-buffer .result) (omega (arith, c .before .before .before .new-buffer .ensures, c .before .before .before .before .before .pre .1)) in
+    (take-at (c .before .write-record .last .0) (drop (c .before .before .before .before .before .args .size) (c .before .before .before .new-buffer .result)) (c .before .before .before .before .before .args .size) size ∙ written, rw (length-append, length-drop, size) (omega (arith, c .before .before .before .new-buffer .ensures, c .before .before .before .before .before .pre .1)))
+
+pub record-of-spec : {M : Type 1} → statement M
+record-of-spec =
+    tie.close
+    (tie.spec
+    new-buffer-requires
+    array-borrow-prefix-buffer
+    slice-aggregate-write-record
+    write-record-requires
+    returns)

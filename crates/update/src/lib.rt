@@ -1,0 +1,425 @@
+// Document 01, the calls that write: clear, add, change, remove. They judge first, on the ledger and work alone, and then write every area.
+use settings::Checked;
+use settings::Settings;
+ghost use mathlib.Core.Path.{_≡_};
+ghost use mathlib.Core.Bool.{true, false};
+ghost use mathlib.Core.List.{List, _++_};
+ghost use Prim.Native.Nat.{ℕ, _+_, _-_, _*_, _<_, _≤_};
+ghost use lib.ListN.{length, take, drop};
+ghost use Rattle.theory.specs.Settings.{allowed, card-of, record-size, ledger-length, work-length};
+ghost use Rattle.theory.specs.Records.{Record, records, record-bytes};
+ghost use Rattle.theory.specs.Lookup.{bare};
+ghost use Rattle.theory.specs.Ledger.{side-need-of, next, Step, answered};
+ghost use Rattle.theory.specs.Calls.{ledger-records};
+ghost use Rattle.theory.specs.Calls as calls;
+ghost use Rattle.theory.specs.Calls.{perform};
+ghost use Rattle.theory.specs.Ledger as ledgers;
+ghost use Rattle.theory.proofs.CallLaws.{Sized};
+ghost use Rattle.settings.specs.Checked.{paper};
+ghost use Rattle.theory.specs.Layout.{Areas, counted-places, layout};
+ghost use Rattle.ledger.specs.Edits.{ValidLedger};
+ghost use Rattle.theory.proofs.ByteLaws.{Fit};
+ghost use Rattle.placing.specs.Ready.{Ready};
+ghost use Rattle.placing.specs.Worked.{Worked};
+ghost use Rattle.update.specs.Editing.{right-lengths, call-of, edited, brings, leaves-out, by-list, Fits, judged-number, Planned};
+
+// Add, change or remove.
+pub enum Edit {
+    Insert,
+    Replace,
+    Remove,
+}
+
+// What judging found: the refusal or 0, the count of the new list, the place of the edit, the side need.
+pub struct Plan {
+    pub number: u32,
+    pub count: usize,
+    pub at: usize,
+    pub need: usize,
+}
+
+// 6 and 8 of an add, 7 of a change or a removal, else 0.
+fn refusal_by_list(s: Settings, edit: Edit, held: bool, n: usize) -> u32
+    ensures { λ r. ⌜ r ≡ by-list (paper s) edit held n ⌝ }
+{
+    match edit {
+        Edit::Insert => {
+            if held {
+                return 6;
+            }
+            if s.capacity <= n { 8 } else { 0 }
+        }
+        Edit::Replace => { if held { 0 } else { 7 } }
+        Edit::Remove => { if held { 0 } else { 7 } }
+    }
+}
+
+// How many records the edit brings.
+fn brought(edit: Edit) -> usize
+    ensures { λ r. ⌜ (r ≡ brings edit) × (r ≤ 1) ⌝ }
+{
+    match edit {
+        Edit::Insert => 1,
+        Edit::Replace => 1,
+        Edit::Remove => 0,
+    }
+}
+
+// How many records of the list it leaves out.
+fn left_out(edit: Edit) -> usize
+    ensures { λ r. ⌜ (r ≡ leaves-out edit) × (r ≤ 1) ⌝ }
+{
+    match edit {
+        Edit::Insert => 0,
+        Edit::Replace => 1,
+        Edit::Remove => 1,
+    }
+}
+
+// The side need of the list that the edit would make, which lies in three areas, and its work area.
+fn place_new(
+    s: Settings,
+    t: &[u64],
+    m: usize,
+    work: &mut [u16],
+    ledger: &[u8],
+    n: usize,
+    edit: Edit,
+    at: usize,
+    record: &[u8],
+) -> usize
+    requires { ⌜ Ready s (now t) × (m ≡ card-of (paper s) .buckets) × (length (now work) ≡ m + m) × Fits edit at n × (n ≤ 4096)
+        × (2 + n * (card-of (paper s) .width + 4) ≤ length (now ledger)) × (length (now «record») ≡ card-of (paper s) .width + 4) ⌝ }
+    ensures { λ r. ⌜ ((x : Record) → record-bytes x ≡ now («record» .entry) → Fit (card-of (paper s) .width) x
+        → (r ≡ side-need-of (card-of (paper s)) (edited edit at x (records (card-of (paper s) .width) n (drop 2 (now (ledger .entry))))))
+        × Worked (card-of (paper s)) m (edited edit at x (records (card-of (paper s) .width) n (drop 2 (now (ledger .entry))))) (now (work .exit))) ⌝ }
+{
+    let from = at + left_out(edit);
+    let after = 2 + from * s.record_size();
+    let rest = n - from;
+    let mid = brought(edit);
+    placing::place_parts(
+        s,
+        t,
+        m,
+        &mut work[..],
+        &ledger[2..],
+        at,
+        record,
+        mid,
+        &ledger[after..],
+        rest,
+    );
+    placing::need_parts(
+        s,
+        t,
+        m,
+        work,
+        &ledger[2..],
+        at,
+        record,
+        mid,
+        &ledger[after..],
+        rest,
+    )
+}
+
+fn refuse(number: u32) -> Plan
+    ensures { λ r. ⌜ r .number ≡ number ⌝ }
+{
+    Plan {
+        number,
+        count: 0,
+        at: 0,
+        need: 0,
+    }
+}
+
+// 4, then 6 and 8 or 7, then 9, in this order; nothing but work is written.
+fn judge(
+    s: Settings,
+    t: &[u64],
+    m: usize,
+    work: &mut [u16],
+    ledger: &[u8],
+    edit: Edit,
+    key: &[u8],
+    class: u32,
+    record: &[u8],
+) -> Plan
+    requires { ⌜ Ready s (now t) × (m ≡ card-of (paper s) .buckets) × (length (now work) ≡ m + m) × (length (now ledger) ≡ ledger-length (card-of (paper s)))
+        × (length (now key) ≡ card-of (paper s) .width) × (now «record» ≡ record-bytes (record { key = now key; class = class })) ⌝ }
+    ensures { λ r. ⌜ (r .number ≡ judged-number (card-of (paper s)) (call-of edit (now (key .entry)) class) (now (ledger .entry)))
+        × (r .number ≡ 0 → Planned s m edit (now (key .entry)) class (now (ledger .entry)) (now (work .exit)) r) ⌝ }
+{
+    if !ledger::valid(s, ledger) {
+        return refuse(4);
+    }
+    let n = ledger::bytes::count_at(ledger);
+    let spot = ledger::spots::find_spot(&ledger[2..], n, key);
+    let number = refusal_by_list(s, edit, spot.held, n);
+    if number != 0 {
+        return refuse(number);
+    }
+    let need = place_new(s, t, m, &mut work[..], ledger, n, edit, spot.at, record);
+    if s.side_places < need {
+        return refuse(9);
+    }
+    Plan {
+        number: 0,
+        count: n - left_out(edit) + brought(edit),
+        at: spot.at,
+        need,
+    }
+}
+
+// The ledger area of the new list.
+fn edit_ledger(s: Settings, edit: Edit, ledger: &mut [u8], at: usize, record: &[u8])
+    requires { ⌜ ValidLedger s (now ledger) × Fits edit at (length (ledger-records (card-of (paper s)) (now ledger)))
+        × (length (ledger-records (card-of (paper s)) (now ledger)) + brings edit ≤ card-of (paper s) .capacity + leaves-out edit)
+        × (length (now «record») ≡ record-size (card-of (paper s))) ⌝ }
+    ensures { λ _. ⌜ ((x : Record) → record-bytes x ≡ now («record» .entry)
+        → now (ledger .exit) ≡ counted-places (card-of (paper s)) (card-of (paper s) .capacity) (edited edit at x (ledger-records (card-of (paper s)) (now (ledger .entry))))) ⌝ }
+{
+    match edit {
+        Edit::Insert => ledger::edits::insert_record(s, &mut ledger[..], at, record),
+        Edit::Replace => ledger::edits::replace_record(s, &mut ledger[..], at, record),
+        Edit::Remove => ledger::edits::remove_record(s, &mut ledger[..], at),
+    }
+}
+
+// The layout of the new list, in every area.
+fn write_new(
+    s: Settings,
+    t: &[u64],
+    m: usize,
+    plan: Plan,
+    edit: Edit,
+    ledger: &mut [u8],
+    true_counts: &mut [u16],
+    clipped: &mut [u8],
+    buckets: &mut [u8],
+    side: &mut [u8],
+    work: &[u16],
+    key: &[u8],
+    class: u32,
+    record: &[u8],
+)
+    requires { ⌜ Ready s (now t) × (m ≡ card-of (paper s) .buckets) × (length (now work) ≡ m + m) × (length (now key) ≡ card-of (paper s) .width)
+        × (now «record» ≡ record-bytes (record { key = now key; class = class }))
+        × Sized (card-of (paper s)) (record { ledger = now ledger; true-counts = now «true_counts»; clipped-counts = now clipped; buckets = now buckets; side-store = now side })
+        × Planned s m edit (now key) class (now ledger) (now work) plan ⌝ }
+    ensures { λ _. ⌜ _≡_ {A = Areas} (record { ledger = now (ledger .exit); true-counts = now («true_counts» .exit); clipped-counts = now (clipped .exit); buckets = now (buckets .exit); side-store = now (side .exit) })
+        (layout (card-of (paper s)) (next (card-of (paper s)) (call-of edit (now (key .entry)) class) (ledger-records (card-of (paper s)) (now (ledger .entry))))) ⌝ }
+{
+    let at = plan.at;
+    let count = plan.count;
+    let need = plan.need;
+    edit_ledger(s, edit, &mut ledger[..], at, record);
+    writing::write_areas(
+        s,
+        t,
+        m,
+        work,
+        &mut true_counts[..],
+        &mut clipped[..],
+        &mut buckets[..],
+        &mut side[..],
+        &ledger[2..],
+        count,
+        need,
+    );
+}
+
+// A buffer for the longest record.
+fn new_buffer() -> [u8; 64]
+    ensures { λ r. ⌜ length r ≡ 64 ⌝ }
+{
+    [0u8; 64]
+}
+
+// The record of a call, at the start of a buffer.
+fn record_of(key: &[u8], class: u32, size: usize) -> [u8; 64]
+    requires { ⌜ (size ≡ length (now key) + 4) × (size ≤ 64) ⌝ }
+    ensures { λ r. ⌜ (take size r ≡ record-bytes (record { key = now (key .entry); class = class })) × (length r ≡ 64) ⌝ }
+{
+    let mut buffer = new_buffer();
+    ledger::bytes::write_record(&mut buffer[..size], key, class);
+    buffer
+}
+
+// Add, change or remove on allowed settings and areas of their lengths: 3 and what judging refuses; else the layout is written.
+fn update_lent(
+    s: Settings,
+    t: &[u64],
+    edit: Edit,
+    ledger: &mut [u8],
+    true_counts: &mut [u16],
+    clipped: &mut [u8],
+    buckets: &mut [u8],
+    side: &mut [u8],
+    work: &mut [u16],
+    key: &[u8],
+    class: u32,
+) -> u32
+    requires { ⌜ Ready s (now t) × (length (now work) ≡ work-length (card-of (paper s)))
+        × Sized (card-of (paper s)) (record { ledger = now ledger; true-counts = now «true_counts»; clipped-counts = now clipped; buckets = now buckets; side-store = now side }) ⌝ }
+    ensures { λ r. ⌜ _≡_ {A = Step Areas} (record { reply = answered (bare r); state = record { ledger = now (ledger .exit); true-counts = now («true_counts» .exit); clipped-counts = now (clipped .exit); buckets = now (buckets .exit); side-store = now (side .exit) } })
+        (calls.update (card-of (paper s)) (now (key .entry)) (call-of edit (now (key .entry)) class)
+        (record { ledger = now (ledger .entry); true-counts = now («true_counts» .entry); clipped-counts = now (clipped .entry); buckets = now (buckets .entry); side-store = now (side .entry) })) ⌝ }
+{
+    if key.len() != s.width() {
+        return 3;
+    }
+    let m = s.buckets();
+    let size = s.record_size();
+    let buffer = record_of(key, class, size);
+    let plan = judge(
+        s,
+        t,
+        m,
+        &mut work[..],
+        ledger,
+        edit,
+        key,
+        class,
+        &buffer[..size],
+    );
+    let number = plan.number;
+    if number != 0 {
+        return number;
+    }
+    write_new(
+        s,
+        t,
+        m,
+        plan,
+        edit,
+        &mut ledger[..],
+        &mut true_counts[..],
+        &mut clipped[..],
+        &mut buckets[..],
+        &mut side[..],
+        work,
+        key,
+        class,
+        &buffer[..size],
+    );
+    0
+}
+
+// The lengths of the five areas that a call is lent.
+struct Lengths {
+    ledger: usize,
+    true_counts: usize,
+    clipped: usize,
+    buckets: usize,
+    side: usize,
+}
+
+fn lengths_right(s: Settings, l: Lengths) -> bool
+    requires { ⌜ allowed (paper s) ≡ true ⌝ }
+    ensures { λ r. ⌜ r ≡ right-lengths (card-of (paper s)) l ⌝ }
+{
+    let ledger_right = l.ledger == s.ledger_length();
+    let true_right = l.true_counts == s.true_length();
+    let clipped_right = l.clipped == s.clipped_length();
+    let buckets_right = l.buckets == s.buckets_length();
+    let side_right = l.side == s.side_length();
+    ledger_right & (true_right & (clipped_right & (buckets_right & side_right)))
+}
+
+// Add, change or remove: 1, 2, then the call. The table of the hash is made once.
+pub fn update(
+    edit: Edit,
+    p: u64,
+    k: u64,
+    room: u64,
+    top: u64,
+    capacity: u64,
+    side_places: u64,
+    ledger: &mut [u8],
+    true_counts: &mut [u16],
+    clipped: &mut [u8],
+    buckets: &mut [u8],
+    side: &mut [u8],
+    work: &mut [u16],
+    key: &[u8],
+    class: u32,
+) -> u32
+    ensures { λ r. ⌜ _≡_ {A = Step Areas} (record { reply = answered (bare r); state = record { ledger = now (ledger .exit); true-counts = now («true_counts» .exit); clipped-counts = now (clipped .exit); buckets = now (buckets .exit); side-store = now (side .exit) } })
+        (perform (record { p = p; k = k; room = room; top = top; capacity = capacity; side-places = «side_places» }) (length (now (work .entry))) (call-of edit (now (key .entry)) class)
+        (record { ledger = now (ledger .entry); true-counts = now («true_counts» .entry); clipped-counts = now (clipped .entry); buckets = now (buckets .entry); side-store = now (side .entry) })) ⌝ }
+{
+    let checked = Settings::new(p, k, room, top, capacity, side_places);
+    let Checked::Allowed(s) = checked else {
+        return 1;
+    };
+    let l = Lengths {
+        ledger: ledger.len(),
+        true_counts: true_counts.len(),
+        clipped: clipped.len(),
+        buckets: buckets.len(),
+        side: side.len(),
+    };
+    if !((work.len() == s.work_length()) & lengths_right(s, l)) {
+        return 2;
+    }
+    let table = hash::table();
+    update_lent(
+        s,
+        &table[..],
+        edit,
+        &mut ledger[..],
+        &mut true_counts[..],
+        &mut clipped[..],
+        &mut buckets[..],
+        &mut side[..],
+        &mut work[..],
+        key,
+        class,
+    )
+}
+
+// "Clear lays out the empty list, on areas with any contents."
+pub fn clear(
+    p: u64,
+    k: u64,
+    room: u64,
+    top: u64,
+    capacity: u64,
+    side_places: u64,
+    ledger: &mut [u8],
+    true_counts: &mut [u16],
+    clipped: &mut [u8],
+    buckets: &mut [u8],
+    side: &mut [u8],
+) -> u32
+    ensures { λ r. ⌜ _≡_ {A = Step Areas} (record { reply = answered (bare r); state = record { ledger = now (ledger .exit); true-counts = now («true_counts» .exit); clipped-counts = now (clipped .exit); buckets = now (buckets .exit); side-store = now (side .exit) } })
+        (perform (record { p = p; k = k; room = room; top = top; capacity = capacity; side-places = «side_places» }) 0 ledgers.clear
+        (record { ledger = now (ledger .entry); true-counts = now («true_counts» .entry); clipped-counts = now (clipped .entry); buckets = now (buckets .entry); side-store = now (side .entry) })) ⌝ }
+{
+    let checked = Settings::new(p, k, room, top, capacity, side_places);
+    let Checked::Allowed(s) = checked else {
+        return 1;
+    };
+    let l = Lengths {
+        ledger: ledger.len(),
+        true_counts: true_counts.len(),
+        clipped: clipped.len(),
+        buckets: buckets.len(),
+        side: side.len(),
+    };
+    if !lengths_right(s, l) {
+        return 2;
+    }
+    writing::clear_areas(
+        s,
+        &mut ledger[..],
+        &mut true_counts[..],
+        &mut clipped[..],
+        &mut buckets[..],
+        &mut side[..],
+    );
+    0
+}

@@ -1,0 +1,6 @@
+pub mod MoreLaws
+pub mod PartLaws
+pub mod CountLaws
+pub mod BucketLaws
+pub mod SideLaws
+pub mod EmptyLaws

@@ -1,0 +1,131 @@
+-- `open_buckets` meets its contract: the first b parts are blank buckets, and each turn opens the next part. Assumes nothing.
+use mathlib.Core.Path.{_≡_, refl, sym, ap, _∙_}
+use mathlib.Core.List.{List}
+use Prim.Native.Nat.{ℕ, _+_, _-_, _*_, _≤_, _<_}
+use native.Mathlib.Nat.{zero-mul}
+use native.Mathlib.Omega.{arith}
+use borrow.Author.Needs.{needs}
+use lib.Dec.{ltb}
+use lib.ListN.{length, take, getD}
+use lib.Seq.{getD-drop, take-all}
+use Rattle.theory.specs.Settings.{Settings, card-of, bucket-size, buckets-length}
+use Rattle.settings.specs.Checked.{paper}
+use Rattle.settings.proofs.Laws.{room-is, buckets-length-is, bounds}
+use Rattle.ledger.proofs.PartLaws.{length-lent}
+use Rattle.writing.specs.Buckets.{crowded-by, blank-buckets}
+use Rattle.writing.proofs.PartLaws.{row-fits, row-next}
+use Rattle.writing.proofs.BucketLaws.{blank-none, open-length, open-more}
+use Rattle.writing.proofs.buckets.open_buckets.Statement.{statement}
+use Rattle.writing.proofs.buckets.open_buckets.Tie as tie
+
+abbrev Inv-loop : tie.InvT-loop
+Inv-loop s m work buckets₀ size b₀ at₀ buckets b at =
+    (b ≤ m) × (at ≡ b * size) × (length buckets ≡ length buckets₀) × (take at buckets ≡ blank-buckets (card-of (paper s)) (crowded-by (card-of (paper s)) m work) b)
+
+abbrev μ-loop : tie.MeasureT-loop
+μ-loop s m work buckets₀ size b₀ at₀ buckets b at = m - b
+
+-- the area is m parts; and the test of the second half of work is the card's
+area-length : (t : Settings) (m size n : ℕ) → m ≡ card-of t .buckets → n ≡ buckets-length (card-of t) → size ≡ bucket-size (card-of t) → n ≡ m * size
+area-length t m size n e f g = f ∙ buckets-length-is t ∙ rw (e, g)
+
+crowded-test : (t : Settings) (m b : ℕ) (work : List ℕ) → ltb (t .room) (getD work (m + b) 0) ≡ crowded-by (card-of t) m work b
+crowded-test t m b work = rw (getD-drop m work b 0) (ap (λ (room : ℕ). ltb room (getD work (m + b) 0)) (sym (room-is t)))
+
+-- the part of bucket b lies within the area
+within : (c : tie.In-loop Inv-loop μ-loop) → c .before .loop .at + c .before .before .bucket-size .result ≤ length (c .before .loop .buckets)
+within c =
+    omega (
+      arith,
+      row-fits (c .before .loop .b) (c .before .before .before .before .before .args .m) (c .before .before .bucket-size .result) (omega arith),
+      c .before .loop .inv .1,
+      c .before .loop .inv .2,
+      area-length (paper (c .before .before .before .before .before .args .s)) (c .before .before .before .before .before .args .m) (c .before .before .bucket-size .result) (length (c .before .before .before .before .before .args .buckets .now)) (c .before .before .before .before .before .pre .1) (c .before .before .before .before .before .pre .3) (c .before .before .bucket-size .ensures),
+    )
+
+bucket-size-requires : tie.Need-bucket-size-requires Inv-loop μ-loop
+bucket-size-requires c κs = c .before .before .pre .0
+
+loop-holds : tie.Need-loop-holds Inv-loop μ-loop
+loop-holds c = let s = card-of (paper (c .before .before .before .args .s)) in
+    (omega arith, sym (zero-mul (c .bucket-size .result)), refl, blank-none s (crowded-by s (c .before .before .before .args .m) (c .before .before .before .args .work .now)))
+
+add-end : tie.Need-add-end Inv-loop μ-loop
+add-end c = omega (arith, within c)
+
+add-choosers : tie.Need-add-choosers Inv-loop μ-loop
+add-choosers c = search needs
+
+mul-choosers : tie.Need-mul-choosers Inv-loop μ-loop
+mul-choosers c = let h : c .before .before .before .before .before .args .m + c .before .loop .b < length (c .before .before .before .before .before .args .work .now) = omega arith in search needs
+
+shared-slice-read-choosers : tie.Need-shared-slice-read-choosers Inv-loop μ-loop
+shared-slice-read-choosers c = search needs
+
+cast-choosers : tie.Need-cast-choosers Inv-loop μ-loop
+cast-choosers c = omega (arith, c .shared-slice-known2 .given (c .before .before .before .before .before .before .args .m + c .before .before .loop .b))
+
+sub-open-bucket : tie.Need-sub-open-bucket Inv-loop μ-loop
+sub-open-bucket c = search needs
+
+part-open-bucket-start : tie.Need-part-open-bucket-start Inv-loop μ-loop
+part-open-bucket-start c = search needs
+
+part-open-bucket-end : tie.Need-part-open-bucket-end Inv-loop μ-loop
+part-open-bucket-end c = within (c .before)
+
+open-bucket-requires : tie.Need-open-bucket-requires Inv-loop μ-loop
+open-bucket-requires c κs = rw (length-lent (c .before .before .before .before .loop .at) (c .before .before .before .before .before .bucket-size .result) (c .before .before .before .before .loop .buckets) (within (c .before .before .before)))
+    (omega (arith, c .before .before .before .before .before .bucket-size .ensures, bounds (paper (c .before .before .before .before .before .before .before .before .args .s)) (c .before .before .before .before .before .before .before .before .pre .0) .bucket-size-least))
+
+add-b : tie.Need-add-b Inv-loop μ-loop
+add-b c = search needs
+
+loop-less : tie.Need-loop-less Inv-loop μ-loop
+loop-less c = search needs
+
+loop-again : tie.Need-loop-again Inv-loop μ-loop
+loop-again c = let s = card-of (paper (c .before .before .before .before .before .before .before .before .before .before .before .args .s)) in
+    let crowd = crowded-by s (c .before .before .before .before .before .before .before .before .before .before .before .args .m) (c .before .before .before .before .before .before .before .before .before .before .before .args .work .now) in
+    let at = c .before .before .before .before .before .before .before .loop .at in
+    let size = c .before .before .before .before .before .before .before .before .bucket-size .result in
+    let part = c .before .before .open-bucket .last .0 in
+    let fits = within (c .before .before .before .before .before .before) in
+    let crowded = ltb (c .before .before .before .before .before .before .before .before .before .before .before .args .s .room) (getD (c .before .before .before .before .before .before .before .before .before .before .before .args .work .now) (c .before .before .before .before .before .before .before .before .before .before .before .args .m + c .before .before .before .before .before .before .before .loop .b) 0) in
+    let test = crowded-test (paper (c .before .before .before .before .before .before .before .before .before .before .before .args .s)) (c .before .before .before .before .before .before .before .before .before .before .before .args .m) (c .before .before .before .before .before .before .before .loop .b) (c .before .before .before .before .before .before .before .before .before .before .before .args .work .now) in (
+      omega arith,
+      row-next at (c .before .before .before .before .before .before .before .loop .b) size (c .before .before .before .before .before .before .before .loop .inv .1),
+      open-length s crowd (c .before .before .before .before .before .before .before .loop .b) at size (c .before .before .before .before .before .before .before .loop .buckets) part crowded (c .before .before .before .before .before .before .before .before .bucket-size .ensures) fits test (c .before .before .open-bucket .ensures) ∙ c .before .before .before .before .before .before .before .loop .inv .2,
+      open-more s crowd (c .before .before .before .before .before .before .before .loop .b) at size (c .before .before .before .before .before .before .before .loop .buckets) part crowded (c .before .before .before .before .before .before .before .before .bucket-size .ensures) fits test (c .before .before .open-bucket .ensures) (c .before .before .before .before .before .before .before .loop .inv .3),
+    )
+
+same-length : tie.Need-same-length Inv-loop μ-loop
+same-length c = c .before .loop .inv .2
+
+returns : tie.Need-returns Inv-loop μ-loop
+returns c = let e : c .before .loop .b ≡ c .before .before .before .before .before .args .m = omega arith in
+    let all : length (c .before .loop .buckets) ≤ c .before .loop .at = rw (c .before .loop .inv .1, e) (omega (arith, c .before .loop .inv .2, area-length (paper (c .before .before .before .before .before .args .s)) (c .before .before .before .before .before .args .m) (c .before .before .bucket-size .result) (length (c .before .before .before .before .before .args .buckets .now)) (c .before .before .before .before .before .pre .1) (c .before .before .before .before .before .pre .3) (c .before .before .bucket-size .ensures))) in
+    sym (take-all (c .before .loop .at) (c .before .loop .buckets) all) ∙ c .before .loop .inv .3 ∙ rw e
+
+pub open-buckets-spec : {M : Type 1} → statement M
+open-buckets-spec =
+    tie.close
+    (tie.spec
+    Inv-loop
+    μ-loop
+    bucket-size-requires
+    loop-holds
+    add-end
+    add-choosers
+    mul-choosers
+    shared-slice-read-choosers
+    cast-choosers
+    sub-open-bucket
+    part-open-bucket-start
+    part-open-bucket-end
+    open-bucket-requires
+    add-b
+    loop-less
+    loop-again
+    same-length
+    returns)

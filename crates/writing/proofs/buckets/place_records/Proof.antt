@@ -1,0 +1,57 @@
+-- `place_records` meets its contract: the first i records are placed, and each turn places one more. Assumes nothing.
+use mathlib.Core.Path.{_≡_, refl, _∙_}
+use Prim.Native.Nat.{_-_, _≤_}
+use native.Mathlib.Omega.{arith}
+use lib.ListN.{length, take}
+use Rattle.theory.specs.Settings.{card-of}
+use Rattle.settings.specs.Checked.{paper}
+use Rattle.placing.specs.Worked.{nth}
+use Rattle.writing.specs.Buckets.{crowded-by, placed}
+use Rattle.writing.proofs.BucketLaws.{growing-none}
+use Rattle.writing.proofs.buckets.place_records.Statement.{statement}
+use Rattle.writing.proofs.buckets.place_records.Tie as tie
+
+abbrev Inv-loop : tie.InvT-loop
+Inv-loop s t m work buckets₀ area n i₀ buckets i = (i ≤ n) × (length buckets ≡ length buckets₀) × (buckets ≡ placed (card-of (paper s)) m work i area)
+
+abbrev μ-loop : tie.MeasureT-loop
+μ-loop s t m work buckets₀ area n i₀ buckets i = n - i
+
+loop-holds : tie.Need-loop-holds Inv-loop μ-loop
+loop-holds c = (
+  omega arith,
+  refl,
+  c .before .before .before .before .pre .5 ∙ growing-none (card-of (paper (c .before .before .before .before .args .s))) (crowded-by (card-of (paper (c .before .before .before .before .args .s))) (c .before .before .before .before .args .m) (c .before .before .before .before .args .work .now)) (nth (take (c .before .before .before .before .args .m) (c .before .before .before .before .args .work .now))) (card-of (paper (c .before .before .before .before .args .s)) .width) (c .before .before .before .before .args .area .now),
+)
+
+place-record-requires : tie.Need-place-record-requires Inv-loop μ-loop
+place-record-requires c κs = (c .before .before .before .before .before .before .before .pre .0, c .before .before .before .before .before .before .before .pre .1, c .before .before .before .before .before .before .before .pre .2, c .before .before .before .before .before .before .before .pre .3, omega arith, c .before .before .before .before .before .before .before .pre .4, c .before .before .loop .inv .2)
+
+add-i : tie.Need-add-i Inv-loop μ-loop
+add-i c = omega arith
+
+loop-less : tie.Need-loop-less Inv-loop μ-loop
+loop-less c = omega arith
+
+loop-again : tie.Need-loop-again Inv-loop μ-loop
+loop-again c = (omega arith, c .before .before .place-record .kept .1 .1 .1 .1 .0 ∙ c .before .before .before .before .before .loop .inv .1, c .before .before .place-record .ensures)
+
+same-length : tie.Need-same-length Inv-loop μ-loop
+same-length c = omega arith
+
+returns : tie.Need-returns Inv-loop μ-loop
+returns c = let e : c .before .loop .i ≡ c .before .before .before .before .before .before .args .n = omega arith in c .before .loop .inv .2 ∙ rw e
+
+pub place-records-spec : {M : Type 1} → statement M
+place-records-spec =
+    tie.close
+    (tie.spec
+    Inv-loop
+    μ-loop
+    loop-holds
+    place-record-requires
+    add-i
+    loop-less
+    loop-again
+    same-length
+    returns)

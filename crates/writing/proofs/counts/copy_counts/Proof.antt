@@ -1,0 +1,67 @@
+-- `copy_counts` meets its contract: the first i numbers are those of `from`. Assumes nothing.
+use mathlib.Core.Path.{_≡_, refl, sym, _∙_}
+use Prim.Native.Nat.{_-_, _≤_, _<_}
+use native.Mathlib.Numerals.{add-one}
+use native.Mathlib.Omega.{arith}
+use borrow.Author.Needs.{needs}
+use lib.ListN.{length, take, getD, length-set}
+use lib.Seq.{take-suc, take-suc-set, take-all}
+use Rattle.writing.proofs.counts.copy_counts.Statement.{statement}
+use Rattle.writing.proofs.counts.copy_counts.Tie as tie
+
+abbrev Inv-loop : tie.InvT-loop
+Inv-loop to₀ from i₀ to i = (i ≤ length from) × (length to ≡ length from) × (take i to ≡ take i from)
+
+abbrev μ-loop : tie.MeasureT-loop
+μ-loop to₀ from i₀ to i = length from - i
+
+loop-holds : tie.Need-loop-holds Inv-loop μ-loop
+loop-holds c = (omega arith, c .pre, refl)
+
+mul-to : tie.Need-mul-to Inv-loop μ-loop
+mul-to c = search needs
+
+shared-slice-read-to : tie.Need-shared-slice-read-to Inv-loop μ-loop
+shared-slice-read-to c = search needs
+
+mul-to-2 : tie.Need-mul-to-2 Inv-loop μ-loop
+mul-to-2 c = let h : c .before .before .loop .i < length (c .before .before .loop .to) = omega arith in search needs
+
+slice-write-to : tie.Need-slice-write-to Inv-loop μ-loop
+slice-write-to c = search needs
+
+add-i : tie.Need-add-i Inv-loop μ-loop
+add-i c = search needs
+
+loop-less : tie.Need-loop-less Inv-loop μ-loop
+loop-less c = search needs
+
+loop-again : tie.Need-loop-again Inv-loop μ-loop
+loop-again c = let from = c .before .before .before .args .from .now in (
+  omega arith,
+  simp length-set (c .before .before .loop .inv .1),
+  rw (add-one (c .before .before .loop .i), take-suc-set (c .before .before .loop .to) (c .before .before .loop .i) (getD from (c .before .before .loop .i) 0) (omega arith), take-suc from (c .before .before .loop .i) 0 (omega arith), c .before .before .loop .inv .2),
+)
+
+same-length : tie.Need-same-length Inv-loop μ-loop
+same-length c = search needs
+
+returns : tie.Need-returns Inv-loop μ-loop
+returns c = sym (take-all (c .before .loop .i) (c .before .loop .to) (omega arith)) ∙ c .before .loop .inv .2 ∙ take-all (c .before .loop .i) (c .before .before .args .from .now) (omega arith)
+
+pub copy-counts-spec : {M : Type 1} → statement M
+copy-counts-spec =
+    tie.close
+    (tie.spec
+    Inv-loop
+    μ-loop
+    loop-holds
+    mul-to
+    shared-slice-read-to
+    mul-to-2
+    slice-write-to
+    add-i
+    loop-less
+    loop-again
+    same-length
+    returns)

@@ -1,0 +1,134 @@
+// The buckets of the layout: all parts opened first, then each record appended to the part of the bucket that it chooses.
+use ledger::bytes::copy;
+use ledger::bytes::zero_fill;
+use settings::Settings;
+ghost use mathlib.Core.Path.{_≡_};
+ghost use mathlib.Core.Bool.{true, cond};
+ghost use Prim.Native.Nat.{_+_, _*_, _<_, _≤_};
+ghost use lib.ListN.{length, getD, replicate, set};
+ghost use Rattle.theory.specs.Settings.{allowed, card-of, buckets-length};
+ghost use Rattle.theory.specs.Records.{records};
+ghost use Rattle.theory.specs.Placing.{true-count};
+ghost use Rattle.theory.specs.Layout.{buckets-bytes};
+ghost use Rattle.settings.specs.Checked.{paper};
+ghost use Rattle.placing.specs.Ready.{Ready};
+ghost use Rattle.placing.specs.Worked.{Worked};
+ghost use Rattle.writing.specs.Buckets.{crowded-by, blank-buckets, placed, appended};
+
+fn wide(mark: u8) -> usize
+    ensures { λ r. ⌜ (r ≡ mark) × (r < 256) ⌝ }
+{
+    mark as usize
+}
+
+// One record more in a bucket's part: at the place that the mark counts, and the mark one up.
+fn append(part: &mut [u8], record: &[u8])
+    requires { ⌜ (getD (now part) 0 0 < 255) × (1 + length (now «record») * getD (now part) 0 0 + length (now «record») ≤ length (now part)) ⌝ }
+    ensures { λ _. ⌜ now (part .exit) ≡ appended (now (part .entry)) (now («record» .entry)) ⌝ }
+{
+    let mark = part[0];
+    let at = 1 + record.len() * wide(mark);
+    let end = at + record.len();
+    copy(&mut part[at..end], record);
+    part[0] = mark + 1;
+}
+
+// A bucket's part with no record: mark 255 if it is crowded, else 0.
+fn open_bucket(part: &mut [u8], crowded: bool)
+    requires { ⌜ 0 < length (now part) ⌝ }
+    ensures { λ _. ⌜ now (part .exit) ≡ set (replicate (length (now (part .entry))) 0) 0 (cond crowded 255 0) ⌝ }
+{
+    zero_fill(&mut part[..]);
+    part[0] = if crowded { 255 } else { 0 };
+}
+
+// Every part with no record; a bucket is crowded when more keys choose it than it has room for.
+fn open_buckets(s: Settings, m: usize, work: &[u16], buckets: &mut [u8])
+    requires { ⌜ (allowed (paper s) ≡ true) × (m ≡ card-of (paper s) .buckets) × (length (now work) ≡ m + m) × (length (now buckets) ≡ buckets-length (card-of (paper s))) ⌝ }
+    ensures { λ _. ⌜ now (buckets .exit) ≡ blank-buckets (card-of (paper s)) (crowded-by (card-of (paper s)) m (now (work .entry))) m ⌝ }
+{
+    let size = s.bucket_size();
+    let mut b: usize = 0;
+    let mut at: usize = 0;
+    while b < m {
+        let end = at + size;
+        let choosers = work[m + b] as usize;
+        open_bucket(&mut buckets[at..end], s.room < choosers);
+        at = end;
+        b += 1;
+    }
+}
+
+// Record i of the list goes to its bucket's part, unless it belongs to the side.
+fn place_record(
+    s: Settings,
+    t: &[u64],
+    m: usize,
+    work: &[u16],
+    buckets: &mut [u8],
+    area: &[u8],
+    n: usize,
+    i: usize,
+)
+    requires { ⌜ Ready s (now t) × (m ≡ card-of (paper s) .buckets) × (length (now work) ≡ m + m) × (n * (card-of (paper s) .width + 4) ≤ length (now area)) × (i < n) × Worked (card-of (paper s)) m (records (card-of (paper s) .width) n (now area)) (now work)
+        × (now buckets ≡ placed (card-of (paper s)) m (now work) i (now area)) ⌝ }
+    ensures { λ _. ⌜ now (buckets .exit) ≡ placed (card-of (paper s)) m (now (work .entry)) (i + 1) (now (area .entry)) ⌝ }
+{
+    let size = s.record_size();
+    let at = i * size;
+    let end = at + s.width();
+    let choice = placing::choose(s, t, &work[..m], &area[at..end]);
+    if choice.all_top {
+        return;
+    }
+    let bucket = choice.bucket;
+    let choosers = work[m + bucket] as usize;
+    if s.room < choosers {
+        return;
+    }
+    let part_size = s.bucket_size();
+    let start = bucket * part_size;
+    let stop = start + part_size;
+    let next = at + size;
+    append(&mut buckets[start..stop], &area[at..next]);
+}
+
+// Every record of the list, in key order.
+fn place_records(
+    s: Settings,
+    t: &[u64],
+    m: usize,
+    work: &[u16],
+    buckets: &mut [u8],
+    area: &[u8],
+    n: usize,
+)
+    requires { ⌜ Ready s (now t) × (m ≡ card-of (paper s) .buckets) × (length (now work) ≡ m + m) × (n * (card-of (paper s) .width + 4) ≤ length (now area)) × Worked (card-of (paper s)) m (records (card-of (paper s) .width) n (now area)) (now work)
+        × (now buckets ≡ blank-buckets (card-of (paper s)) (crowded-by (card-of (paper s)) m (now work)) (card-of (paper s) .buckets)) ⌝ }
+    ensures { λ _. ⌜ now (buckets .exit) ≡ placed (card-of (paper s)) m (now (work .entry)) n (now (area .entry)) ⌝ }
+{
+    let mut i: usize = 0;
+    while i < n {
+        place_record(s, t, m, work, &mut buckets[..], area, n, i);
+        i += 1;
+    }
+}
+
+// "A bucket chosen by at most B keys has that number as its mark and their records in key order, then zeros.
+// One chosen by more has mark 255, then zeros"
+pub fn write_buckets(
+    s: Settings,
+    t: &[u64],
+    m: usize,
+    work: &[u16],
+    buckets: &mut [u8],
+    area: &[u8],
+    n: usize,
+)
+    requires { ⌜ Ready s (now t) × (m ≡ card-of (paper s) .buckets) × (length (now work) ≡ m + m) × (n * (card-of (paper s) .width + 4) ≤ length (now area)) × Worked (card-of (paper s)) m (records (card-of (paper s) .width) n (now area)) (now work)
+        × (length (now buckets) ≡ buckets-length (card-of (paper s))) ⌝ }
+    ensures { λ _. ⌜ now (buckets .exit) ≡ buckets-bytes (card-of (paper s)) (true-count (card-of (paper s)) (records (card-of (paper s) .width) n (now (area .entry)))) (records (card-of (paper s) .width) n (now (area .entry))) ⌝ }
+{
+    open_buckets(s, m, work, &mut buckets[..]);
+    place_records(s, t, m, work, &mut buckets[..], area, n);
+}

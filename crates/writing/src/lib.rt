@@ -1,0 +1,71 @@
+// Writes the layout of a list: true counts, clipped counts, buckets and the side store; and clears every area.
+use ledger::bytes::zero_fill;
+use settings::Settings;
+ghost use mathlib.Core.Path.{_≡_};
+ghost use mathlib.Core.Bool.{true};
+ghost use mathlib.Core.List.{[], map};
+ghost use Prim.Native.Nat.{_+_, _*_, _≤_};
+ghost use lib.ListN.{length};
+ghost use Rattle.theory.specs.Lists.{upto};
+ghost use Rattle.theory.specs.Records.{records};
+ghost use Rattle.theory.specs.Settings.{allowed, card-of, ledger-length, true-length, clipped-length, buckets-length, side-length};
+ghost use Rattle.theory.specs.Placing.{true-count};
+ghost use Rattle.theory.specs.Layout.{counter-bytes, buckets-bytes, side-bytes, layout};
+ghost use Rattle.theory.specs.Ledger.{side-need-of};
+ghost use Rattle.settings.specs.Checked.{paper};
+ghost use Rattle.placing.specs.Ready.{Ready};
+ghost use Rattle.placing.specs.Worked.{Worked};
+
+pub mod buckets; // buckets.rt: the bucket area, each bucket's part lent on
+pub mod counts; // counts.rt: true counts and clipped counts
+pub mod side; // side.rt: the side store
+
+// The layout of the list in every area but the ledger, whose records are `area`; work holds the list's true counts and choosers.
+pub fn write_areas(
+    s: Settings,
+    t: &[u64],
+    m: usize,
+    work: &[u16],
+    true_counts: &mut [u16],
+    clipped: &mut [u8],
+    buckets: &mut [u8],
+    side: &mut [u8],
+    area: &[u8],
+    n: usize,
+    need: usize,
+)
+    requires { ⌜ Ready s (now t) × (m ≡ card-of (paper s) .buckets) × (length (now work) ≡ m + m) × (n * (card-of (paper s) .width + 4) ≤ length (now area)) × (n ≤ 60000)
+        × Worked (card-of (paper s)) m (records (card-of (paper s) .width) n (now area)) (now work)
+        × (need ≡ side-need-of (card-of (paper s)) (records (card-of (paper s) .width) n (now area))) × (need ≤ card-of (paper s) .side-places)
+        × (length (now «true_counts») ≡ true-length (card-of (paper s))) × (length (now clipped) ≡ clipped-length (card-of (paper s)))
+        × (length (now buckets) ≡ buckets-length (card-of (paper s))) × (length (now side) ≡ side-length (card-of (paper s))) ⌝ }
+    ensures { λ _. ⌜ (now («true_counts» .exit) ≡ map (true-count (card-of (paper s)) (records (card-of (paper s) .width) n (now (area .entry)))) (upto 0 (card-of (paper s) .buckets)))
+        × (now (clipped .exit) ≡ counter-bytes (card-of (paper s)) (true-count (card-of (paper s)) (records (card-of (paper s) .width) n (now (area .entry)))))
+        × (now (buckets .exit) ≡ buckets-bytes (card-of (paper s)) (true-count (card-of (paper s)) (records (card-of (paper s) .width) n (now (area .entry)))) (records (card-of (paper s) .width) n (now (area .entry))))
+        × (now (side .exit) ≡ side-bytes (card-of (paper s)) (true-count (card-of (paper s)) (records (card-of (paper s) .width) n (now (area .entry)))) (records (card-of (paper s) .width) n (now (area .entry)))) ⌝ }
+{
+    counts::copy_counts(&mut true_counts[..], &work[..m]);
+    counts::write_clipped(s.top, &mut clipped[..], &work[..m]);
+    buckets::write_buckets(s, t, m, work, &mut buckets[..], area, n);
+    side::write_side(s, t, m, work, &mut side[..], area, n, need);
+}
+
+// "Clear lays out the empty list, on areas with any contents."
+pub fn clear_areas(
+    s: Settings,
+    ledger: &mut [u8],
+    true_counts: &mut [u16],
+    clipped: &mut [u8],
+    buckets: &mut [u8],
+    side: &mut [u8],
+)
+    requires { ⌜ (allowed (paper s) ≡ true) × (length (now ledger) ≡ ledger-length (card-of (paper s))) × (length (now «true_counts») ≡ true-length (card-of (paper s)))
+        × (length (now clipped) ≡ clipped-length (card-of (paper s))) × (length (now buckets) ≡ buckets-length (card-of (paper s))) × (length (now side) ≡ side-length (card-of (paper s))) ⌝ }
+    ensures { λ _. ⌜ record { ledger = now (ledger .exit); true-counts = now («true_counts» .exit); clipped-counts = now (clipped .exit); buckets = now (buckets .exit); side-store = now (side .exit) } ≡ layout (card-of (paper s)) [] ⌝ }
+{
+    zero_fill(&mut ledger[..]);
+    placing::zero_counts(&mut true_counts[..]);
+    zero_fill(&mut clipped[..]);
+    zero_fill(&mut buckets[..]);
+    zero_fill(&mut side[..]);
+}

@@ -1,0 +1,155 @@
+//! The paper's own cases, and its plain ledger beside its layout: the model against the paper. No door is called here.
+
+mod model;
+mod random;
+
+use model::card::Card;
+use model::hash;
+use model::layout::layout;
+use model::ledger::{list_of, valid, Ledger};
+use model::lookup::{fill, search, second_search, tally, Part};
+use model::placing::Placing;
+use model::records::{Key, Record};
+use model::settings::Settings;
+use random::Random;
+
+// k is not looked at: the bucket numbers are given.
+fn placed(b: u64, t: u64, numbers: &[&[u64]]) -> Placing {
+    let numbers: Vec<Vec<u64>> = numbers.iter().map(|own| own.to_vec()).collect();
+    Placing::of(&Settings::of([4, 4, b, t, 128, 8]), &numbers)
+}
+
+#[test]
+fn zero_key() {
+    let rows = hash::rows();
+    assert_eq!(rows[0], 8748534153485358512);
+    assert_eq!(hash::h(&rows, &[0; 13]), 0);
+    for k in 1..=4 {
+        let card = Card::new(Settings::of([12, k, 1, 2, 1, 0]));
+        assert_eq!(card.numbers(&[0; 13]), [0]);
+    }
+}
+
+#[test]
+fn buckets_1_5_and_1_6() {
+    let both = placed(1, 15, &[&[1, 5], &[1, 6]]);
+    assert_eq!(both.choosers[5], [0]);
+    assert_eq!(both.choosers[6], [1]);
+    assert_eq!(both.side_need(), 0);
+    assert_eq!(placed(1, 15, &[&[1, 5]]).choosers[1], [0]);
+}
+
+#[test]
+fn a_removal_moves_others() {
+    let with_w: [&[u64]; 5] = [&[1, 5], &[1, 6], &[5, 8], &[6, 9], &[1, 7]];
+    assert_eq!(placed(1, 15, &with_w).side_need(), 0);
+    let without_w = placed(1, 15, &with_w[..4]);
+    assert_eq!(without_w.choosers[1], [0, 1]);
+    assert_eq!(without_w.side_need(), 2);
+    assert_eq!(placed(2, 15, &with_w[..4]).side_need(), 0);
+}
+
+#[test]
+fn three_keys_on_1_and_5() {
+    let three: [&[u64]; 3] = [&[1, 5], &[1, 5], &[1, 5]];
+    for b in 1..=4 {
+        assert_eq!(placed(b, 3, &three).side_need(), 3);
+    }
+    assert_eq!(placed(3, 4, &three).side_need(), 0);
+}
+
+#[test]
+fn clipped_counts_3_and_20() {
+    let settings = Settings::of([4, 1, 4, 15, 128, 64]);
+    let mut numbers = vec![vec![2]; 3];
+    numbers.resize(23, vec![3]);
+    let placing = Placing::of(&settings, &numbers);
+    let byte = placing.clipped(&settings, 2).0 + 16 * placing.clipped(&settings, 3).0;
+    assert_eq!(byte, 0xf3);
+    // the same byte in an area: keys sought that have bucket 2 and bucket 3
+    let card = Card::new(settings);
+    let mut random = Random::new(5);
+    let mut list = Vec::new();
+    for (bucket, wanted) in [(2, 3), (3, 20)] {
+        let mut found = 0;
+        while found < wanted {
+            let key: Key = random.bytes();
+            if card.numbers(&key) == [bucket] {
+                list.push(Record { key, class: 1 });
+                found += 1;
+            }
+        }
+    }
+    list.sort_by_key(|r| r.key);
+    let areas = layout(&card, &list).unwrap();
+    assert_eq!(areas.clipped[1], 0xf3);
+    assert_eq!((areas.true_counts[2], areas.true_counts[3]), (3, 20));
+}
+
+#[test]
+fn fill_for_16_buckets() {
+    assert_eq!([0, 2, 6].map(|n| fill(n, 16)), [0, 13, 38]);
+}
+
+// From a clear, a list of random calls: the layout of the plain ledger's list answers every search and tally as the plain ledger does.
+#[test]
+fn plain_ledger_and_layout() {
+    let mut random = Random::new(6);
+    let mut answers = std::collections::BTreeMap::new();
+    for _ in 0..300 {
+        let settings = Settings::of([
+            random.between(4, 5),
+            random.between(1, 4),
+            random.between(1, 2),
+            random.between(2, 4),
+            random.between(1, 40),
+            random.between(0, 6),
+        ]);
+        let card = Card::new(settings);
+        let keys: Vec<Key> = (0..30).map(|_| random.bytes()).collect();
+        let mut ledger = Ledger::default();
+        for _ in 0..100 {
+            let key = &keys[random.between(0, 29) as usize];
+            let key = &key[..if random.between(0, 50) == 0 { 12 } else { 13 }];
+            let class = random.next() as u32;
+            let before = ledger.clone();
+            let answer = match random.between(0, 99) {
+                0 => ledger.clear(),
+                1..=69 => ledger.add(&card, key, class),
+                70..=79 => ledger.change(&card, key, class),
+                _ => ledger.remove(&card, key),
+            };
+            *answers.entry(answer).or_insert(0) += 1;
+            assert!(answer == 0 || ledger == before);
+            let areas = layout(&card, &ledger.list).expect("an accepted call leaves a layout");
+            assert!(valid(&settings, &areas.ledger));
+            assert_eq!(list_of(&areas.ledger), ledger.list);
+            assert_eq!(
+                tally(&card, &areas.ledger, areas.lookup()),
+                Ok(ledger.tally(&card))
+            );
+            let key = &keys[random.between(0, 29) as usize];
+            let answer = ledger.search(&card, key);
+            assert_eq!(search(&card, areas.lookup(), key), answer);
+            let part = second_search(&card, areas.lookup(), key);
+            match ledger.second_search(key) {
+                None => assert_eq!(part, Part::Empty),
+                Some(record) => match part {
+                    Part::Empty => panic!("{record:?} is held"),
+                    Part::OfBuckets { at, bytes } => {
+                        assert_eq!(bytes, record.bytes());
+                        assert_eq!(bytes, areas.buckets[at..at + 17]);
+                    }
+                    Part::OfSide { at, bytes } => {
+                        assert_eq!(bytes, record.bytes());
+                        assert_eq!(bytes, areas.side[at..at + 17]);
+                    }
+                },
+            }
+        }
+    }
+    println!("updates by answer: {answers:?}");
+    for number in [0, 3, 6, 7, 8, 9] {
+        assert!(answers.contains_key(&number), "no update answered {number}");
+    }
+}

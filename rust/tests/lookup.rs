@@ -1,0 +1,848 @@
+//! Both search doors and tally against the model: on layouts that the model makes, on damaged areas, on wrong lengths and settings.
+
+mod model;
+mod random;
+
+use flow::{doors, HashTable, LookupAreas, Refusal, Settings, Tally};
+use model::card::Card;
+use model::layout::{layout, Areas};
+use model::ledger::Ledger;
+use model::lookup::{self as paper, Answer, Lookup, Part, Place};
+use model::records::{Key, Record};
+use model::settings::{Settings as Model, LIMITS};
+use random::Random;
+use std::collections::BTreeMap;
+
+// Searches of each test, each through both doors.
+const ON_LAYOUTS: u64 = 400_000;
+const ON_LARGE_LAYOUTS: u64 = 100_000;
+const ON_DAMAGED_AREAS: u64 = 700_000;
+const ON_WRONG_LENGTHS: u64 = 100_000;
+const BY_LOCALITY: u64 = 100_000;
+const _: () = assert!(ON_LAYOUTS + ON_LARGE_LAYOUTS + ON_DAMAGED_AREAS >= 1_000_000);
+
+// Tallies of a test.
+const TALLIES: u64 = 60_000;
+
+// How often each answer was seen.
+#[derive(Default)]
+struct Seen {
+    total: u64,
+    answers: BTreeMap<u32, u64>,
+}
+
+impl Seen {
+    fn note(&mut self, answer: u32) {
+        self.total += 1;
+        *self.answers.entry(answer).or_default() += 1;
+    }
+
+    // Prints the counts; fails where one of these answers never occurred.
+    fn report(&self, what: &str, expected: &[u32]) {
+        println!("{} {what}, by answer: {:?}", self.total, self.answers);
+        for answer in expected {
+            assert!(self.answers.contains_key(answer), "{what}: no {answer}");
+        }
+    }
+}
+
+// What a test calls the doors with.
+struct Doors {
+    table: HashTable,
+    seen: Seen,
+}
+
+impl Doors {
+    fn new() -> Doors {
+        Doors {
+            table: HashTable::new(),
+            seen: Seen::default(),
+        }
+    }
+
+    // A search through both doors; they agree with the model.
+    fn search(&mut self, card: &Card, areas: Lookup, key: &[u8]) -> Answer {
+        let expected = paper::search(card, areas, key);
+        let numbers = card.settings.numbers();
+        let Lookup {
+            clipped,
+            buckets,
+            side,
+        } = areas;
+        let whole = doors::search(numbers, clipped, buckets, side, key);
+        let lent = doors::search_lent(self.table.entries(), numbers, clipped, buckets, side, key);
+        assert_eq!(
+            (whole, lent),
+            (expected.door(), expected.door()),
+            "{:?} {key:?}",
+            card.settings
+        );
+        self.seen.note(expected.number);
+        expected
+    }
+
+    // A tally; the door agrees with the model, and on a refusal the totals stay.
+    fn tally(&mut self, card: &Card, ledger: &[u8], areas: Lookup) -> Result<paper::Totals, u32> {
+        const BEFORE: [u32; 4] = [91, 92, 93, 94];
+        let mut totals = BEFORE;
+        let answer = doors::tally(
+            card.settings.numbers(),
+            ledger,
+            areas.clipped,
+            areas.buckets,
+            areas.side,
+            &mut totals,
+        );
+        let expected = paper::tally(card, ledger, areas);
+        match expected {
+            Ok(numbers) => {
+                let paper::Totals {
+                    in_buckets,
+                    in_side,
+                    marked_255,
+                    fill,
+                } = numbers;
+                assert_eq!(answer, 0, "{:?}", card.settings);
+                assert_eq!(
+                    totals.map(u64::from),
+                    [in_buckets, in_side, marked_255, fill],
+                    "{:?}",
+                    card.settings
+                );
+            }
+            Err(number) => {
+                assert_eq!((answer, totals), (number, BEFORE), "{:?}", card.settings);
+            }
+        }
+        self.seen.note(answer);
+        expected
+    }
+}
+
+// Allowed settings: mostly small ones, so that clipped counts, crowded buckets and the side store all occur.
+fn random_card(random: &mut Random) -> Card {
+    let numbers = if random.between(0, 9) == 0 {
+        LIMITS.map(|(low, high)| random.between(low, high))
+    } else {
+        [
+            random.between(4, 6),
+            random.between(1, 4),
+            random.between(1, 2),
+            random.between(2, 4),
+            random.between(1, 80),
+            match random.between(0, 3) {
+                0 => random.between(0, 64),
+                _ => random.between(0, 4),
+            },
+        ]
+    };
+    Card::new(Model::of(numbers))
+}
+
+// Random bytes, or bits that stand alone, or all zeros.
+fn random_key(random: &mut Random) -> Key {
+    match random.between(0, 19) {
+        0 => [0; 13],
+        1 => {
+            let mut key = [0; 13];
+            key[random.between(0, 12) as usize] = 1 << random.between(0, 7);
+            key
+        }
+        _ => random.bytes(),
+    }
+}
+
+// So many random records with distinct keys, taken out one by one until the rest has a layout: near what the side store allows.
+fn filled(random: &mut Random, card: &Card, count: u64) -> (Vec<Record>, Areas) {
+    let mut ledger = Ledger::default();
+    while (ledger.list.len() as u64) < count {
+        let key = random_key(random);
+        if ledger.list.binary_search_by_key(&key, |r| r.key).is_err() {
+            let class = match random.between(0, 9) {
+                0 => 0,
+                1 => u32::MAX,
+                _ => random.next() as u32,
+            };
+            let at = ledger.list.partition_point(|r| r.key < key);
+            ledger.list.insert(at, Record { key, class });
+        }
+    }
+    loop {
+        if let Some(areas) = layout(card, &ledger.list) {
+            return (ledger.list, areas);
+        }
+        let some = 1 + ledger.list.len() as u64 / 64;
+        for _ in 0..some {
+            let at = random.between(0, ledger.list.len() as u64 - 1);
+            ledger.list.remove(at as usize);
+        }
+    }
+}
+
+fn random_table(random: &mut Random, card: &Card) -> (Vec<Record>, Areas) {
+    let n = card.settings.n;
+    let count = match random.between(0, 3) {
+        0 => random.between(0, n),
+        1 => n.min(card.settings.m() * card.settings.b),
+        _ => n,
+    };
+    filled(random, card, count.min(300))
+}
+
+// Where the searches on layouts came.
+#[derive(Debug, Default)]
+struct Places {
+    nowhere: u64,
+    records_of_a_bucket: u64,
+    empty_bucket: u64,
+    side_by_counters: u64,
+    side_by_mark: u64,
+}
+
+impl Places {
+    fn note(&mut self, place: Place) {
+        *match place {
+            Place::Damaged => panic!("a layout is not damaged"),
+            Place::Nowhere => &mut self.nowhere,
+            Place::Bucket { records: 0, .. } => &mut self.empty_bucket,
+            Place::Bucket { .. } => &mut self.records_of_a_bucket,
+            Place::SideByCounters { .. } => &mut self.side_by_counters,
+            Place::SideByMark { .. } => &mut self.side_by_mark,
+        } += 1;
+    }
+}
+
+// Every held key is found with its class, and the plain ledger agrees with the areas.
+fn search_layout(
+    doors: &mut Doors,
+    places: &mut Places,
+    card: &Card,
+    list: &[Record],
+    areas: &Areas,
+    absent: &[Key],
+) {
+    for record in list {
+        let answer = doors.search(card, areas.lookup(), &record.key);
+        assert_eq!((answer.number, answer.class), (0, record.class));
+        assert!(answer.buckets_read <= 1);
+        places.note(paper::place(card, areas.lookup(), &record.key));
+        let part = match paper::second_search(card, areas.lookup(), &record.key) {
+            Part::Empty => panic!("{record:?} is held"),
+            Part::OfBuckets { bytes, .. } | Part::OfSide { bytes, .. } => bytes,
+        };
+        assert_eq!(part, record.bytes());
+    }
+    for key in absent {
+        let held = list.iter().find(|r| r.key == *key);
+        let answer = doors.search(card, areas.lookup(), key);
+        assert_eq!(
+            (answer.number, answer.class),
+            held.map_or((100, 0), |r| (0, r.class))
+        );
+        places.note(paper::place(card, areas.lookup(), key));
+    }
+}
+
+#[test]
+fn searches_on_layouts() {
+    let mut random = Random::new(11);
+    let mut doors = Doors::new();
+    let mut places = Places::default();
+    let mut clipped_below_true = 0;
+    let mut tables = 0;
+    while doors.seen.total < ON_LAYOUTS {
+        let card = random_card(&mut random);
+        let (list, areas) = random_table(&mut random, &card);
+        clipped_below_true += areas
+            .true_counts
+            .iter()
+            .filter(|&&count| u64::from(count) > card.settings.t)
+            .count();
+        // absent keys: random ones, and held ones with a bit turned
+        let mut absent: Vec<Key> = (0..20).map(|_| random_key(&mut random)).collect();
+        for record in list.iter().take(10) {
+            let mut key = record.key;
+            key[random.between(0, 12) as usize] ^= 1 << random.between(0, 7);
+            absent.push(key);
+        }
+        search_layout(&mut doors, &mut places, &card, &list, &areas, &absent);
+        tables += 1;
+    }
+    doors.seen.report("searches on layouts", &[0, 100]);
+    println!(
+        "{tables} tables, {clipped_below_true} counters clipped below the true count, {places:?}"
+    );
+    assert!(clipped_below_true > 0);
+    assert!(places.nowhere > 0 && places.records_of_a_bucket > 0 && places.empty_bucket > 0);
+    assert!(places.side_by_counters > 0 && places.side_by_mark > 0);
+}
+
+// The card's largest settings, and random large ones.
+#[test]
+fn searches_on_large_layouts() {
+    let mut random = Random::new(12);
+    let mut doors = Doors::new();
+    let mut places = Places::default();
+    let mut largest = 0;
+    let mut card = Card::new(Model::of([12, 3, 4, 15, 4096, 64]));
+    while doors.seen.total < ON_LARGE_LAYOUTS {
+        let (list, areas) = filled(&mut random, &card, 4000.min(card.settings.n));
+        let absent: Vec<Key> = (0..4000).map(|_| random_key(&mut random)).collect();
+        search_layout(&mut doors, &mut places, &card, &list, &areas, &absent);
+        largest = largest.max(list.len());
+        let mut numbers = LIMITS.map(|(low, high)| random.between(low, high));
+        numbers[0] = random.between(9, 12);
+        card = Card::new(Model::of(numbers));
+    }
+    doors.seen.report("searches on large layouts", &[0, 100]);
+    println!("at most {largest} flows, {places:?}");
+    assert_eq!(largest, 4000);
+}
+
+// One record place of the area gets the key, and some class.
+fn plant(random: &mut Random, area: &mut [u8], from: usize, key: &Key) {
+    let places = (area.len() - from) / 17;
+    if places > 0 {
+        let at = from + 17 * random.between(0, places as u64 - 1) as usize;
+        area[at..at + 13].copy_from_slice(key);
+    }
+}
+
+// A count that is sometimes above the most.
+fn random_count(random: &mut Random, most: u64) -> u64 {
+    match random.between(0, 19) {
+        0 => random.between(0, 65535),
+        1 => most + random.between(0, 2),
+        // a high byte that a reader of the low one alone would miss
+        2 => 256 * random.between(1, 255) + random.between(0, most),
+        _ => random.between(0, most),
+    }
+}
+
+fn set_count(area: &mut [u8], count: u64) {
+    area[0] = (count / 256) as u8;
+    area[1] = (count % 256) as u8;
+}
+
+// A mark: mostly one that a search may go on with.
+fn random_mark(random: &mut Random, room: u64) -> u8 {
+    match random.between(0, 19) {
+        0 => random.between(room + 1, 254) as u8,
+        1 => room as u8 + 1,
+        2 => 254,
+        3..=6 => 255,
+        _ => random.between(0, room) as u8,
+    }
+}
+
+// Counters that are seldom zero or above T, or alike.
+fn random_counters(random: &mut Random, clipped: &mut [u8], top: u64) {
+    let way = random.between(0, 4);
+    let alike = random.between(0, 15) as u8;
+    for byte in clipped {
+        let mut half = || match way {
+            0 => random.between(0, 15) as u8,
+            1 => random.between(1, top) as u8,
+            2 => top as u8,
+            3 => alike,
+            _ => match random.between(0, 29) {
+                0 => 0,
+                1 => random.between(top, 15) as u8,
+                _ => random.between(1, top) as u8,
+            },
+        };
+        *byte = half() + 16 * half();
+    }
+}
+
+// Damage to lookup areas of a table, such that some searches still get far.
+fn damage(random: &mut Random, card: &Card, areas: &mut Areas, keys: &[Key]) {
+    let room = card.settings.b;
+    let bucket_bytes = card.bucket_bytes();
+    match random.between(0, 5) {
+        // single bytes
+        0 => {
+            for _ in 0..random.between(1, 8) {
+                for area in [&mut areas.clipped, &mut areas.buckets, &mut areas.side] {
+                    let at = random.between(0, area.len() as u64 - 1) as usize;
+                    area[at] = random.next() as u8;
+                }
+            }
+        }
+        // one kind of damage: counters, marks or the side count
+        1 => {
+            let at = random.between(0, areas.clipped.len() as u64 - 1) as usize;
+            areas.clipped[at] = random.next() as u8;
+        }
+        2 => {
+            for bucket in areas.buckets.chunks_mut(bucket_bytes) {
+                if random.between(0, 3) == 0 {
+                    bucket[0] = random_mark(random, room);
+                }
+            }
+        }
+        3 => {
+            let count = random_count(random, card.settings.s);
+            set_count(&mut areas.side, count);
+        }
+        // random bytes everywhere, with counters and marks that lead on
+        4 => {
+            for area in [&mut areas.buckets, &mut areas.side] {
+                for byte in area.iter_mut() {
+                    *byte = random.next() as u8;
+                }
+            }
+            random_counters(random, &mut areas.clipped, card.settings.t);
+            for bucket in areas.buckets.chunks_mut(bucket_bytes) {
+                bucket[0] = random_mark(random, room);
+                for key in keys {
+                    plant(random, bucket, 1, key);
+                }
+            }
+            let count = random_count(random, card.settings.s);
+            set_count(&mut areas.side, count);
+            for key in keys {
+                plant(random, &mut areas.side, 2, key);
+            }
+        }
+        // random bytes everywhere
+        _ => {
+            for area in [&mut areas.clipped, &mut areas.buckets, &mut areas.side] {
+                for byte in area.iter_mut() {
+                    *byte = random.next() as u8;
+                }
+            }
+        }
+    }
+}
+
+#[test]
+fn searches_on_damaged_areas() {
+    let mut random = Random::new(13);
+    let mut doors = Doors::new();
+    let (mut held_of_side, mut held_of_buckets) = (0, 0);
+    while doors.seen.total < ON_DAMAGED_AREAS {
+        let card = random_card(&mut random);
+        let (list, areas) = random_table(&mut random, &card);
+        let mut keys: Vec<Key> = list.iter().take(40).map(|r| r.key).collect();
+        keys.extend((0..20).map(|_| random_key(&mut random)));
+        for _ in 0..4 {
+            let mut areas = areas.clone();
+            let some = random.between(0, keys.len() as u64 - 4) as usize;
+            damage(&mut random, &card, &mut areas, &keys[some..some + 4]);
+            for key in &keys {
+                doors.search(&card, areas.lookup(), key);
+                match paper::second_search(&card, areas.lookup(), key) {
+                    Part::Empty => {}
+                    Part::OfBuckets { .. } => held_of_buckets += 1,
+                    Part::OfSide { .. } => held_of_side += 1,
+                }
+            }
+        }
+    }
+    doors.seen.report("searches on damaged areas", &[0, 100, 5]);
+    println!("held: {held_of_buckets} out of the buckets, {held_of_side} out of the side store");
+    assert!(held_of_buckets > 0 && held_of_side > 0);
+}
+
+// A length other than n: near it, zero, twice it, or any.
+fn wrong_length(random: &mut Random, n: usize) -> usize {
+    let other = match random.between(0, 6) {
+        0 => 0,
+        1 => n.saturating_sub(1),
+        2 => n + 1,
+        3 => n.saturating_sub(17),
+        4 => n + 17,
+        5 => 2 * n,
+        _ => random.between(0, 2 * n as u64 + 2) as usize,
+    };
+    if other == n {
+        n + 1
+    } else {
+        other
+    }
+}
+
+// A setting out of its range.
+fn spoiled(random: &mut Random, settings: Model) -> Model {
+    let mut numbers = settings.numbers();
+    let i = random.between(0, 5) as usize;
+    let (low, high) = LIMITS[i];
+    numbers[i] = match random.between(0, 4) {
+        0 if low > 0 => low - 1,
+        1 => (1 << 32) + numbers[i],
+        2 => u64::MAX,
+        3 => numbers[i] + (1 << 16),
+        _ => high + 1,
+    };
+    Model::of(numbers)
+}
+
+// Some of: settings out of range, areas of wrong lengths, a key of a wrong length, damage. The lowest that applies is given.
+#[test]
+fn searches_with_wrong_lengths_and_settings() {
+    let mut random = Random::new(14);
+    let mut doors = Doors::new();
+    while doors.seen.total < ON_WRONG_LENGTHS {
+        let card = random_card(&mut random);
+        let (list, areas) = random_table(&mut random, &card);
+        for _ in 0..50 {
+            let mut areas = areas.clone();
+            let mut settings = card.settings;
+            let key = match list.first() {
+                Some(record) if random.between(0, 1) == 0 => record.key,
+                _ => random_key(&mut random),
+            };
+            let mut key = key.to_vec();
+            if random.between(0, 3) == 0 {
+                let keys = [random_key(&mut random)];
+                damage(&mut random, &card, &mut areas, &keys);
+            }
+            if random.between(0, 3) == 0 {
+                key.resize(wrong_length(&mut random, 13), 7);
+            }
+            for area in [&mut areas.clipped, &mut areas.buckets, &mut areas.side] {
+                if random.between(0, 7) == 0 {
+                    area.resize(wrong_length(&mut random, area.len()), 0);
+                }
+            }
+            if random.between(0, 5) == 0 {
+                settings = spoiled(&mut random, settings);
+            }
+            doors.search(&Card::new(settings), areas.lookup(), &key);
+        }
+    }
+    doors.seen.report(
+        "searches, some with wrong lengths and settings",
+        &[0, 100, 1, 2, 3, 5],
+    );
+}
+
+// Each length by itself, and the lent table's, which is judged with the areas'.
+#[test]
+fn each_wrong_length() {
+    let mut random = Random::new(15);
+    let card = Card::new(Model::of([6, 3, 2, 4, 128, 8]));
+    let (list, areas) = filled(&mut random, &card, 60);
+    let numbers = card.settings.numbers();
+    let table = HashTable::new();
+    let key = list[0].key;
+    let right = [areas.clipped.len(), areas.buckets.len(), areas.side.len()];
+    let mut doors = Doors::new();
+    for i in 0..3 {
+        for n in (0..=2 * right[i] + 2).filter(|&n| n != right[i]) {
+            let mut lengths = right;
+            lengths[i] = n;
+            let mut areas = areas.clone();
+            areas.clipped.resize(lengths[0], 0);
+            areas.buckets.resize(lengths[1], 0);
+            areas.side.resize(lengths[2], 0);
+            assert_eq!(doors.search(&card, areas.lookup(), &key).number, 2);
+            assert_eq!(doors.search(&card, areas.lookup(), &key[1..]).number, 2);
+        }
+    }
+    for n in (0..=40).filter(|&n| n != 13) {
+        let key = vec![7; n];
+        assert_eq!(doors.search(&card, areas.lookup(), &key).number, 3);
+    }
+    let Lookup {
+        clipped,
+        buckets,
+        side,
+    } = areas.lookup();
+    for n in [0, 1, 13, 256, 3072, 3327, 3329, 3584, 6656] {
+        let other = vec![1; n];
+        for key in [&key[..], &key[1..]] {
+            assert_eq!(
+                doors::search_lent(&other, numbers, clipped, buckets, side, key),
+                2 << 32
+            );
+        }
+        let mut spoiled = numbers;
+        spoiled[3] = 16;
+        assert_eq!(
+            doors::search_lent(&other, spoiled, clipped, buckets, side, &key),
+            1 << 32
+        );
+    }
+    assert_eq!(
+        doors::search_lent(table.entries(), numbers, clipped, buckets, side, &key),
+        u64::from(list[0].class)
+    );
+}
+
+// Every setting at and around its limits, each by itself.
+#[test]
+fn each_setting_out_of_range() {
+    let mut random = Random::new(16);
+    let card = Card::new(Model::of([6, 3, 2, 4, 128, 8]));
+    let (list, areas) = filled(&mut random, &card, 60);
+    let mut doors = Doors::new();
+    for (i, (low, high)) in LIMITS.into_iter().enumerate() {
+        let mut values = vec![high + 1, (1 << 32) + low, (1 << 16) + low, u64::MAX];
+        if low > 0 {
+            values.push(low - 1);
+            values.push(0);
+        }
+        for value in values {
+            let mut numbers = card.settings.numbers();
+            numbers[i] = value;
+            let other = Card::new(Model::of(numbers));
+            assert_eq!(doors.search(&other, areas.lookup(), &list[0].key).number, 1);
+            assert_eq!(doors.search(&other, areas.lookup(), &[]).number, 1);
+            let tallied = doors.tally(&other, &areas.ledger, areas.lookup());
+            assert_eq!(tallied, Err(1));
+        }
+    }
+}
+
+// On a lent table with other contents the door is safe: held, absent or 5.
+#[test]
+fn lent_table_of_any_contents() {
+    let mut random = Random::new(17);
+    for _ in 0..200 {
+        let card = random_card(&mut random);
+        let (list, mut areas) = random_table(&mut random, &card);
+        damage(&mut random, &card, &mut areas, &[]);
+        let table: Vec<u64> = (0..3328).map(|_| random.next()).collect();
+        let numbers = card.settings.numbers();
+        for record in &list {
+            let answer = doors::search_lent(
+                &table,
+                numbers,
+                &areas.clipped,
+                &areas.buckets,
+                &areas.side,
+                &record.key,
+            );
+            assert!([0, 5, 100].contains(&(answer >> 32)));
+            assert!(answer >> 32 == 0 || answer as u32 == 0);
+        }
+    }
+}
+
+// At most one bucket is read: with other bytes in all other buckets the answer is the same. Where no bucket is read, in all buckets.
+#[test]
+fn other_buckets_do_not_count() {
+    let mut random = Random::new(18);
+    let mut doors = Doors::new();
+    let (mut one, mut none) = (0, 0);
+    while doors.seen.total < BY_LOCALITY {
+        let card = random_card(&mut random);
+        let (list, mut areas) = random_table(&mut random, &card);
+        let mut keys: Vec<Key> = list.iter().take(10).map(|r| r.key).collect();
+        keys.extend((0..10).map(|_| random_key(&mut random)));
+        if random.between(0, 1) == 0 {
+            damage(&mut random, &card, &mut areas, &keys[..4]);
+        }
+        for key in &keys {
+            let answer = doors.search(&card, areas.lookup(), key);
+            let chosen = paper::chosen_bucket(&card, areas.lookup(), key);
+            match chosen {
+                Some(_) => one += 1,
+                None => none += 1,
+            }
+            let mut other = areas.clone();
+            for (b, bucket) in other.buckets.chunks_mut(card.bucket_bytes()).enumerate() {
+                if Some(b as u64) != chosen {
+                    for byte in bucket {
+                        *byte = random.next() as u8;
+                    }
+                }
+            }
+            assert_eq!(doors.search(&card, other.lookup(), key), answer);
+        }
+    }
+    doors.seen.report("searches by locality", &[0, 100, 5]);
+    println!("one bucket read by {one}, none by {none}");
+    assert!(one > 0 && none > 0);
+}
+
+// Damage to a ledger: count above N, keys not rising, a nonzero byte after the last record, a single byte, or all random.
+fn damage_ledger(random: &mut Random, card: &Card, ledger: &mut [u8]) {
+    let n = 256 * usize::from(ledger[0]) + usize::from(ledger[1]);
+    let end = 2 + 17 * n;
+    match random.between(0, 5) {
+        0 => set_count(ledger, card.settings.n + random.between(0, 2)),
+        1 => {
+            let count = random_count(random, card.settings.n);
+            set_count(ledger, count);
+        }
+        2 if n > 1 => {
+            let at = 2 + 17 * random.between(0, n as u64 - 2) as usize;
+            // the second key becomes the first, or they change places
+            let (first, second) = ledger[at..at + 34].split_at_mut(17);
+            if random.between(0, 1) == 0 {
+                second[..13].copy_from_slice(&first[..13]);
+            } else {
+                first.swap_with_slice(second);
+            }
+        }
+        3 if end < ledger.len() => {
+            let at = random.between(end as u64, ledger.len() as u64 - 1) as usize;
+            ledger[at] = random.between(1, 255) as u8;
+        }
+        4 => {
+            let at = random.between(0, ledger.len() as u64 - 1) as usize;
+            ledger[at] = random.next() as u8;
+        }
+        _ => {
+            for byte in ledger.iter_mut() {
+                *byte = random.next() as u8;
+            }
+        }
+    }
+}
+
+#[test]
+fn tallies() {
+    let mut random = Random::new(19);
+    let mut doors = Doors::new();
+    let (mut in_side, mut marked, mut of_layouts) = (0, 0, 0);
+    while doors.seen.total < TALLIES {
+        let card = random_card(&mut random);
+        let (list, areas) = random_table(&mut random, &card);
+        // a layout: the plain ledger's numbers
+        let totals = doors.tally(&card, &areas.ledger, areas.lookup()).unwrap();
+        of_layouts += 1;
+        assert_eq!(totals, Ledger { list: list.clone() }.tally(&card));
+        assert_eq!(totals.in_buckets + totals.in_side, list.len() as u64);
+        in_side += totals.in_side;
+        marked += totals.marked_255;
+        for _ in 0..12 {
+            let mut areas = areas.clone();
+            let mut settings = card.settings;
+            if random.between(0, 1) == 0 {
+                let keys = [random_key(&mut random)];
+                damage(&mut random, &card, &mut areas, &keys);
+            }
+            if random.between(0, 1) == 0 {
+                damage_ledger(&mut random, &card, &mut areas.ledger);
+            }
+            for area in [
+                &mut areas.ledger,
+                &mut areas.clipped,
+                &mut areas.buckets,
+                &mut areas.side,
+            ] {
+                if random.between(0, 19) == 0 {
+                    area.resize(wrong_length(&mut random, area.len()), 0);
+                }
+            }
+            if random.between(0, 9) == 0 {
+                settings = spoiled(&mut random, settings);
+            }
+            let _ = doors.tally(&Card::new(settings), &areas.ledger, areas.lookup());
+        }
+    }
+    doors.seen.report("tallies", &[0, 1, 2, 4, 5]);
+    println!("{of_layouts} on layouts, with {in_side} records in side stores and {marked} buckets marked 255");
+    assert!(in_side > 0 && marked > 0);
+}
+
+// Each single fault of areas that are right otherwise, so that no other can hide it.
+#[test]
+fn each_fault_of_a_tally() {
+    let mut random = Random::new(20);
+    let mut doors = Doors::new();
+    for _ in 0..60 {
+        let card = random_card(&mut random);
+        let settings = card.settings;
+        let (_, right) = random_table(&mut random, &card);
+        let tally =
+            |doors: &mut Doors, areas: &Areas| doors.tally(&card, &areas.ledger, areas.lookup());
+        for b in 0..settings.m() as usize {
+            let mut areas = right.clone();
+            let low = b % 2 == 0;
+            for count in 0..16 {
+                let byte = &mut areas.clipped[b / 2];
+                *byte = if low {
+                    *byte / 16 * 16 + count
+                } else {
+                    *byte % 16 + 16 * count
+                };
+                let expected = u64::from(count) <= settings.t;
+                assert_eq!(tally(&mut doors, &areas).is_ok(), expected);
+            }
+            if b % 7 == 0 {
+                let mut areas = right.clone();
+                let mark = b * card.bucket_bytes();
+                for value in [0, settings.b as u8, settings.b as u8 + 1, 5, 128, 254, 255] {
+                    areas.buckets[mark] = value;
+                    let expected = u64::from(value) <= settings.b || value == 255;
+                    assert_eq!(tally(&mut doors, &areas).is_ok(), expected);
+                }
+            }
+        }
+        let mut areas = right.clone();
+        for count in [0, settings.s, settings.s + 1, 256, 65535] {
+            set_count(&mut areas.side, count);
+            assert_eq!(tally(&mut doors, &areas).is_ok(), count <= settings.s);
+        }
+    }
+    // totals of another length
+    let card = Card::new(Model::of([4, 1, 1, 2, 1, 0]));
+    let areas = layout(&card, &[]).unwrap();
+    for n in (0..=10).filter(|&n| n != 4) {
+        let mut totals = vec![7; n];
+        let mut call = |numbers| {
+            doors::tally(
+                numbers,
+                &areas.ledger,
+                &areas.clipped,
+                &areas.buckets,
+                &areas.side,
+                &mut totals,
+            )
+        };
+        assert_eq!(call([4, 1, 1, 2, 1, 0]), 2);
+        assert_eq!(call([4, 1, 1, 1, 1, 0]), 1);
+        assert_eq!(totals, vec![7; n]);
+    }
+    doors.seen.report("tallies with one fault", &[0, 5]);
+}
+
+// The safe crate hands on what the doors say.
+#[test]
+fn safe_wrappers() {
+    let mut random = Random::new(21);
+    let table = HashTable::new();
+    for _ in 0..300 {
+        let card = random_card(&mut random);
+        let [p, k, room, top, capacity, side_places] = card.settings.numbers();
+        let settings = Settings::new(p, k, room, top, capacity, side_places).unwrap();
+        let (list, mut areas) = random_table(&mut random, &card);
+        if random.between(0, 2) == 0 {
+            damage(&mut random, &card, &mut areas, &[]);
+        }
+        if random.between(0, 2) == 0 {
+            damage_ledger(&mut random, &card, &mut areas.ledger);
+        }
+        let lent = LookupAreas {
+            clipped_counts: &areas.clipped,
+            buckets: &areas.buckets,
+            side_store: &areas.side,
+        };
+        let mut keys: Vec<Vec<u8>> = list.iter().map(|r| r.key.to_vec()).collect();
+        keys.extend((0..20).map(|n| vec![7; n]));
+        for key in &keys {
+            let answer = paper::search(&card, areas.lookup(), key);
+            let expected = match answer.number {
+                0 => Ok(Some(answer.class)),
+                100 => Ok(None),
+                number => Err(Refusal::from_number(number).unwrap()),
+            };
+            assert_eq!(flow::search(&settings, &lent, key), expected);
+            assert_eq!(flow::search_lent(&table, &settings, &lent, key), expected);
+        }
+        let expected = paper::tally(&card, &areas.ledger, areas.lookup())
+            .map(|totals| Tally {
+                in_buckets: totals.in_buckets as u32,
+                in_side_store: totals.in_side as u32,
+                marked_255: totals.marked_255 as u32,
+                fill: totals.fill as u32,
+            })
+            .map_err(|number| Refusal::from_number(number).unwrap());
+        assert_eq!(flow::tally(&settings, &areas.ledger, &lent), expected);
+    }
+}

@@ -1,0 +1,64 @@
+//! The layout of a list of records: the five areas, byte by byte.
+
+use super::card::Card;
+use super::placing::Placing;
+use super::records::{counted_area, Record};
+
+/// The five areas that calls share.
+#[derive(Clone, Debug, PartialEq, Eq)]
+pub struct Areas {
+    pub ledger: Vec<u8>,
+    pub true_counts: Vec<u16>,
+    pub clipped: Vec<u8>,
+    pub buckets: Vec<u8>,
+    pub side: Vec<u8>,
+}
+
+/// Where the records of a list in rising key order belong.
+pub fn placing(card: &Card, list: &[Record]) -> Placing {
+    let numbers: Vec<Vec<u64>> = list.iter().map(|r| card.numbers(&r.key)).collect();
+    Placing::of(&card.settings, &numbers)
+}
+
+/// The layout of a list in rising key order, if it is defined: at most N records, and a side need of at most S.
+pub fn layout(card: &Card, list: &[Record]) -> Option<Areas> {
+    let settings = &card.settings;
+    let placing = placing(card, list);
+    if list.len() as u64 > settings.n || placing.side_need() > settings.s {
+        return None;
+    }
+    let side: Vec<Record> = placing.side.iter().map(|&i| list[i]).collect();
+    Some(Areas {
+        ledger: counted_area(list, settings.n),
+        true_counts: placing.true_counts.iter().map(|c| c.0 as u16).collect(),
+        clipped: clipped(card, &placing),
+        buckets: buckets(card, &placing, list),
+        side: counted_area(&side, settings.s),
+    })
+}
+
+/// Bucket b in byte b / 2, an even b in the low four bits.
+fn clipped(card: &Card, placing: &Placing) -> Vec<u8> {
+    let mut area = vec![0; (card.settings.m() / 2) as usize];
+    for b in 0..card.settings.m() {
+        let count = placing.clipped(&card.settings, b).0 as u8;
+        area[(b / 2) as usize] += if b % 2 == 0 { count } else { 16 * count };
+    }
+    area
+}
+
+/// Of each bucket the mark, the records of its choosers unless the mark is 255, and zeros.
+fn buckets(card: &Card, placing: &Placing, list: &[Record]) -> Vec<u8> {
+    let mut area = Vec::new();
+    for b in 0..card.settings.m() {
+        let mut bucket = vec![placing.mark(&card.settings, b)];
+        if bucket[0] != 255 {
+            for &i in &placing.choosers[b as usize] {
+                bucket.extend(list[i].bytes());
+            }
+        }
+        bucket.resize(card.bucket_bytes(), 0);
+        area.extend(bucket);
+    }
+    area
+}

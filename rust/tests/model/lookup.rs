@@ -1,0 +1,277 @@
+//! 'The calls' that only read, on areas with any contents and lengths: search, the second search call, tally.
+
+use super::card::Card;
+use super::hash::KEY_BYTES;
+use super::layout::Areas;
+use super::ledger;
+use super::placing::ClippedCount;
+use super::records::{count, first_records, Key, RECORD_BYTES};
+
+/// The three lookup areas.
+#[derive(Clone, Copy)]
+pub struct Lookup<'a> {
+    pub clipped: &'a [u8],
+    pub buckets: &'a [u8],
+    pub side: &'a [u8],
+}
+
+impl Areas {
+    pub fn lookup(&self) -> Lookup<'_> {
+        Lookup {
+            clipped: &self.clipped,
+            buckets: &self.buckets,
+            side: &self.side,
+        }
+    }
+}
+
+/// 0 held, 100 absent, or a refusal; class and counts are zero where they say nothing.
+#[derive(Clone, Copy, Debug, PartialEq, Eq)]
+pub struct Answer {
+    pub number: u32,
+    pub class: u32,
+    pub buckets_read: u64,
+    pub compared: u64,
+}
+
+impl Answer {
+    pub fn refused(number: u32) -> Answer {
+        Answer {
+            number,
+            class: 0,
+            buckets_read: 0,
+            compared: 0,
+        }
+    }
+
+    /// What the forwarding driver gets.
+    pub fn door(&self) -> u64 {
+        u64::from(self.number) * 2u64.pow(32) + u64::from(self.class)
+    }
+}
+
+/// Where a search looks.
+#[derive(Clone, Copy, Debug, PartialEq, Eq)]
+pub enum Place {
+    /// What was read is damaged: 5.
+    Damaged,
+    /// A counter of the key is zero.
+    Nowhere,
+    /// So many records of this bucket.
+    Bucket { b: u64, records: u64 },
+    /// So many records of the side store, all counters being T.
+    SideByCounters { records: u64 },
+    /// So many records of the side store, this bucket's mark being 255.
+    SideByMark { b: u64, records: u64 },
+}
+
+/// What the second search call hands back: 17 bytes from byte `at` of one of two areas, or the empty part.
+#[derive(Clone, Copy, Debug, PartialEq, Eq)]
+pub enum Part {
+    Empty,
+    OfBuckets {
+        at: usize,
+        bytes: [u8; RECORD_BYTES],
+    },
+    OfSide {
+        at: usize,
+        bytes: [u8; RECORD_BYTES],
+    },
+}
+
+/// Refusals 1, 2 and 3 of a search, the lowest that applies.
+pub fn refused_at_once(card: &Card, areas: Lookup, key: &[u8]) -> Option<u32> {
+    if !card.settings.allowed() {
+        return Some(1);
+    }
+    let lengths = card.settings.area_lengths();
+    if areas.clipped.len() as u64 != lengths[2]
+        || areas.buckets.len() as u64 != lengths[3]
+        || areas.side.len() as u64 != lengths[4]
+    {
+        return Some(2);
+    }
+    if key.len() != KEY_BYTES {
+        return Some(3);
+    }
+    None
+}
+
+fn counter(areas: Lookup, b: u64) -> ClippedCount {
+    let byte = areas.clipped[(b / 2) as usize];
+    ClippedCount(u64::from(if b % 2 == 0 { byte % 16 } else { byte / 16 }))
+}
+
+/// The bucket that a search goes to, by the counters alone: None where it reads no bucket.
+pub fn chosen_bucket(card: &Card, areas: Lookup, key: &Key) -> Option<u64> {
+    let t = card.settings.t;
+    let numbers = card.numbers(key);
+    let counters: Vec<u64> = numbers.iter().map(|&b| counter(areas, b).0).collect();
+    if counters.iter().any(|&c| c > t || c == 0) || counters.iter().all(|&c| c == t) {
+        return None;
+    }
+    let least = numbers.iter().map(|&b| counter(areas, b)).min();
+    numbers
+        .into_iter()
+        .filter(|&b| Some(counter(areas, b)) == least)
+        .min()
+}
+
+/// All counters of the key are read, then at most one bucket, then perhaps the side count.
+pub fn place(card: &Card, areas: Lookup, key: &Key) -> Place {
+    let settings = &card.settings;
+    let numbers = card.numbers(key);
+    if numbers.iter().any(|&b| counter(areas, b).0 > settings.t) {
+        return Place::Damaged;
+    }
+    if numbers.iter().any(|&b| counter(areas, b).0 == 0) {
+        return Place::Nowhere;
+    }
+    let side_records = count(areas.side);
+    match chosen_bucket(card, areas, key) {
+        None if side_records > settings.s => Place::Damaged,
+        None => Place::SideByCounters {
+            records: side_records,
+        },
+        Some(b) => {
+            let mark = u64::from(areas.buckets[b as usize * card.bucket_bytes()]);
+            if mark == 255 && side_records > settings.s {
+                Place::Damaged
+            } else if mark == 255 {
+                Place::SideByMark {
+                    b,
+                    records: side_records,
+                }
+            } else if mark > settings.b {
+                Place::Damaged
+            } else {
+                Place::Bucket { b, records: mark }
+            }
+        }
+    }
+}
+
+/// The area and byte at which the records of a place start, and how many there are.
+fn span(card: &Card, place: Place) -> Option<(bool, usize, u64)> {
+    match place {
+        Place::Damaged | Place::Nowhere => None,
+        Place::Bucket { b, records } => Some((true, b as usize * card.bucket_bytes() + 1, records)),
+        Place::SideByCounters { records } | Place::SideByMark { records, .. } => {
+            Some((false, 2, records))
+        }
+    }
+}
+
+pub fn search(card: &Card, areas: Lookup, key: &[u8]) -> Answer {
+    if let Some(number) = refused_at_once(card, areas, key) {
+        return Answer::refused(number);
+    }
+    let key: Key = key.try_into().unwrap();
+    let place = place(card, areas, &key);
+    if place == Place::Damaged {
+        return Answer::refused(5);
+    }
+    let mut answer = Answer {
+        number: 100,
+        class: 0,
+        buckets_read: match place {
+            Place::Bucket { .. } | Place::SideByMark { .. } => 1,
+            _ => 0,
+        },
+        compared: 0,
+    };
+    if let Some((in_buckets, from, n)) = span(card, place) {
+        let area = if in_buckets {
+            areas.buckets
+        } else {
+            areas.side
+        };
+        for record in first_records(&area[from..], n) {
+            answer.compared += 1;
+            if record.key == key {
+                answer.number = 0;
+                answer.class = record.class;
+                break;
+            }
+        }
+    }
+    answer
+}
+
+pub fn second_search(card: &Card, areas: Lookup, key: &[u8]) -> Part {
+    let answer = search(card, areas, key);
+    if answer.number != 0 {
+        return Part::Empty;
+    }
+    // held: the last record compared is the one
+    let place = place(card, areas, key.try_into().unwrap());
+    let (in_buckets, from, _) = span(card, place).unwrap();
+    let at = from + RECORD_BYTES * (answer.compared as usize - 1);
+    let part = |area: &[u8]| area[at..at + RECORD_BYTES].try_into().unwrap();
+    if in_buckets {
+        Part::OfBuckets {
+            at,
+            bytes: part(areas.buckets),
+        }
+    } else {
+        Part::OfSide {
+            at,
+            bytes: part(areas.side),
+        }
+    }
+}
+
+/// Tally's four numbers.
+#[derive(Clone, Copy, Debug, PartialEq, Eq)]
+pub struct Totals {
+    pub in_buckets: u64,
+    pub in_side: u64,
+    pub marked_255: u64,
+    pub fill: u64,
+}
+
+/// 100 × count / m to the nearest whole number, a half going up.
+pub fn fill(count: u64, m: u64) -> u64 {
+    let (whole, rest) = (100 * count / m, 100 * count % m);
+    if 2 * rest >= m {
+        whole + 1
+    } else {
+        whole
+    }
+}
+
+/// The four numbers, or 1, 2, 4 or 5.
+pub fn tally(card: &Card, ledger_area: &[u8], areas: Lookup) -> Result<Totals, u32> {
+    let settings = &card.settings;
+    if !settings.allowed() {
+        return Err(1);
+    }
+    let lengths = settings.area_lengths();
+    if ledger_area.len() as u64 != lengths[0]
+        || areas.clipped.len() as u64 != lengths[2]
+        || areas.buckets.len() as u64 != lengths[3]
+        || areas.side.len() as u64 != lengths[4]
+    {
+        return Err(2);
+    }
+    if !ledger::valid(settings, ledger_area) {
+        return Err(4);
+    }
+    let marks: Vec<u64> = areas
+        .buckets
+        .chunks(card.bucket_bytes())
+        .map(|bucket| u64::from(bucket[0]))
+        .collect();
+    if (0..settings.m()).any(|b| counter(areas, b).0 > settings.t)
+        || marks.iter().any(|&mark| mark > settings.b && mark != 255)
+        || count(areas.side) > settings.s
+    {
+        return Err(5);
+    }
+    Ok(Totals {
+        in_buckets: marks.iter().filter(|&&mark| mark != 255).sum(),
+        in_side: count(areas.side),
+        marked_255: marks.iter().filter(|&&mark| mark == 255).count() as u64,
+        fill: fill(count(ledger_area), settings.m()),
+    })
+}
