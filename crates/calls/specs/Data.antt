@@ -1,0 +1,24 @@
+-- A call as data, and what comes back, as the code holds them. Assumes nothing.
+use mathlib.Core.List.{List}
+use Prim.Native.Nat.{ℕ}
+use Rattle.theory.specs.Ledger as plain
+use Rattle.lookup.specs.Answers.{answer-of}
+use Rattle.lookup.specs.Tallies.{totals-of}
+use Rattle.calls.specs.declared.Kind.{Kind}
+use Rattle.calls.specs.declared.Kind.the-variants.{Clear, Add, Change, Remove, Search, Tally}
+use Rattle.calls.specs.declared.Reply.{Reply}
+use Rattle.calls.specs.declared.Reply.the-variants.{Answered, Totalled}
+
+-- the call of a kind, with a key and a class
+abbrev pub call-of : Kind → List ℕ → ℕ → plain.Call
+call-of Clear k x = plain.clear
+call-of Add k x = plain.add k x
+call-of Change k x = plain.change k x
+call-of Remove k x = plain.remove k
+call-of Search k x = plain.search k
+call-of Tally k x = plain.tally
+
+-- the paper's number and values
+abbrev pub reply-of : Reply → plain.Reply
+reply-of (Answered a) = plain.answered (answer-of a)
+reply-of (Totalled x) = plain.totalled (totals-of x)
