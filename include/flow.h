@@ -12,20 +12,26 @@
  *   side_places  0 to 64 records in the side store
  *
  * A door answers 0, or the number of a refusal; where several apply, the lowest. A search that finds nothing answers 100. A refused call
- * alters no area.
+ * alters no area but work.
  *   1  a setting is out of range
  *   2  a lent area is not of its length
  *   3  a key is not of 13 bytes
  *   4  the ledger is damaged: its count is above the capacity, its keys do not rise, or a byte after its last record is not zero
  *   5  what is read of the lookup areas is damaged: a clipped count is above the top count, a mark is above the room and not 255, or the
  *      side count is above the side places
+ *   6  the key to add is held
+ *   7  the key to change or to remove is not held
+ *   8  a flow is to be added, and the capacity is reached
+ *   9  after the call more flows would belong to the side store than it has places
  *
  * The areas that hold a table, with a record of 17 bytes: a key of 13, then its class in 4, high byte first:
  *   ledger          2 + 17 * capacity bytes: a two-byte count, high byte first, records in rising key order, zeros
+ *   true counts     m 16-bit numbers: how many held keys have each bucket's number among theirs
  *   clipped counts  m / 2 bytes: bucket b in byte b / 2, an even b in the low four bits
  *   buckets         m times 1 + 17 * room bytes: a mark, then places for records
  *   side store      2 + 17 * side_places bytes, shaped as the ledger
- * The last three are the lookup areas.
+ * The last three are the lookup areas. The layout of a list of flows is these five areas, filled from the list alone. Beside them:
+ *   work            2 * m 16-bit numbers, its contents after a call free
  */
 #ifndef FLOW_H
 #define FLOW_H
@@ -101,6 +107,41 @@ uint32_t flow_tally(uint64_t p, uint64_t k, uint64_t room, uint64_t top, uint64_
                     const uint8_t *ledger, size_t ledger_length, const uint8_t *clipped, size_t clipped_length,
                     const uint8_t *buckets, size_t buckets_length, const uint8_t *side, size_t side_length, uint32_t *totals,
                     size_t totals_length);
+
+/* Lays out the empty list. Lent: the five areas, of their lengths under the settings, with any contents.
+ * 0: every area is zeros.
+ * 1: a setting is out of range. 2: an area is not of its length. */
+uint32_t flow_clear(uint64_t p, uint64_t k, uint64_t room, uint64_t top, uint64_t capacity, uint64_t side_places,
+                    uint8_t *ledger, size_t ledger_length, uint16_t *true_counts, size_t true_counts_length, uint8_t *clipped,
+                    size_t clipped_length, uint8_t *buckets, size_t buckets_length, uint8_t *side, size_t side_length);
+
+/* Adds a flow. Lent: the five areas and work, of their lengths under the settings; key, of 13 bytes, which is only read. Of the areas only
+ * the ledger is read, so the other four and work may hold anything.
+ * 0: every area holds the layout of the ledger's list with the flow put in at its key's place.
+ * 1: a setting is out of range. 2: an area or work is not of its length. 3: key is not of 13 bytes. 4: the ledger is damaged.
+ * 6: the key is held. 8: the capacity is reached. 9: the side store would not suffice. */
+uint32_t flow_add(uint64_t p, uint64_t k, uint64_t room, uint64_t top, uint64_t capacity, uint64_t side_places,
+                  uint8_t *ledger, size_t ledger_length, uint16_t *true_counts, size_t true_counts_length, uint8_t *clipped,
+                  size_t clipped_length, uint8_t *buckets, size_t buckets_length, uint8_t *side, size_t side_length,
+                  uint16_t *work, size_t work_length, const uint8_t *key, size_t key_length, uint32_t class_number);
+
+/* Gives a held flow another class. Lent: as for flow_add.
+ * 0: every area holds the layout of the ledger's list with that class.
+ * 1: a setting is out of range. 2: an area or work is not of its length. 3: key is not of 13 bytes. 4: the ledger is damaged.
+ * 7: the key is not held. 9: the side store does not suffice, which on areas that hold a layout does not occur. */
+uint32_t flow_change(uint64_t p, uint64_t k, uint64_t room, uint64_t top, uint64_t capacity, uint64_t side_places,
+                     uint8_t *ledger, size_t ledger_length, uint16_t *true_counts, size_t true_counts_length, uint8_t *clipped,
+                     size_t clipped_length, uint8_t *buckets, size_t buckets_length, uint8_t *side, size_t side_length,
+                     uint16_t *work, size_t work_length, const uint8_t *key, size_t key_length, uint32_t class_number);
+
+/* Takes a held flow out. Lent: as for flow_add.
+ * 0: every area holds the layout of the ledger's list without the flow.
+ * 1: a setting is out of range. 2: an area or work is not of its length. 3: key is not of 13 bytes. 4: the ledger is damaged.
+ * 7: the key is not held. 9: the side store would not suffice: a removal moves other flows, and some may come to belong to the side. */
+uint32_t flow_remove(uint64_t p, uint64_t k, uint64_t room, uint64_t top, uint64_t capacity, uint64_t side_places,
+                     uint8_t *ledger, size_t ledger_length, uint16_t *true_counts, size_t true_counts_length, uint8_t *clipped,
+                     size_t clipped_length, uint8_t *buckets, size_t buckets_length, uint8_t *side, size_t side_length,
+                     uint16_t *work, size_t work_length, const uint8_t *key, size_t key_length);
 
 #ifdef __cplusplus
 }

@@ -1,5 +1,5 @@
 //! The doors as they stand. Each answers 0 or the number of a refusal, on every input, and a search also 100 for absent; a refused call
-//! alters nothing. Settings stand in the order p, k, room, top, capacity, side places.
+//! alters nothing but work. Settings stand in the order p, k, room, top, capacity, side places.
 
 // What the static library defines. Nothing compares these lines with the Rattle source: they are those of include/flow.h. A slice
 // passes as a pointer and its length.
@@ -106,6 +106,96 @@ mod c {
             side_length: usize,
             totals: *mut u32,
             totals_length: usize,
+        ) -> u32;
+
+        pub fn flow_clear(
+            p: u64,
+            k: u64,
+            room: u64,
+            top: u64,
+            capacity: u64,
+            side_places: u64,
+            ledger: *mut u8,
+            ledger_length: usize,
+            true_counts: *mut u16,
+            true_counts_length: usize,
+            clipped: *mut u8,
+            clipped_length: usize,
+            buckets: *mut u8,
+            buckets_length: usize,
+            side: *mut u8,
+            side_length: usize,
+        ) -> u32;
+
+        pub fn flow_add(
+            p: u64,
+            k: u64,
+            room: u64,
+            top: u64,
+            capacity: u64,
+            side_places: u64,
+            ledger: *mut u8,
+            ledger_length: usize,
+            true_counts: *mut u16,
+            true_counts_length: usize,
+            clipped: *mut u8,
+            clipped_length: usize,
+            buckets: *mut u8,
+            buckets_length: usize,
+            side: *mut u8,
+            side_length: usize,
+            work: *mut u16,
+            work_length: usize,
+            key: *const u8,
+            key_length: usize,
+            class: u32,
+        ) -> u32;
+
+        pub fn flow_change(
+            p: u64,
+            k: u64,
+            room: u64,
+            top: u64,
+            capacity: u64,
+            side_places: u64,
+            ledger: *mut u8,
+            ledger_length: usize,
+            true_counts: *mut u16,
+            true_counts_length: usize,
+            clipped: *mut u8,
+            clipped_length: usize,
+            buckets: *mut u8,
+            buckets_length: usize,
+            side: *mut u8,
+            side_length: usize,
+            work: *mut u16,
+            work_length: usize,
+            key: *const u8,
+            key_length: usize,
+            class: u32,
+        ) -> u32;
+
+        pub fn flow_remove(
+            p: u64,
+            k: u64,
+            room: u64,
+            top: u64,
+            capacity: u64,
+            side_places: u64,
+            ledger: *mut u8,
+            ledger_length: usize,
+            true_counts: *mut u16,
+            true_counts_length: usize,
+            clipped: *mut u8,
+            clipped_length: usize,
+            buckets: *mut u8,
+            buckets_length: usize,
+            side: *mut u8,
+            side_length: usize,
+            work: *mut u16,
+            work_length: usize,
+            key: *const u8,
+            key_length: usize,
         ) -> u32;
     }
 }
@@ -267,6 +357,144 @@ pub fn tally(
             side.len(),
             totals.as_mut_ptr(),
             totals.len(),
+        )
+    }
+}
+
+/// The five areas that the calls share, lent to one that writes.
+#[derive(Debug)]
+pub struct LentAreas<'a> {
+    /// The ledger.
+    pub ledger: &'a mut [u8],
+    /// The true counts.
+    pub true_counts: &'a mut [u16],
+    /// The clipped counts.
+    pub clipped: &'a mut [u8],
+    /// The buckets.
+    pub buckets: &'a mut [u8],
+    /// The side store.
+    pub side: &'a mut [u8],
+}
+
+/// The layout of the empty list, on areas with any contents; 1; 2 if an area is not of its length.
+pub fn clear(settings: [u64; 6], areas: LentAreas) -> u32 {
+    let [p, k, room, top, capacity, side_places] = settings;
+    unsafe {
+        c::flow_clear(
+            p,
+            k,
+            room,
+            top,
+            capacity,
+            side_places,
+            areas.ledger.as_mut_ptr(),
+            areas.ledger.len(),
+            areas.true_counts.as_mut_ptr(),
+            areas.true_counts.len(),
+            areas.clipped.as_mut_ptr(),
+            areas.clipped.len(),
+            areas.buckets.as_mut_ptr(),
+            areas.buckets.len(),
+            areas.side.as_mut_ptr(),
+            areas.side.len(),
+        )
+    }
+}
+
+/// The layout of the ledger's list with one flow more; 1; 2 if an area or `work` is not of its length; 3 if the key is not of 13 bytes; 4 if
+/// the ledger is damaged; 6 if the key is held; 8 if the capacity is reached; 9 if the side store would not suffice.
+pub fn add(settings: [u64; 6], areas: LentAreas, work: &mut [u16], key: &[u8], class: u32) -> u32 {
+    let [p, k, room, top, capacity, side_places] = settings;
+    unsafe {
+        c::flow_add(
+            p,
+            k,
+            room,
+            top,
+            capacity,
+            side_places,
+            areas.ledger.as_mut_ptr(),
+            areas.ledger.len(),
+            areas.true_counts.as_mut_ptr(),
+            areas.true_counts.len(),
+            areas.clipped.as_mut_ptr(),
+            areas.clipped.len(),
+            areas.buckets.as_mut_ptr(),
+            areas.buckets.len(),
+            areas.side.as_mut_ptr(),
+            areas.side.len(),
+            work.as_mut_ptr(),
+            work.len(),
+            key.as_ptr(),
+            key.len(),
+            class,
+        )
+    }
+}
+
+/// The layout of the ledger's list with another class for a held flow; 1, 2, 3 and 4 as for [`add`]; 7 if the key is not held; 9 if the side
+/// store does not suffice.
+pub fn change(
+    settings: [u64; 6],
+    areas: LentAreas,
+    work: &mut [u16],
+    key: &[u8],
+    class: u32,
+) -> u32 {
+    let [p, k, room, top, capacity, side_places] = settings;
+    unsafe {
+        c::flow_change(
+            p,
+            k,
+            room,
+            top,
+            capacity,
+            side_places,
+            areas.ledger.as_mut_ptr(),
+            areas.ledger.len(),
+            areas.true_counts.as_mut_ptr(),
+            areas.true_counts.len(),
+            areas.clipped.as_mut_ptr(),
+            areas.clipped.len(),
+            areas.buckets.as_mut_ptr(),
+            areas.buckets.len(),
+            areas.side.as_mut_ptr(),
+            areas.side.len(),
+            work.as_mut_ptr(),
+            work.len(),
+            key.as_ptr(),
+            key.len(),
+            class,
+        )
+    }
+}
+
+/// The layout of the ledger's list without a held flow; 1, 2, 3 and 4 as for [`add`]; 7 if the key is not held; 9 if the side store would not
+/// suffice.
+pub fn remove(settings: [u64; 6], areas: LentAreas, work: &mut [u16], key: &[u8]) -> u32 {
+    let [p, k, room, top, capacity, side_places] = settings;
+    unsafe {
+        c::flow_remove(
+            p,
+            k,
+            room,
+            top,
+            capacity,
+            side_places,
+            areas.ledger.as_mut_ptr(),
+            areas.ledger.len(),
+            areas.true_counts.as_mut_ptr(),
+            areas.true_counts.len(),
+            areas.clipped.as_mut_ptr(),
+            areas.clipped.len(),
+            areas.buckets.as_mut_ptr(),
+            areas.buckets.len(),
+            areas.side.as_mut_ptr(),
+            areas.side.len(),
+            work.as_mut_ptr(),
+            work.len(),
+            key.as_ptr(),
+            key.len(),
         )
     }
 }

@@ -1,18 +1,20 @@
 //! The flow card's pruned hash table, over the doors of its proved static library.
 //!
 //! [`doors`] has each door as it stands: numbers and slices in, the answer's number out. The rest of the crate is what a Rust user
-//! takes: [`Settings`] that are in range, a [`HashTable`] that is filled, [`LookupAreas`] to [`search`] and to [`tally`], and a
-//! [`Refusal`] in place of a number.
+//! takes: [`Settings`] that are in range, a [`Table`] that owns its areas, a [`HashTable`] that is filled, [`LookupAreas`] to [`search`]
+//! and to [`tally`] where others own them, and a [`Refusal`] in place of a number.
 
 #![deny(missing_docs)]
 
 mod lookup;
 mod refusal;
+mod table;
 
 pub mod doors;
 
 pub use lookup::{search, search_lent, tally, LookupAreas, Tally};
 pub use refusal::Refusal;
+pub use table::{Table, TableAreas};
 
 /// A key has this many bytes.
 pub const KEY_BYTES: usize = 13;

@@ -4,6 +4,7 @@
 // each test takes the part of the model that it needs
 #![allow(dead_code)]
 
+pub mod calls;
 pub mod card;
 pub mod hash;
 pub mod layout;

@@ -1,0 +1,150 @@
+//! A table that owns its areas.
+
+use crate::doors::{self, LentAreas};
+use crate::{accepted, lookup, HashTable, LookupAreas, Refusal, Settings, Tally};
+
+/// A table with its five areas and its work area. Whatever was called, the areas hold the layout of the flows held.
+///
+/// ```
+/// use flow::{Refusal, Settings, Table};
+///
+/// let mut table = Table::new(Settings::new(6, 3, 2, 4, 128, 8)?);
+/// let key = [1; 13];
+/// table.add(&key, 7)?;
+/// assert_eq!(table.search(&key), Ok(Some(7)));
+/// assert_eq!(table.add(&key, 8), Err(Refusal::Held));
+/// table.change(&key, 8)?;
+/// assert_eq!(table.search(&key), Ok(Some(8)));
+/// table.remove(&key)?;
+/// assert_eq!(table.search(&key), Ok(None));
+/// # Ok::<(), Refusal>(())
+/// ```
+#[derive(Clone, Debug)]
+pub struct Table {
+    settings: Settings,
+    ledger: Vec<u8>,
+    true_counts: Vec<u16>,
+    clipped_counts: Vec<u8>,
+    buckets: Vec<u8>,
+    side_store: Vec<u8>,
+    work: Vec<u16>,
+}
+
+/// The five areas of a [`Table`], for reading.
+#[derive(Clone, Copy, Debug, PartialEq, Eq)]
+pub struct TableAreas<'a> {
+    /// The ledger.
+    pub ledger: &'a [u8],
+    /// The true counts.
+    pub true_counts: &'a [u16],
+    /// The clipped counts.
+    pub clipped_counts: &'a [u8],
+    /// The buckets.
+    pub buckets: &'a [u8],
+    /// The side store.
+    pub side_store: &'a [u8],
+}
+
+impl<'a> TableAreas<'a> {
+    /// The three that a search reads.
+    pub fn lookup(&self) -> LookupAreas<'a> {
+        LookupAreas {
+            clipped_counts: self.clipped_counts,
+            buckets: self.buckets,
+            side_store: self.side_store,
+        }
+    }
+}
+
+impl Table {
+    /// A cleared table.
+    pub fn new(settings: Settings) -> Table {
+        let lengths = settings.area_lengths();
+        let mut table = Table {
+            settings,
+            ledger: vec![0; lengths.ledger as usize],
+            true_counts: vec![0; lengths.true_counts as usize],
+            clipped_counts: vec![0; lengths.clipped_counts as usize],
+            buckets: vec![0; lengths.buckets as usize],
+            side_store: vec![0; lengths.side_store as usize],
+            work: vec![0; lengths.work as usize],
+        };
+        table.clear();
+        table
+    }
+
+    /// The settings.
+    pub fn settings(&self) -> &Settings {
+        &self.settings
+    }
+
+    /// The five areas.
+    pub fn areas(&self) -> TableAreas<'_> {
+        TableAreas {
+            ledger: &self.ledger,
+            true_counts: &self.true_counts,
+            clipped_counts: &self.clipped_counts,
+            buckets: &self.buckets,
+            side_store: &self.side_store,
+        }
+    }
+
+    /// Takes every flow out.
+    pub fn clear(&mut self) {
+        let numbers = self.settings.numbers();
+        let (areas, _) = self.lend();
+        accepted(doors::clear(numbers, areas)).expect("areas of their lengths are cleared");
+    }
+
+    /// Adds a flow. [`Refusal::KeyLength`] where the key is not of 13 bytes, [`Refusal::Held`] where it is held, [`Refusal::Full`] where
+    /// the capacity is reached, [`Refusal::SideFull`] where more flows would belong to the side than there are side places.
+    pub fn add(&mut self, key: &[u8], class: u32) -> Result<(), Refusal> {
+        let numbers = self.settings.numbers();
+        let (areas, work) = self.lend();
+        accepted(doors::add(numbers, areas, work, key, class))
+    }
+
+    /// Gives a held flow another class. [`Refusal::KeyLength`] where the key is not of 13 bytes, [`Refusal::NotHeld`] where it is not
+    /// held.
+    pub fn change(&mut self, key: &[u8], class: u32) -> Result<(), Refusal> {
+        let numbers = self.settings.numbers();
+        let (areas, work) = self.lend();
+        accepted(doors::change(numbers, areas, work, key, class))
+    }
+
+    /// Takes a held flow out. [`Refusal::KeyLength`] where the key is not of 13 bytes, [`Refusal::NotHeld`] where it is not held,
+    /// [`Refusal::SideFull`] where flows that the removal moves would belong to the side, and it has too few places.
+    pub fn remove(&mut self, key: &[u8]) -> Result<(), Refusal> {
+        let numbers = self.settings.numbers();
+        let (areas, work) = self.lend();
+        accepted(doors::remove(numbers, areas, work, key))
+    }
+
+    /// The class of a held flow, or None for an absent one. [`Refusal::KeyLength`] where the key is not of 13 bytes.
+    pub fn search(&self, key: &[u8]) -> Result<Option<u32>, Refusal> {
+        lookup::search(&self.settings, &self.areas().lookup(), key)
+    }
+
+    /// [`Table::search`] with a hash table that is kept from call to call.
+    pub fn search_lent(&self, table: &HashTable, key: &[u8]) -> Result<Option<u32>, Refusal> {
+        lookup::search_lent(table, &self.settings, &self.areas().lookup(), key)
+    }
+
+    /// Counts what the table holds.
+    pub fn tally(&self) -> Tally {
+        let areas = self.areas();
+        lookup::tally(&self.settings, areas.ledger, &areas.lookup())
+            .expect("a table's own areas are not damaged")
+    }
+
+    fn lend(&mut self) -> (LentAreas<'_>, &mut [u16]) {
+        let areas = LentAreas {
+            ledger: &mut self.ledger,
+            true_counts: &mut self.true_counts,
+            clipped: &mut self.clipped_counts,
+            buckets: &mut self.buckets,
+            side: &mut self.side_store,
+        };
+        (areas, &mut self.work)
+    }
+}

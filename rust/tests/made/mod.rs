@@ -1,0 +1,145 @@
+//! Tables, damage and wrong numbers, made at random.
+
+// each test takes what it needs
+#![allow(dead_code)]
+
+use crate::model::card::Card;
+use crate::model::layout::{layout, Areas};
+use crate::model::records::{Key, Record};
+use crate::model::settings::{Settings as Model, LIMITS};
+use crate::random::Random;
+
+/// Random bytes, or bits that stand alone, or all zeros.
+pub fn random_key(random: &mut Random) -> Key {
+    match random.between(0, 19) {
+        0 => [0; 13],
+        1 => {
+            let mut key = [0; 13];
+            key[random.between(0, 12) as usize] = 1 << random.between(0, 7);
+            key
+        }
+        _ => random.bytes(),
+    }
+}
+
+pub fn random_class(random: &mut Random) -> u32 {
+    match random.between(0, 9) {
+        0 => 0,
+        1 => u32::MAX,
+        _ => random.next() as u32,
+    }
+}
+
+/// So many random records in rising key order.
+pub fn random_list(random: &mut Random, count: u64) -> Vec<Record> {
+    let mut list: Vec<Record> = Vec::new();
+    while (list.len() as u64) < count {
+        let key = random_key(random);
+        if list.binary_search_by_key(&key, |r| r.key).is_err() {
+            let class = random_class(random);
+            let at = list.partition_point(|r| r.key < key);
+            list.insert(at, Record { key, class });
+        }
+    }
+    list
+}
+
+/// So many random records, taken out one by one until the rest has a layout: near what the side store allows.
+pub fn filled(random: &mut Random, card: &Card, count: u64) -> (Vec<Record>, Areas) {
+    let mut list = random_list(random, count);
+    loop {
+        if let Some(areas) = layout(card, &list) {
+            return (list, areas);
+        }
+        let some = 1 + list.len() as u64 / 64;
+        for _ in 0..some {
+            let at = random.between(0, list.len() as u64 - 1);
+            list.remove(at as usize);
+        }
+    }
+}
+
+/// A count that is sometimes above the most.
+pub fn random_count(random: &mut Random, most: u64) -> u64 {
+    match random.between(0, 19) {
+        0 => random.between(0, 65535),
+        1 => most + random.between(0, 2),
+        // a high byte that a reader of the low one alone would miss
+        2 => 256 * random.between(1, 255) + random.between(0, most),
+        _ => random.between(0, most),
+    }
+}
+
+pub fn set_count(area: &mut [u8], count: u64) {
+    area[0] = (count / 256) as u8;
+    area[1] = (count % 256) as u8;
+}
+
+/// A length other than n: near it, zero, twice it, or any.
+pub fn wrong_length(random: &mut Random, n: usize) -> usize {
+    let other = match random.between(0, 6) {
+        0 => 0,
+        1 => n.saturating_sub(1),
+        2 => n + 1,
+        3 => n.saturating_sub(17),
+        4 => n + 17,
+        5 => 2 * n,
+        _ => random.between(0, 2 * n as u64 + 2) as usize,
+    };
+    if other == n {
+        n + 1
+    } else {
+        other
+    }
+}
+
+/// A setting out of its range.
+pub fn spoiled(random: &mut Random, settings: Model) -> Model {
+    let mut numbers = settings.numbers();
+    let i = random.between(0, 5) as usize;
+    let (low, high) = LIMITS[i];
+    numbers[i] = match random.between(0, 4) {
+        0 if low > 0 => low - 1,
+        1 => (1 << 32) + numbers[i],
+        2 => u64::MAX,
+        3 => numbers[i] + (1 << 16),
+        _ => high + 1,
+    };
+    Model::of(numbers)
+}
+
+/// Damage to a ledger: count above N, keys not rising, a nonzero byte after the last record, a single byte, or all random.
+pub fn damage_ledger(random: &mut Random, card: &Card, ledger: &mut [u8]) {
+    let n = 256 * usize::from(ledger[0]) + usize::from(ledger[1]);
+    let end = 2 + 17 * n;
+    match random.between(0, 5) {
+        0 => set_count(ledger, card.settings.n + random.between(0, 2)),
+        1 => {
+            let count = random_count(random, card.settings.n);
+            set_count(ledger, count);
+        }
+        2 if n > 1 => {
+            let at = 2 + 17 * random.between(0, n as u64 - 2) as usize;
+            // the second key becomes the first, or they change places
+            let (first, second) = ledger[at..at + 34].split_at_mut(17);
+            if random.between(0, 1) == 0 {
+                second[..13].copy_from_slice(&first[..13]);
+            } else {
+                first.swap_with_slice(second);
+            }
+        }
+        3 if end < ledger.len() => {
+            let at = random.between(end as u64, ledger.len() as u64 - 1) as usize;
+            ledger[at] = random.between(1, 255) as u8;
+        }
+        4 => {
+            let at = random.between(0, ledger.len() as u64 - 1) as usize;
+            ledger[at] = random.next() as u8;
+        }
+        _ => {
+            for byte in ledger.iter_mut() {
+                *byte = random.next() as u8;
+            }
+        }
+    }
+}
