@@ -7,8 +7,6 @@ use Prim.Native.Nat.{ℕ, zero, suc, _+_, _-_, _*_, _≤_, _<_}
 use native.Mathlib.Nat.{sub-zero, add-sub-cancel-left, add-sub-of-le, mul-add, mul-suc, mul-sub, mul-comm, mul-le-mul-left}
 use native.Mathlib.Numerals.{add-one}
 use native.Mathlib.Omega.{arith}
-use mir.Syntax.{w8}
-use mir.Val.{Fits}
 use lib.Dec.{eqb}
 use borrow.Author.Tests.{eqb-true, not-false}
 use lib.ListN.{length, take, drop, getD, length-append, length-drop, take-append-drop, replicate-append-replicate}
@@ -27,11 +25,6 @@ use Rattle.ledger.proofs.LedgerLaws.{has-count, room-for, records-room}
 use Rattle.ledger.proofs.ShiftLaws.{open-filled, close-filled}
 
 -- ---- lists
--- what a slice of bytes gives of each element, of all
-pub bytes-of : (l : List ℕ) → ((i : ℕ) → Fits w8 (getD l i 0)) → All Byte l
-bytes-of [] f = tt
-bytes-of (x ∷ xs) f = (omega (arith, f 0), bytes-of xs (λ i. f (suc i)))
-
 all-take : {A : Type 0} (P : A → Type 0) (n : ℕ) (l : List A) → All P l → All P (take n l)
 all-take P zero l h = tt
 all-take P (suc n) [] h = tt

@@ -1,12 +1,12 @@
--- Numbers of two and of four bytes, high byte first: read byte by byte, and written byte by byte. Assumes nothing.
-use mathlib.Core.Path.{_≡_, refl}
+-- Numbers of two, four and eight bytes, high byte first: read byte by byte, and written byte by byte. Assumes nothing.
+use mathlib.Core.Path.{_≡_, refl, ap, _∙_}
 use mathlib.Core.List.{List, [], _∷_, _++_}
 use Prim.Native.Nat.{ℕ, suc, _+_, _-_, _*_, _/_, _%_, _≤_, _<_}
-use native.Mathlib.Nat.{zero-add}
+use native.Mathlib.Nat.{zero-add, zero-mul}
 use native.Mathlib.Numerals.{add-one, add-two, add-three}
 use native.Mathlib.Omega.{arith}
-use lib.ListN.{length, take, drop, getD, set, length-append}
-use lib.Seq.{drop-cons, take-at}
+use lib.ListN.{length, take, drop, getD, set, length-append, length-drop}
+use lib.Seq.{drop-cons, drop-drop, take-at}
 use Rattle.theory.specs.Records.{to-bytes, number-after, of-bytes, count-of, record-bytes}
 use Rattle.ledger.proofs.PartLaws.{back, tail-back}
 
@@ -30,6 +30,24 @@ class-is l i h =
       add-two,
       add-three,
     )
+
+-- four more bytes of a number
+four-more : (n k : ℕ) (l : List ℕ) → 4 ≤ length l → number-after n (take (suc (suc (suc (suc k)))) l) ≡ number-after (n * 4294967296 + of-bytes (take 4 l)) (take k (drop 4 l))
+unfolding number-after
+four-more n k [] h = absurd (omega arith)
+four-more n k (x ∷ []) h = absurd (omega arith)
+four-more n k (x ∷ y ∷ []) h = absurd (omega arith)
+four-more n k (x ∷ y ∷ z ∷ []) h = absurd (omega arith)
+four-more n k (x ∷ y ∷ z ∷ u ∷ us) h =
+    ap (λ (m : ℕ). number-after m (take k us)) (omega arith)
+
+pub word-is : (l : List ℕ) (i : ℕ) → i + 8 ≤ length l
+    → of-bytes (take 8 (drop i l)) ≡ of-bytes (take 4 (drop i l)) * 4294967296 + of-bytes (take 4 (drop (i + 4) l))
+unfolding number-after
+word-is l i h =
+    let first = four-more 0 4 (drop i l) (rw length-drop (omega arith)) in
+    let second = four-more (0 * 4294967296 + of-bytes (take 4 (drop i l))) 0 (drop 4 (drop i l)) (rw (length-drop, length-drop) (omega arith)) in
+    first ∙ second ∙ rw (zero-mul, zero-add, drop-drop)
 
 pub two-written : (l : List ℕ) (n : ℕ) → 2 ≤ length l → n < 65536 → set (set l 0 (n / 256)) 1 (n % 256) ≡ to-bytes 2 n ++ drop 2 l
 unfolding to-bytes

@@ -37,6 +37,20 @@ pub fn class_at(area: &[u8], at: usize) -> u32
     (high * 256 + wide32(area[at + 2])) * 256 + wide32(area[at + 3])
 }
 
+fn wide64(x: u32) -> u64
+    ensures { λ r. ⌜ (r ≡ x) × (r < 4294967296) ⌝ }
+{
+    x as u64
+}
+
+// The number in the eight bytes from a place on.
+pub fn word_at(area: &[u8], at: usize) -> u64
+    requires { ⌜ at + 8 ≤ length (now area) ⌝ }
+    ensures { λ r. ⌜ r ≡ of-bytes (take 8 (drop at (now (area .entry)))) ⌝ }
+{
+    wide64(class_at(area, at)) * 4294967296 + wide64(class_at(area, at + 4))
+}
+
 // A number in the two bytes that an area starts with.
 pub fn write_number(area: &mut [u8], n: usize)
     requires { ⌜ (2 ≤ length (now area)) × (n < 65536) ⌝ }

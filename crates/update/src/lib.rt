@@ -157,9 +157,9 @@ fn judge(
     }
     let n = ledger::bytes::count_at(ledger);
     let spot = ledger::spots::find_spot(&ledger[2..], n, key);
-    let number = refusal_by_list(s, edit, spot.held, n);
-    if number != 0 {
-        return refuse(number);
+    let by_list = refusal_by_list(s, edit, spot.held, n);
+    if by_list != 0 {
+        return refuse(by_list);
     }
     let need = place_new(s, t, m, &mut work[..], ledger, n, edit, spot.at, record);
     if s.side_places < need {

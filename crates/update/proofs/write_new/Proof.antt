@@ -14,7 +14,8 @@ use Rattle.theory.proofs.ByteLaws.{length-record}
 use Rattle.settings.specs.Checked.{paper}
 use Rattle.settings.proofs.Laws.{capacity-is}
 use Rattle.ledger.proofs.LedgerLaws.{has-count}
-use Rattle.ledger.proofs.EditLaws.{bytes-of, records-fit-width}
+use Rattle.ledger.proofs.EditLaws.{records-fit-width}
+use Rattle.ledger.proofs.KeyLaws.{bytes-of}
 use Rattle.update.specs.Editing.{call-of}
 use Rattle.update.proofs.EditLaws.{size-is}
 use Rattle.update.proofs.WriteLaws.{plan-room, plan-fit, long, lent-records, lent-room, laid-out}

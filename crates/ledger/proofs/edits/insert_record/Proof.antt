@@ -7,9 +7,10 @@ use lib.ListN.{length}
 use Rattle.theory.specs.Settings.{card-of}
 use Rattle.theory.proofs.SettingsLaws.{sound}
 use Rattle.settings.specs.Checked.{paper}
+use Rattle.ledger.proofs.KeyLaws.{bytes-of}
 use Rattle.ledger.proofs.PartLaws.{two-kept}
 use Rattle.ledger.proofs.LedgerLaws.{has-count}
-use Rattle.ledger.proofs.EditLaws.{bytes-of, listed, place-within, one-more-within, inserted}
+use Rattle.ledger.proofs.EditLaws.{listed, place-within, one-more-within, inserted}
 use Rattle.ledger.proofs.edits.insert_record.Statement.{statement}
 use Rattle.ledger.proofs.edits.insert_record.Tie as tie
 

@@ -6,9 +6,10 @@ use native.Mathlib.Omega.{arith}
 use lib.ListN.{length}
 use Rattle.theory.specs.Settings.{card-of}
 use Rattle.settings.specs.Checked.{paper}
+use Rattle.ledger.proofs.KeyLaws.{bytes-of}
 use Rattle.ledger.proofs.PartLaws.{two-kept}
 use Rattle.ledger.proofs.LedgerLaws.{has-count}
-use Rattle.ledger.proofs.EditLaws.{bytes-of, listed, record-within, ends-within, removed}
+use Rattle.ledger.proofs.EditLaws.{listed, record-within, ends-within, removed}
 use Rattle.ledger.proofs.edits.remove_record.Statement.{statement}
 use Rattle.ledger.proofs.edits.remove_record.Tie as tie
 

@@ -7,7 +7,8 @@ use lib.ListN.{length}
 use Rattle.theory.specs.Records.{count-of}
 use Rattle.theory.specs.Settings.{card-of}
 use Rattle.settings.specs.Checked.{paper}
-use Rattle.ledger.proofs.EditLaws.{bytes-of, record-within, ends-within, replaced}
+use Rattle.ledger.proofs.KeyLaws.{bytes-of}
+use Rattle.ledger.proofs.EditLaws.{record-within, ends-within, replaced}
 use Rattle.ledger.proofs.edits.replace_record.Statement.{statement}
 use Rattle.ledger.proofs.edits.replace_record.Tie as tie
 

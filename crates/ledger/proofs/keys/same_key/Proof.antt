@@ -3,9 +3,8 @@ use mathlib.Core.Path.{_≡_, refl, sym, _∙_}
 use Prim.Native.Nat.{_≤_, _-_}
 use native.Mathlib.Omega.{arith}
 use lib.ListN.{length, drop}
-use borrow.Author.Tests.{eq-eqb, ne-eqb}
 use Rattle.theory.specs.Records.{same-key}
-use Rattle.ledger.proofs.KeyLaws.{same-from, same-end}
+use Rattle.ledger.proofs.KeyLaws.{bytes-of, same-not, same-on}
 use Rattle.ledger.proofs.keys.same_key.Statement.{statement}
 use Rattle.ledger.proofs.keys.same_key.Tie as tie
 
@@ -18,17 +17,21 @@ abbrev μ-loop : tie.MeasureT-loop
 loop-holds : tie.Need-loop-holds Inv-loop μ-loop
 loop-holds c = (omega arith, refl)
 
-shared-slice-read-if1 : tie.Need-shared-slice-read-if1 Inv-loop μ-loop
-shared-slice-read-if1 c = omega arith
+sub-loop : tie.Need-sub-loop Inv-loop μ-loop
+sub-loop c = omega arith
 
-shared-slice-read-if1-2 : tie.Need-shared-slice-read-if1-2 Inv-loop μ-loop
-shared-slice-read-if1-2 c = omega arith
+word-at-requires : tie.Need-word-at-requires Inv-loop μ-loop
+word-at-requires c κs = omega arith
+
+word-at-requires-2 : tie.Need-word-at-requires-2 Inv-loop μ-loop
+word-at-requires-2 c κs = omega arith
 
 returns : tie.Need-returns Inv-loop μ-loop
 returns c =
     let loop = c .before .before .before .before .loop in
-    let args = c .before .before .before .before .before .args in
-    sym (sym (loop .inv .1) ∙ same-from (args .a .now) (args .b .now) (loop .i) (omega arith) (omega arith) ∙ rw (ne-eqb _ _ (c .if1 .taken)))
+    let args = c .before .before .before .before .before .before .before .args in
+    let other = same-not (args .a .now) (args .b .now) (loop .i) 8 in
+    sym (other (λ e. c .if1 .taken (c .before .before .word-at .ensures ∙ e ∙ sym (c .before .word-at2 .ensures)))) ∙ loop .inv .1
 
 add-i : tie.Need-add-i Inv-loop μ-loop
 add-i c = omega arith
@@ -39,14 +42,18 @@ loop-less c = omega arith
 loop-again : tie.Need-loop-again Inv-loop μ-loop
 loop-again c =
     let loop = c .before .before .before .before .loop in
-    let args = c .before .before .before .before .before .args in
-    (omega arith, sym (rw (eq-eqb _ _ (c .if1 .left)) at (same-from (args .a .now) (args .b .now) (loop .i) (omega arith) (omega arith))) ∙ loop .inv .1)
+    let a = c .before .before .before .before .before .before .before .args .a .now in
+    let b = c .before .before .before .before .before .before .before .args .b .now in
+    let bytes-a = bytes-of a (c .before .before .before .before .before .before .shared-slice-known .given) in
+    let bytes-b = bytes-of b (c .before .before .before .before .before .shared-slice-known2 .given) in
+    let same = sym (c .before .before .word-at .ensures) ∙ c .if1 .left ∙ c .before .word-at2 .ensures in
+    (omega arith, sym (same-on a b (loop .i) 8 bytes-a bytes-b (omega arith) (omega arith) same) ∙ loop .inv .1)
+
+same-rest-requires : tie.Need-same-rest-requires Inv-loop μ-loop
+same-rest-requires c κs = (omega arith, omega arith)
 
 returns-2 : tie.Need-returns-2 Inv-loop μ-loop
-returns-2 c =
-    let loop = c .before .loop in
-    let args = c .before .before .args in
-    sym (same-end (args .a .now) (args .b .now) (loop .i) (omega arith) (omega arith)) ∙ loop .inv .1
+returns-2 c = c .same-rest .ensures ∙ c .before .before .loop .inv .1
 
 pub same-key-spec : {M : Type 1} → statement M
 same-key-spec =
@@ -55,10 +62,12 @@ same-key-spec =
     Inv-loop
     μ-loop
     loop-holds
-    shared-slice-read-if1
-    shared-slice-read-if1-2
+    sub-loop
+    word-at-requires
+    word-at-requires-2
     returns
     add-i
     loop-less
     loop-again
+    same-rest-requires
     returns-2)
