@@ -1,10 +1,9 @@
 /* Time of the two hash doors beside plain C, in one run: rounds that alternate, each over the same random keys, and the median round. */
-#define _POSIX_C_SOURCE 199309L
 #include "flow.h"
 #include "plain.h"
+#include "timing.h"
 #include <stdio.h>
 #include <stdlib.h>
-#include <time.h>
 
 enum { KEYS = 4096, TURNS = 25, ROUNDS = 41, WAYS = 3 };
 
@@ -15,13 +14,6 @@ static uint64_t table[3328];
 static uint32_t lent(const uint8_t *key, uint64_t *h) { return flow_hash_lent(table, 3328, key, 13, h, 1); }
 static uint32_t plain(const uint8_t *key, uint64_t *h) { return plain_hash_lent(table, 3328, key, 13, h, 1); }
 static uint32_t no_table(const uint8_t *key, uint64_t *h) { return flow_hash(key, 13, h, 1); }
-
-static double now(void)
-{
-    struct timespec t;
-    clock_gettime(CLOCK_MONOTONIC, &t);
-    return (double)t.tv_sec * 1e9 + (double)t.tv_nsec;
-}
 
 /* One round: every key, TURNS times. Nanoseconds a key; the results are xored into *sum. Written out for each way, so that each is called
  * directly. */
@@ -44,18 +36,6 @@ static double now(void)
 ROUND(round_lent, lent)
 ROUND(round_plain, plain)
 ROUND(round_no_table, no_table)
-
-static int by_size(const void *a, const void *b)
-{
-    double x = *(const double *)a, y = *(const double *)b;
-    return (x > y) - (x < y);
-}
-
-static double median(double *times)
-{
-    qsort(times, ROUNDS, sizeof times[0], by_size);
-    return times[ROUNDS / 2];
-}
 
 int main(void)
 {
@@ -85,7 +65,7 @@ int main(void)
     }
     double t[WAYS];
     for (int way = 0; way < WAYS; way++) {
-        t[way] = median(times[way]);
+        t[way] = median(times[way], ROUNDS);
     }
     if (sums[0] != sums[1] || sums[0] != sums[2]) {
         printf("the hashes differ\n");

@@ -1,16 +1,15 @@
 /* Time of a search by the doors, by plain C of the same algorithm, by a chained hash table, by Rust's HashMap and, where it is linked, by
  * DPDK's rte_hash, in one run: rounds that alternate, over the same keys in an order that is random in each round, and the median round.
  * Beside the times, how many buckets or slots a lookup reads. */
-#define _POSIX_C_SOURCE 199309L
 #include "flow.h"
 #include "lay.h"
 #include "others.h"
 #include "plain.h"
+#include "timing.h"
 #include <inttypes.h>
 #include <stdio.h>
 #include <stdlib.h>
 #include <string.h>
-#include <time.h>
 
 enum { LOOKUPS = 8192, ROUNDS = 201, MOST_FLOWS = 4096, ABSENT = 100 };
 
@@ -47,13 +46,6 @@ static uint64_t whole(const uint8_t *key)
 static uint64_t chained(const uint8_t *key) { return chained_search(table, key); }
 static uint64_t hashmap(const uint8_t *key) { return hashmap_search(key); }
 static uint64_t rte(const uint8_t *key) { return rte_search(key); }
-
-static double now(void)
-{
-    struct timespec t;
-    clock_gettime(CLOCK_MONOTONIC, &t);
-    return (double)t.tv_sec * 1e9 + (double)t.tv_nsec;
-}
 
 /* One round: nanoseconds a lookup; the answers are added to *sum. Written out for each way, so that each is called directly. */
 #define ROUND(name, way)                                                                                                                   \
@@ -115,27 +107,6 @@ static struct {
 /* rte_hash, the last, takes part where it is linked. */
 static int contestants(void) { return rte_there() ? WAYS : WAYS - 1; }
 
-static int by_size(const void *a, const void *b)
-{
-    double x = *(const double *)a, y = *(const double *)b;
-    return (x > y) - (x < y);
-}
-
-static double median(double *times)
-{
-    qsort(times, ROUNDS, sizeof times[0], by_size);
-    return times[ROUNDS / 2];
-}
-
-static uint64_t random_number(void)
-{
-    static uint64_t s = 1;
-    s += 0x9e3779b97f4a7c15;
-    uint64_t z = (s ^ s >> 30) * 0xbf58476d1ce4e5b9;
-    z = (z ^ z >> 27) * 0x94d049bb133111eb;
-    return z ^ z >> 31;
-}
-
 static void random_key(uint8_t *key)
 {
     for (int a = 0; a < 13; a++) {
@@ -171,8 +142,8 @@ static int measure(int column, uint8_t keys[][13])
             most = reads > most ? reads : most;
             sum += reads;
         }
-        results[w][column].ns = median(times[w]);
-        results[w][column].to_plain = median(ratios[w]);
+        results[w][column].ns = median(times[w], ROUNDS);
+        results[w][column].to_plain = median(ratios[w], ROUNDS);
         results[w][column].most_reads = most;
         results[w][column].mean_reads = (double)sum / (double)set.flows;
     }

@@ -1,12 +1,11 @@
 /* Time of an add and a remove by the doors and by plain C that lays out every area as they do, in one run: rounds that alternate, over the
  * same keys, and the median round. The areas of all are compared after every round, once with a flow more and once without. */
-#define _POSIX_C_SOURCE 199309L
 #include "flow.h"
 #include "relay.h"
+#include "timing.h"
 #include <stdio.h>
 #include <stdlib.h>
 #include <string.h>
-#include <time.h>
 
 enum { PAIRS = 8, ROUNDS = 61, RECORD = 17, MOST_FLOWS = 4096 };
 
@@ -51,13 +50,6 @@ static uint32_t call(int way, enum edit edit, const uint8_t *key)
                        at->side_length, at->work, at->work_length, key, 13);
 }
 
-static double now(void)
-{
-    struct timespec t;
-    clock_gettime(CLOCK_MONOTONIC, &t);
-    return (double)t.tv_sec * 1e6 + (double)t.tv_nsec / 1e3;
-}
-
 /* One round: microseconds a pair; the answers are added to *sum. */
 static double round_of(int way, uint32_t *sum)
 {
@@ -66,28 +58,7 @@ static double round_of(int way, uint32_t *sum)
         *sum += call(way, ADD, keys[i]);
         *sum += call(way, REMOVE, keys[i]);
     }
-    return (now() - before) / PAIRS;
-}
-
-static int by_size(const void *a, const void *b)
-{
-    double x = *(const double *)a, y = *(const double *)b;
-    return (x > y) - (x < y);
-}
-
-static double median(double *times)
-{
-    qsort(times, ROUNDS, sizeof times[0], by_size);
-    return times[ROUNDS / 2];
-}
-
-static uint64_t random_number(void)
-{
-    static uint64_t s = 1;
-    s += 0x9e3779b97f4a7c15;
-    uint64_t z = (s ^ s >> 30) * 0xbf58476d1ce4e5b9;
-    z = (z ^ z >> 27) * 0x94d049bb133111eb;
-    return z ^ z >> 31;
+    return (now() - before) / 1e3 / PAIRS;
 }
 
 static void random_bytes(uint8_t *to, size_t n)
@@ -204,8 +175,8 @@ int main(void)
             }
         }
         for (int way = 0; way < WAYS; way++) {
-            us[way][size] = median(times[way]);
-            ratio[way][size] = median(ratios[way]);
+            us[way][size] = median(times[way], ROUNDS);
+            ratio[way][size] = median(ratios[way], ROUNDS);
         }
     }
     static const char *const heads[] = {"µs an add and a remove", "the doors' time to that of", "to 250 flows"};
