@@ -9,4 +9,5 @@ pub mod OrderLaws
 pub mod CallLaws
 pub mod Demands
 pub mod SnapshotLaws
+pub mod FlowrunLaws
 pub mod Cases

@@ -9,3 +9,4 @@ pub mod Ledger
 pub mod Calls
 pub mod Snapshot
 pub mod Packet
+pub mod Flowrun

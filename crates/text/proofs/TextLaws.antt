@@ -1,0 +1,89 @@
+-- Laws of text at the start of a buffer: a number's digits, and one text after another. Assumes nothing.
+use mathlib.Core.Path.{_≡_, refl, sym, ap, subst, _∙_}
+use mathlib.Core.List.{List, [], _∷_, _++_, append-assoc}
+use Prim.Native.Nat.{ℕ, zero, suc, _+_, _-_, _*_, _/_, _%_, _^_, _≤_, _<_}
+use native.Mathlib.Nat.{pow-suc, pow-zero}
+use native.Mathlib.Numerals.{add-one, unary-clauses}
+use native.Mathlib.Omega.{arith}
+use borrow.Author.Tests.{lt-ltb}
+use lib.ListN.{length, take, drop, set, length-append, length-drop}
+use lib.Seq.{length-take-le, take-at, drop-at, drop-cons, set-at, drop-drop}
+use Rattle.theory.specs.Flowrun.{decimal}
+use Rattle.theory.proofs.FlowrunLaws.{decimal-digit, decimal-more, decimal-length}
+use Rattle.io.specs.Digits.{digits, Fewest}
+use Rattle.ledger.proofs.PartLaws.{back, tail-is, tail-back}
+use Rattle.text.specs.Writing.{Writes, Appends}
+
+tens-positive : (k : ℕ) → 0 < 10 ^ k
+tens-positive zero = rw (pow-zero 10) (omega arith)
+tens-positive (suc k) = rw (pow-suc 10 k) (omega (arith, tens-positive k))
+
+-- the fewest digits that hold a number are its decimal text
+digits-decimal : (k n : ℕ) → Fewest 10 1 n (suc k) → digits 10 (suc k) n ≡ decimal n
+digits-decimal zero n h =
+    let low : n < 10 = omega (arith, h .1, pow-suc 10 0) in
+    let same : n % 10 ≡ n = omega arith in
+    rw (decimal-digit n low, same, lt-ltb n 10 low)
+digits-decimal (suc k) n h =
+    let low : n < 10 ^ k * 10 * 10 = simp unary-clauses at (h .1) in
+    let high : 10 ^ k * 10 ≤ n = simp unary-clauses at (h .2 (omega arith)) in
+    let tenth : Fewest 10 1 (n / 10) (suc k) = (omega arith, simp unary-clauses (omega (arith, low)), λ q. simp unary-clauses (omega (arith, high))) in
+    rw (decimal-more n (omega (arith, high, tens-positive k)), digits-decimal k (n / 10) tenth, lt-ltb (n % 10) 10 (omega arith))
+
+pub fewest-decimal : (k n : ℕ) → Fewest 10 1 n k → digits 10 k n ≡ decimal n
+fewest-decimal zero n h = absurd (omega (arith, h .0))
+fewest-decimal (suc k) n h = digits-decimal k n h
+
+-- a text is written to the front, and a byte after it
+pub byte-after : (d to : List ℕ) (k after : ℕ) → length d ≡ k → k < length to → Writes (d ++ (after ∷ [])) to (set (d ++ drop k to) k after) (k + 1)
+byte-after d to k after e h = (
+  rw (length-append, e),
+  rw (drop-cons to k 0 h, set-at d _ (drop (suc k) to) after k e, length-append, e, add-one k, append-assoc),
+)
+
+-- two bytes are written to the front
+pub two-bytes : (to : List ℕ) (x y : ℕ) → 2 ≤ length to → set (set to 0 x) 1 y ≡ x ∷ y ∷ drop 2 to
+two-bytes [] x y h = absurd (omega arith)
+two-bytes (a ∷ []) x y h = absurd (omega arith)
+two-bytes (a ∷ b ∷ to) x y h = refl
+
+-- a text at the start of what is left stands after the text before it
+append-text : (text to part : List ℕ) (at n : ℕ) → at ≤ length to → Writes text (drop at to) part n → Appends text to at (take at to ++ part) (at + n)
+append-text text to part at n fits (m, e) empty earlier (p, q) = (
+  rw (p, m, length-append),
+  rw (
+    e,
+    p,
+    q,
+    take-at earlier (drop (length earlier) empty) (length earlier) refl,
+    drop-at earlier (drop (length earlier) empty) (length earlier) refl,
+    drop-drop (length text) (length earlier) empty,
+    length-append,
+    append-assoc,
+  ),
+)
+
+-- the same of the part that is lent, which runs to the end
+pub append-lent : (text to part : List ℕ) (at n : ℕ) → at ≤ length to → Writes text (take (length to - at) (drop at to)) part n
+    → Appends text to at (back at (length to - at) to part) (at + n)
+append-lent text to part at n fits w =
+    subst (λ (after : List ℕ). Appends text to at after (at + n)) (sym (tail-back at to part fits))
+    (append-text text to part at n fits (subst (λ (before : List ℕ). Writes text before part n) (tail-is at to fits) w))
+
+-- a number of 64 bits is written: ds starts with its k digits, which are copied to the front
+module _ (to ds copied : List ℕ) (n k after : ℕ) (fits : n < 18446744073709551616) (room : 21 ≤ length to) (few : Fewest 10 1 n k) (size : k ≡ length (take k ds)) (is : take k ds ≡ digits 10 k n) where
+  digits-are : take k ds ≡ decimal n
+  digits-are = is ∙ fewest-decimal k n few
+
+  pub few-digits : k ≤ 20
+  few-digits = let most : length (decimal n) ≤ 20 = decimal-length 19 n (omega arith) in omega (arith, most, size ∙ ap length digits-are)
+
+  pub front-length : length (take k to) ≡ k
+  front-length = length-take-le k to (omega (arith, few-digits))
+
+  pub decimal-written : copied ≡ take k ds → Writes (decimal n ++ (after ∷ [])) to (set (copied ++ drop k to) k after) (k + 1) × (k + 1 ≤ 21)
+  decimal-written e =
+      rw (e, digits-are) (byte-after (decimal n) to k after (sym (size ∙ ap length digits-are)) (omega (arith, few-digits)), omega (arith, few-digits))
+
+  pub decimal-inside : copied ≡ take k ds → k < length (copied ++ drop k to)
+  decimal-inside e = rw (e, length-append, length-drop) (omega (arith, few-digits, size))
