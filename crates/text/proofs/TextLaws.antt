@@ -70,6 +70,11 @@ append-lent text to part at n fits w =
     subst (λ (after : List ℕ). Appends text to at after (at + n)) (sym (tail-back at to part fits))
     (append-text text to part at n fits (subst (λ (before : List ℕ). Writes text before part n) (tail-is at to fits) w))
 
+-- two texts that are appended are their text
+pub appends-then : (t u a b c : List ℕ) (n m k : ℕ) → Appends t a n b m → Appends u b m c k → Appends (t ++ u) a n c k
+appends-then t u a b c n m k f g empty earlier w =
+    subst (λ (x : List ℕ). Writes x empty c k) (append-assoc earlier t u) (g empty (earlier ++ t) (f empty earlier w))
+
 -- a number of 64 bits is written: ds starts with its k digits, which are copied to the front
 module _ (to ds copied : List ℕ) (n k after : ℕ) (fits : n < 18446744073709551616) (room : 21 ≤ length to) (few : Fewest 10 1 n k) (size : k ≡ length (take k ds)) (is : take k ds ≡ digits 10 k n) where
   digits-are : take k ds ≡ decimal n

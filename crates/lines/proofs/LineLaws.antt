@@ -1,0 +1,60 @@
+-- Laws of a line: the class that is shown, and the six fields one after another. Assumes nothing.
+use mathlib.Core.Path.{_≡_, refl, sym, ap, subst, _∙_}
+use mathlib.Core.Logic.{_≢_}
+use mathlib.Core.Bool.{cond}
+use mathlib.Core.List.{List, [], _∷_, _++_, append-assoc}
+use mathlib.Core.Option.{none}
+use Prim.Native.Nat.{ℕ, _+_, _≤_}
+use native.Mathlib.Omega.{arith}
+use borrow.Author.Tests.{eq-eqb, ne-eqb}
+use Rattle.theory.specs.Ledger as plain
+use Rattle.theory.specs.Lookup.{bare}
+use Rattle.theory.specs.Flowrun as flowrun
+use Rattle.theory.specs.Flowrun.{letter-call, decimal, line-text}
+use Rattle.lookup.specs.declared.searching.Answer.{Answer}
+use Rattle.lookup.specs.declared.tallying.Totals.{Totals}
+use Rattle.lookup.specs.Answers.{answer-of}
+use Rattle.calls.specs.declared.Kind.{Kind}
+use Rattle.calls.specs.declared.Kind.the-variants.{Clear, Add, Change, Remove, Search, Tally}
+use Rattle.calls.specs.declared.Reply.{Reply}
+use Rattle.calls.specs.declared.Reply.the-variants.{Answered, Totalled}
+use Rattle.calls.specs.Data.{call-of, reply-of}
+use Rattle.text.specs.Writing.{Appends}
+use Rattle.text.proofs.TextLaws.{appends-then}
+
+-- another letter
+pub no-call : (letter : ℕ) → letter ≢ 73 → letter ≢ 67 → letter ≢ 68 → letter ≢ 83 → letter ≢ 88 → (key : List ℕ) (class : ℕ) → none ≡ letter-call letter key class
+unfolding letter-call
+no-call x a b c d e key class = rw (ne-eqb x 73 a, ne-eqb x 67 b, ne-eqb x 68 c, ne-eqb x 83 d, ne-eqb x 88 e)
+
+-- the six fields of a line, each after the text before it
+module _ (call letter number class read compared : ℕ) where
+  pub line-after : (a₀ a₁ a₂ a₃ a₄ a₅ a₆ : List ℕ) (n₀ n₁ n₂ n₃ n₄ n₅ n₆ : ℕ)
+      → Appends (decimal call ++ (32 ∷ [])) a₀ n₀ a₁ n₁
+      → Appends (letter ∷ 32 ∷ []) a₁ n₁ a₂ n₂
+      → Appends (decimal number ++ (32 ∷ [])) a₂ n₂ a₃ n₃
+      → Appends (decimal class ++ (32 ∷ [])) a₃ n₃ a₄ n₄
+      → Appends (decimal read ++ (32 ∷ [])) a₄ n₄ a₅ n₅
+      → Appends (decimal compared ++ (10 ∷ [])) a₅ n₅ a₆ n₆
+      → Appends (line-text (record { call = call; letter = letter; answer = record { number = number; class = class; buckets-read = read; records-compared = compared } })) a₀ n₀ a₆ n₆
+  unfolding line-text
+  line-after a₀ a₁ a₂ a₃ a₄ a₅ a₆ n₀ n₁ n₂ n₃ n₄ n₅ n₆ f₁ f₂ f₃ f₄ f₅ f₆ =
+      appends-then (decimal call ++ (32 ∷ [])) _ a₀ a₁ a₆ n₀ n₁ n₆ f₁
+      (appends-then (letter ∷ 32 ∷ []) _ a₁ a₂ a₆ n₁ n₂ n₆ f₂
+      (appends-then (decimal number ++ (32 ∷ [])) _ a₂ a₃ a₆ n₂ n₃ n₆ f₃
+      (appends-then (decimal class ++ (32 ∷ [])) _ a₃ a₄ a₆ n₃ n₄ n₆ f₄
+      (appends-then (decimal read ++ (32 ∷ [])) (decimal compared ++ (10 ∷ [])) a₄ a₅ a₆ n₄ n₅ n₆ f₅ f₆))))
+
+-- what is printed of a reply: of one that is no answer nothing; of an add or a change the class that was written; else the answer
+pub printed-other : (kind : Kind) (class : ℕ) (key : List ℕ) (r : Reply) (x : Totals) (y : Answer) → r ≡ Totalled x → answer-of y ≡ bare 0
+    → answer-of y ≡ flowrun.printed (call-of kind key class) (reply-of r)
+printed-other Clear class key r x y e f = rw (e, f)
+printed-other Add class key r x y e f = rw (e, f)
+printed-other Change class key r x y e f = rw (e, f)
+printed-other Remove class key r x y e f = rw (e, f)
+printed-other Search class key r x y e f = rw (e, f)
+printed-other Tally class key r x y e f = rw (e, f)
+
+pub printed-answer : (kind of : Kind) (class : ℕ) (key : List ℕ) (r : Reply) (x y : Answer) → kind ≡ of → r ≡ Answered x
+    → answer-of y ≡ flowrun.printed (call-of of key class) (plain.answered (answer-of x)) → answer-of y ≡ flowrun.printed (call-of kind key class) (reply-of r)
+printed-answer kind of class key r x y e f g = rw (e, f) g
