@@ -4,13 +4,18 @@ use mathlib.Core.Logic.{_≢_}
 use mathlib.Core.Bool.{cond}
 use mathlib.Core.List.{List, [], _∷_, _++_, append-assoc}
 use mathlib.Core.Option.{none}
-use Prim.Native.Nat.{ℕ, _+_, _≤_}
+use Prim.Native.Nat.{ℕ}
+use lib.ListN.{length, take, drop, getD}
 use native.Mathlib.Omega.{arith}
 use borrow.Author.Tests.{eq-eqb, ne-eqb}
 use Rattle.theory.specs.Ledger as plain
+use Rattle.theory.specs.Lookup as plain-lookup
 use Rattle.theory.specs.Lookup.{bare}
+use Rattle.theory.specs.Records.{of-bytes}
+use Rattle.theory.specs.Layout.{Areas}
+use Rattle.theory.specs.Calls.{perform}
 use Rattle.theory.specs.Flowrun as flowrun
-use Rattle.theory.specs.Flowrun.{letter-call, decimal, line-text}
+use Rattle.theory.specs.Flowrun.{flowrun-settings, decimal, line-text, letter-call, call-in, Printed, print-bytes}
 use Rattle.lookup.specs.declared.searching.Answer.{Answer}
 use Rattle.lookup.specs.declared.tallying.Totals.{Totals}
 use Rattle.lookup.specs.Answers.{answer-of}
@@ -20,6 +25,10 @@ use Rattle.calls.specs.declared.Reply.{Reply}
 use Rattle.calls.specs.declared.Reply.the-variants.{Answered, Totalled}
 use Rattle.calls.specs.Data.{call-of, reply-of}
 use Rattle.text.specs.Writing.{Appends}
+use Rattle.lines.specs.declared.Asked.{Asked}
+use Rattle.lines.specs.declared.Asked.the-variants.{Known, Unknown}
+use Rattle.lines.specs.Asking.{call-asked}
+use Rattle.lines.specs.Printing.{PrintsAfter}
 use Rattle.text.proofs.TextLaws.{appends-then}
 
 -- another letter
@@ -58,3 +67,36 @@ printed-other Tally class key r x y e f = rw (e, f)
 pub printed-answer : (kind of : Kind) (class : ℕ) (key : List ℕ) (r : Reply) (x y : Answer) → kind ≡ of → r ≡ Answered x
     → answer-of y ≡ flowrun.printed (call-of of key class) (plain.answered (answer-of x)) → answer-of y ≡ flowrun.printed (call-of kind key class) (reply-of r)
 printed-answer kind of class key r x y e f g = rw (e, f) g
+
+-- what a call of bytes b shows, with the areas after it
+module _ (w : ℕ) (b : List ℕ) (a : Areas) where
+  -- bytes left over
+  pub shown-left-over : (n letter : ℕ) (x : plain-lookup.Answer) → length b ≢ 18 → letter ≡ 63 → x ≡ bare 14
+      → record { text = line-text (record { call = n; letter = letter; answer = x }); areas = a } ≡ print-bytes w n b a
+  unfolding print-bytes call-in
+  shown-left-over n letter x h e f = rw (ne-eqb (length b) 18 h, e, f)
+
+  module _ (long : length b ≡ 18) (asked : Asked) (by-letter : (key : List ℕ) (class : ℕ) → call-asked asked key class ≡ letter-call (getD b 0 0) key class) where
+    call-is : call-in b ≡ call-asked asked (take 13 (drop 1 b)) (of-bytes (take 4 (drop 14 b)))
+    unfolding call-in
+    call-is = rw (eq-eqb (length b) 18 long) (sym (by-letter (take 13 (drop 1 b)) (of-bytes (take 4 (drop 14 b)))))
+
+    -- another letter
+    pub shown-unknown : (n letter : ℕ) (x : plain-lookup.Answer) → asked ≡ Unknown → letter ≡ 63 → x ≡ bare 14
+        → record { text = line-text (record { call = n; letter = letter; answer = x }); areas = a } ≡ print-bytes w n b a
+    unfolding print-bytes
+    shown-unknown n letter x q e f = rw (call-is, q, e, f)
+
+    -- a call
+    pub shown-call : (n : ℕ) (kind : Kind) (class : ℕ) (r : plain.Reply) (after : Areas) (x : plain-lookup.Answer) → asked ≡ Known kind → class ≡ of-bytes (take 4 (drop 14 b))
+        → record { reply = r; state = after } ≡ perform flowrun-settings w (call-of kind (take 13 (drop 1 b)) class) a
+        → x ≡ flowrun.printed (call-of kind (take 13 (drop 1 b)) class) r
+        → record { text = line-text (record { call = n; letter = getD b 0 0; answer = x }); areas = after } ≡ print-bytes w n b a
+    unfolding print-bytes
+    shown-call n kind class r after x q e f g = rw (call-is, q, ← e, ← f, g)
+
+-- a text that is appended, and the areas, are what is printed
+pub prints-after : (x : Printed) (text : List ℕ) (areas : Areas) (before after : List ℕ) (at n : ℕ) → record { text = text; areas = areas } ≡ x → Appends text before at after n
+    → PrintsAfter x areas before at after n
+prints-after x text areas before after at n e f =
+    (ap (λ (p : Printed). p .areas) e, subst (λ (t : List ℕ). Appends t before at after n) (ap (λ (p : Printed). p .text) e) f)

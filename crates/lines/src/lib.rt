@@ -10,11 +10,13 @@ ghost use Prim.Native.Nat.{ℕ, _+_, _≤_, _<_};
 ghost use lib.ListN.{length};
 ghost use Rattle.theory.specs.Layout.{Areas};
 ghost use Rattle.theory.specs.Flowrun as flowrun;
-ghost use Rattle.theory.specs.Flowrun.{letter-call, line-text, print-bytes, print-lines};
+ghost use Rattle.theory.specs.Lookup.{bare};
+ghost use Rattle.theory.specs.Flowrun.{letter-call, line-text, Printed, print-bytes, print-lines};
 ghost use Rattle.lookup.specs.Answers.{answer-of};
 ghost use Rattle.calls.specs.Data.{call-of, reply-of};
 ghost use Rattle.text.specs.Writing.{Appends};
 ghost use Rattle.lines.specs.Asking.{call-asked};
+ghost use Rattle.lines.specs.Printing.{PrintsAfter};
 
 // "Settings 6, 3, 2, 4, 128, 8 in the order above"
 pub const P: u64 = 6;
@@ -93,4 +95,97 @@ fn append_line(to: &mut [u8], at: usize, call: u64, letter: u8, x: Answer) -> us
     let d = append_decimal(&mut to[..], c, class, b' ');
     let e = append_decimal(&mut to[..], d, buckets, b' ');
     append_decimal(&mut to[..], e, compared, b'\n')
+}
+
+// What a call shows: its letter and its answer.
+struct Shown {
+    letter: u8,
+    answer: Answer,
+}
+
+// "Another letter, or 1 to 17 bytes left over, prints letter ?, answer 14 and zeros, and alters nothing."
+fn show_unknown() -> Shown
+    ensures { λ r. ⌜ (r .letter ≡ 63) × (answer-of (r .answer) ≡ bare 14) ⌝ }
+{
+    Shown {
+        letter: b'?',
+        answer: lookup::searching::bare(14),
+    }
+}
+
+// Runs a call of 18 bytes, or what is left over.
+fn show_call(
+    call: &[u8],
+    ledger: &mut [u8],
+    true_counts: &mut [u16],
+    clipped: &mut [u8],
+    buckets: &mut [u8],
+    side: &mut [u8],
+    work: &mut [u16],
+) -> Shown
+    ensures { λ r. ⌜ ((n : ℕ) → _≡_ {A = Printed} (record { text = line-text (record { call = n; letter = r .letter; answer = answer-of (r .answer) }); areas = record { ledger = now (ledger .exit); true-counts = now («true_counts» .exit); clipped-counts = now (clipped .exit); buckets = now (buckets .exit); side-store = now (side .exit) } })
+        (print-bytes (length (now (work .entry))) n (now (call .entry)) (record { ledger = now (ledger .entry); true-counts = now («true_counts» .entry); clipped-counts = now (clipped .entry); buckets = now (buckets .entry); side-store = now (side .entry) }))) ⌝ }
+{
+    if call.len() != 18 {
+        return show_unknown();
+    }
+    let letter = call[0];
+    let asked = read_letter(letter);
+    let Asked::Known(kind) = asked else {
+        return show_unknown();
+    };
+    let class = ledger::bytes::class_at(call, 14);
+    let reply = calls::perform(
+        kind,
+        P,
+        K,
+        ROOM,
+        TOP,
+        CAPACITY,
+        SIDE_PLACES,
+        &mut ledger[..],
+        &mut true_counts[..],
+        &mut clipped[..],
+        &mut buckets[..],
+        &mut side[..],
+        &mut work[..],
+        &call[1..14],
+        class,
+    );
+    Shown {
+        letter,
+        answer: printed(kind, class, reply),
+    }
+}
+
+// Runs a call; its line after the text that ends at a place; where the text ends now.
+pub fn run_call(
+    number: u64,
+    call: &[u8],
+    ledger: &mut [u8],
+    true_counts: &mut [u16],
+    clipped: &mut [u8],
+    buckets: &mut [u8],
+    side: &mut [u8],
+    work: &mut [u16],
+    to: &mut [u8],
+    at: usize,
+) -> usize
+    requires { ⌜ at + 128 ≤ length (now to) ⌝ }
+    ensures { λ r. ⌜ PrintsAfter (print-bytes (length (now (work .entry))) number (now (call .entry)) (record { ledger = now (ledger .entry); true-counts = now («true_counts» .entry); clipped-counts = now (clipped .entry); buckets = now (buckets .entry); side-store = now (side .entry) }))
+        (record { ledger = now (ledger .exit); true-counts = now («true_counts» .exit); clipped-counts = now (clipped .exit); buckets = now (buckets .exit); side-store = now (side .exit) })
+        (now (to .entry)) at (now (to .exit)) r × (at ≤ r) × (r ≤ at + 128) ⌝ }
+{
+    let shown = show_call(
+        call,
+        &mut ledger[..],
+        &mut true_counts[..],
+        &mut clipped[..],
+        &mut buckets[..],
+        &mut side[..],
+        &mut work[..],
+    );
+    let letter = shown.letter;
+    let answer = shown.answer;
+    append_line(&mut to[..], at, number, letter, answer)
 }

@@ -55,10 +55,12 @@ same-length c = search needs
 
 -- src/lib.rt:82:1
 returns : tie.Need-returns
-returns c =
-    (line-after (c .before .before .before .before .before .before .before .before .before .before .before .before .before .before .before .before .before .before .before .before .before .before .before .before .before .before .before .before .before .args .call) (c .before .before .before .before .before .before .before .before .before .before .before .before .before .before .before .before .before .before .before .before .before .before .before .before .before .before .before .before .before .args .letter) (c .before .before .before .before .before .before .before .before .before .before .before .before .before .before .before .before .before .before .before .before .before .before .before .before .before .before .before .before .before .args .x .number) (c .before .before .before .before .before .before .before .before .before .before .before .before .before .before .before .before .before .before .before .before .before .before .before .before .before .before .before .before .before .args .x .class) (c .before .before .before .before .before .before .before .before .before .before .before .before .before .before .before .before .before .before .before .before .before .before .before .before .before .before .before .before .before .args .x .«buckets_read») (c .before .before .before .before .before .before .before .before .before .before .before .before .before .before .before .before .before .before .before .before .before .before .before .before .before .before .before .before .before .args .x .«records_compared») _ _ _ _ _ _ _ _ _ _ _ _ _ _
-    (c .before .before .before .before .before .before .before .before .before .before .before .before .before .before .before .before .before .before .before .before .before .before .append-decimal .ensures .0) (c .before .before .before .before .before .before .before .before .before .before .before .before .before .before .before .before .before .before .append-letter .ensures .0) (c .before .before .before .before .before .before .before .before .before .before .before .before .before .before .append-decimal2 .ensures .0) (c .before .before .before .before .before .before .before .before .before .before .append-decimal3 .ensures .0) (c .before .before .before .before .before .before .append-decimal4 .ensures .0) (c .before .before .append-decimal5 .ensures .0),
-    omega (arith, c .before .before .before .before .before .before .before .before .before .before .before .before .before .before .before .before .before .before .before .before .before .before .append-decimal .ensures .1, c .before .before .before .before .before .before .before .before .before .before .before .before .before .before .before .before .before .before .append-letter .ensures .1, c .before .before .before .before .before .before .before .before .before .before .before .before .before .before .append-decimal2 .ensures .1, c .before .before .before .before .before .before .before .before .before .before .append-decimal3 .ensures .1, c .before .before .before .before .before .before .append-decimal4 .ensures .1, c .before .before .append-decimal5 .ensures .1), omega (arith, c .before .before .before .before .before .before .before .before .before .before .before .before .before .before .before .before .before .before .before .before .before .before .append-decimal .ensures .2, c .before .before .before .before .before .before .before .before .before .before .before .before .before .before .before .before .before .before .append-letter .ensures .2, c .before .before .before .before .before .before .before .before .before .before .before .before .before .before .append-decimal2 .ensures .2, c .before .before .before .before .before .before .before .before .before .before .append-decimal3 .ensures .2, c .before .before .before .before .before .before .append-decimal4 .ensures .2, c .before .before .append-decimal5 .ensures .2))
+returns c = (
+  line-after (c .before .before .before .before .before .before .before .before .before .before .before .before .before .before .before .before .before .before .before .before .before .before .before .before .before .before .before .before .before .args .call) (c .before .before .before .before .before .before .before .before .before .before .before .before .before .before .before .before .before .before .before .before .before .before .before .before .before .before .before .before .before .args .letter) (c .before .before .before .before .before .before .before .before .before .before .before .before .before .before .before .before .before .before .before .before .before .before .before .before .before .before .before .before .before .args .x .number) (c .before .before .before .before .before .before .before .before .before .before .before .before .before .before .before .before .before .before .before .before .before .before .before .before .before .before .before .before .before .args .x .class) (c .before .before .before .before .before .before .before .before .before .before .before .before .before .before .before .before .before .before .before .before .before .before .before .before .before .before .before .before .before .args .x .«buckets_read») (c .before .before .before .before .before .before .before .before .before .before .before .before .before .before .before .before .before .before .before .before .before .before .before .before .before .before .before .before .before .args .x .«records_compared») _ _ _ _ _ _ _ _ _ _ _ _ _ _
+      (c .before .before .before .before .before .before .before .before .before .before .before .before .before .before .before .before .before .before .before .before .before .before .append-decimal .ensures .0) (c .before .before .before .before .before .before .before .before .before .before .before .before .before .before .before .before .before .before .append-letter .ensures .0) (c .before .before .before .before .before .before .before .before .before .before .before .before .before .before .append-decimal2 .ensures .0) (c .before .before .before .before .before .before .before .before .before .before .append-decimal3 .ensures .0) (c .before .before .before .before .before .before .append-decimal4 .ensures .0) (c .before .before .append-decimal5 .ensures .0),
+  omega (arith, c .before .before .before .before .before .before .before .before .before .before .before .before .before .before .before .before .before .before .before .before .before .before .append-decimal .ensures .1, c .before .before .before .before .before .before .before .before .before .before .before .before .before .before .before .before .before .before .append-letter .ensures .1, c .before .before .before .before .before .before .before .before .before .before .before .before .before .before .append-decimal2 .ensures .1, c .before .before .before .before .before .before .before .before .before .before .append-decimal3 .ensures .1, c .before .before .before .before .before .before .append-decimal4 .ensures .1, c .before .before .append-decimal5 .ensures .1),
+  omega (arith, c .before .before .before .before .before .before .before .before .before .before .before .before .before .before .before .before .before .before .before .before .before .before .append-decimal .ensures .2, c .before .before .before .before .before .before .before .before .before .before .before .before .before .before .before .before .before .before .append-letter .ensures .2, c .before .before .before .before .before .before .before .before .before .before .before .before .before .before .append-decimal2 .ensures .2, c .before .before .before .before .before .before .before .before .before .before .append-decimal3 .ensures .2, c .before .before .before .before .before .before .append-decimal4 .ensures .2, c .before .before .append-decimal5 .ensures .2),
+)
 
 pub append-line-spec : {M : Type 1} → statement M
 append-line-spec =
