@@ -6,17 +6,17 @@ use text::append_decimal;
 use text::append_letter;
 ghost use mathlib.Core.Path.{_≡_};
 ghost use mathlib.Core.List.{List};
-ghost use Prim.Native.Nat.{ℕ, _+_, _≤_, _<_};
+ghost use Prim.Native.Nat.{ℕ, _+_, _-_, _*_, _≤_, _<_, min};
 ghost use lib.ListN.{length};
 ghost use Rattle.theory.specs.Layout.{Areas};
 ghost use Rattle.theory.specs.Flowrun as flowrun;
 ghost use Rattle.theory.specs.Lookup.{bare};
-ghost use Rattle.theory.specs.Flowrun.{letter-call, line-text, Printed, print-bytes, print-lines};
+ghost use Rattle.theory.specs.Flowrun.{letter-call, line-text, Printed, print-bytes, print-lines, call-count};
 ghost use Rattle.lookup.specs.Answers.{answer-of};
 ghost use Rattle.calls.specs.Data.{call-of, reply-of};
 ghost use Rattle.text.specs.Writing.{Appends};
 ghost use Rattle.lines.specs.Asking.{call-asked};
-ghost use Rattle.lines.specs.Printing.{PrintsAfter};
+ghost use Rattle.lines.specs.Printing.{PrintsAfter, Prints};
 
 // "Settings 6, 3, 2, 4, 128, 8 in the order above"
 pub const P: u64 = 6;
@@ -188,4 +188,60 @@ pub fn run_call(
     let letter = shown.letter;
     let answer = shown.answer;
     append_line(&mut to[..], at, number, letter, answer)
+}
+
+// Where the call that starts at a place ends, in an input of so many bytes: after 18 bytes, or with the input.
+fn call_end(from: usize, length: usize) -> usize
+    requires { ⌜ from < length ⌝ }
+    ensures { λ r. ⌜ r ≡ from + min 18 (length - from) ⌝ }
+{
+    if 18 <= length - from {
+        from + 18
+    } else {
+        length
+    }
+}
+
+// Runs the calls of an input, numbered from a first number on; their lines at the start of a buffer, and how many bytes these are.
+pub fn run_calls(
+    first: u64,
+    input: &[u8],
+    ledger: &mut [u8],
+    true_counts: &mut [u16],
+    clipped: &mut [u8],
+    buckets: &mut [u8],
+    side: &mut [u8],
+    work: &mut [u16],
+    to: &mut [u8],
+) -> usize
+    requires { ⌜ (128 * call-count (now input) ≤ length (now to)) × (first + length (now input) < 9223372036854775808) ⌝ }
+    ensures { λ r. ⌜ Prints (print-lines (length (now (work .entry))) first (call-count (now (input .entry))) (now (input .entry)) (record { ledger = now (ledger .entry); true-counts = now («true_counts» .entry); clipped-counts = now (clipped .entry); buckets = now (buckets .entry); side-store = now (side .entry) }))
+        (record { ledger = now (ledger .exit); true-counts = now («true_counts» .exit); clipped-counts = now (clipped .exit); buckets = now (buckets .exit); side-store = now (side .exit) })
+        (now (to .entry)) (now (to .exit)) r ⌝ }
+{
+    let length = input.len();
+    let count = (length + 17) / 18;
+    let mut i: usize = 0;
+    let mut number = first;
+    let mut from: usize = 0;
+    let mut at: usize = 0;
+    while i < count {
+        let end = call_end(from, length);
+        at = run_call(
+            number,
+            &input[from..end],
+            &mut ledger[..],
+            &mut true_counts[..],
+            &mut clipped[..],
+            &mut buckets[..],
+            &mut side[..],
+            &mut work[..],
+            &mut to[..],
+            at,
+        );
+        number += 1;
+        from += 18;
+        i += 1;
+    }
+    at
 }

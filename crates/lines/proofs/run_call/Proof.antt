@@ -46,9 +46,11 @@ same-length-7 c = search needs
 
 -- src/lib.rt:162:1
 returns : tie.Need-returns
-returns c =
-    (prints-after _ _ _ (c .before .before .before .before .before .before .before .before .before .before .before .before .before .before .before .before .before .before .before .before .before .before .before .before .before .before .before .before .before .before .before .before .args .to .now) (c .before .before .append-line .last .0) (c .before .before .before .before .before .before .before .before .before .before .before .before .before .before .before .before .before .before .before .before .before .before .before .before .before .before .before .before .before .before .before .before .args .at) (c .before .before .append-line .result) (c .before .before .before .before .before .before .before .before .before .before .before .before .before .before .before .before .before .show-call .ensures (c .before .before .before .before .before .before .before .before .before .before .before .before .before .before .before .before .before .before .before .before .before .before .before .before .before .before .before .before .before .before .before .before .args .number)) (c .before .before .append-line .ensures .0),
-    c .before .before .append-line .ensures .1, c .before .before .append-line .ensures .2)
+returns c = (
+  prints-after _ _ _ (c .before .before .before .before .before .before .before .before .before .before .before .before .before .before .before .before .before .before .before .before .before .before .before .before .before .before .before .before .before .before .before .before .args .to .now) (c .before .before .append-line .last .0) (c .before .before .before .before .before .before .before .before .before .before .before .before .before .before .before .before .before .before .before .before .before .before .before .before .before .before .before .before .before .before .before .before .args .at) (c .before .before .append-line .result) (c .before .before .before .before .before .before .before .before .before .before .before .before .before .before .before .before .before .show-call .ensures (c .before .before .before .before .before .before .before .before .before .before .before .before .before .before .before .before .before .before .before .before .before .before .before .before .before .before .before .before .before .before .before .before .args .number)) (c .before .before .append-line .ensures .0),
+  c .before .before .append-line .ensures .1,
+  c .before .before .append-line .ensures .2,
+)
 
 pub run-call-spec : {M : Type 1} → statement M
 run-call-spec =

@@ -1,0 +1,158 @@
+-- `lines::run_calls` meets its contract: after i calls, what `Ran` says. Assumes nothing.
+use mathlib.Core.Path.{_≡_, refl, sym, ap, _∙_}
+use mathlib.Core.List.{List}
+use Prim.Native.Nat.{ℕ, _+_, _-_, _*_, _≤_}
+use native.Mathlib.Omega.{arith}
+use borrow.Author.Needs.{needs}
+use lib.ListN as lists
+use Rattle.theory.specs.Layout.{Areas}
+use Rattle.theory.specs.Flowrun.{call-count}
+use Rattle.lines.proofs.BlockLaws.{call-bytes, Ran, ran-start, ran-on, ran-end}
+use Rattle.lines.proofs.run_calls.Statement.{statement}
+use Rattle.lines.proofs.run_calls.Tie as tie
+use Rattle.lines.proofs.run_calls.Reads as reads
+use Rattle.lines.proofs.run_calls.Lts as lts
+use Rattle.lines.proofs.call_end.Reads as call-end-reads
+use Rattle.lines.proofs.run_call.Reads as run-call-reads
+
+abbrev areas-of : List ℕ → List ℕ → List ℕ → List ℕ → List ℕ → Areas
+areas-of ledger true-counts clipped buckets side =
+    record { ledger = ledger; true-counts = true-counts; clipped-counts = clipped; buckets = buckets; side-store = side }
+
+abbrev Inv-loop : tie.InvT-loop
+Inv-loop first input ledger₀ true-counts₀ clipped₀ buckets₀ side₀ work₀ to₀ length count i₀ number₀ from₀ at₀ ledger true-counts clipped buckets side work to i number from at =
+    (i ≤ count) × (number ≡ first + i) × (from ≡ 18 * i) × (at ≤ 128 * i)
+    × Ran (lists.length work₀) first count input (areas-of ledger₀ true-counts₀ clipped₀ buckets₀ side₀) to₀ i (areas-of ledger true-counts clipped buckets side) to at
+    × (lists.length work ≡ lists.length work₀) × (lists.length to ≡ lists.length to₀)
+    × (lists.length ledger ≡ lists.length ledger₀) × (lists.length true-counts ≡ lists.length true-counts₀) × (lists.length clipped ≡ lists.length clipped₀)
+    × (lists.length buckets ≡ lists.length buckets₀) × (lists.length side ≡ lists.length side₀)
+
+abbrev μ-loop : tie.MeasureT-loop
+μ-loop first input ledger₀ true-counts₀ clipped₀ buckets₀ side₀ work₀ to₀ length count i₀ number₀ from₀ at₀ ledger true-counts clipped buckets side work to i number from at =
+    count - i
+
+-- src/lib.rt:223:18
+add-count : tie.Need-add-count Inv-loop μ-loop
+add-count c = omega arith
+
+-- src/lib.rt:228:5
+loop-holds : tie.Need-loop-holds Inv-loop μ-loop
+loop-holds c = (omega arith, omega arith, omega arith, omega arith, ran-start _ _ _ _ _ _, refl, refl, refl, refl, refl, refl, refl)
+
+-- src/lib.rt:229:13
+call-end-requires : tie.Need-call-end-requires Inv-loop μ-loop
+call-end-requires c κs = omega arith
+
+-- src/lib.rt:232:13
+sub-run-call : tie.Need-sub-run-call Inv-loop μ-loop
+sub-run-call c = omega arith
+
+-- src/lib.rt:232:13
+part-run-call-start : tie.Need-part-run-call-start Inv-loop μ-loop
+part-run-call-start c = omega arith
+
+-- src/lib.rt:232:13
+part-run-call-end : tie.Need-part-run-call-end Inv-loop μ-loop
+part-run-call-end c = omega arith
+
+-- src/lib.rt:230:9
+run-call-requires : tie.Need-run-call-requires Inv-loop μ-loop
+unfolding call-count
+run-call-requires c κs = omega (arith, c .before .before .before .before .before .before .before .before .before .before .before .before .before .before .before .before .before .before .before .pre .0, c .before .before .before .before .before .before .before .before .before .before .loop .inv .3, c .before .before .before .before .before .before .before .before .before .before .loop .inv .6)
+
+-- src/lib.rt:242:9
+add-number : tie.Need-add-number Inv-loop μ-loop
+add-number c = omega arith
+
+-- src/lib.rt:243:9
+add-from : tie.Need-add-from Inv-loop μ-loop
+add-from c = omega arith
+
+-- src/lib.rt:244:9
+add-i : tie.Need-add-i Inv-loop μ-loop
+add-i c = omega arith
+
+-- src/lib.rt:228:5
+loop-less : tie.Need-loop-less Inv-loop μ-loop
+loop-less c = omega arith
+
+-- src/lib.rt:228:5
+loop-again : tie.Need-loop-again Inv-loop μ-loop
+loop-again c =
+    (
+      omega arith,
+      omega arith,
+      omega arith,
+      omega (arith, c .before .before .before .before .before .before .before .before .before .before .before .before .before .before .run-call .ensures .2),
+      ran-on _ _ _ _ _ _ (c .before .before .before .before .before .before .before .before .before .before .before .before .before .before .before .before .before .before .before .before .before .before .before .before .before .loop .i) _ _ _ _ _ _ _ _ _ (c .before .before .before .before .before .before .before .before .before .before .before .before .before .before .before .before .before .before .before .before .before .before .before .before .loop-test .taken) (c .before .before .before .before .before .before .before .before .before .before .before .before .before .before .before .before .before .before .before .before .before .before .before .before .before .loop .inv .5) (c .before .before .before .before .before .before .before .before .before .before .before .before .before .before .before .before .before .before .before .before .before .before .before .before .before .loop .inv .1)
+      (ap (λ (m : ℕ). lists.take (m - c .before .before .before .before .before .before .before .before .before .before .before .before .before .before .before .before .before .before .before .before .before .before .before .before .before .loop .from) (lists.drop (c .before .before .before .before .before .before .before .before .before .before .before .before .before .before .before .before .before .before .before .before .before .before .before .before .before .loop .from) (c .before .before .before .before .before .before .before .before .before .before .before .before .before .before .before .before .before .before .before .before .before .before .before .before .before .before .before .before .before .before .before .before .before .before .args .input .now))) (c .before .before .before .before .before .before .before .before .before .before .before .before .before .before .before .before .before .before .before .before .before .before .before .call-end .ensures) ∙ call-bytes (c .before .before .before .before .before .before .before .before .before .before .before .before .before .before .before .before .before .before .before .before .before .before .before .before .before .loop .from) (c .before .before .before .before .before .before .before .before .before .before .before .before .before .before .before .before .before .before .before .before .before .before .before .before .before .loop .i) (c .before .before .before .before .before .before .before .before .before .before .before .before .before .before .before .before .before .before .before .before .before .before .before .before .before .before .before .before .before .before .before .before .before .before .args .input .now) (c .before .before .before .before .before .before .before .before .before .before .before .before .before .before .before .before .before .before .before .before .before .before .before .before .before .loop .inv .2) (omega arith))
+      (c .before .before .before .before .before .before .before .before .before .before .before .before .before .before .before .before .before .before .before .before .before .before .before .before .before .loop .inv .4) (c .before .before .before .before .before .before .before .before .before .before .before .before .before .before .run-call .ensures .0),
+      search needs,
+      search needs,
+      search needs,
+      search needs,
+      search needs,
+      search needs,
+      search needs,
+    )
+
+-- src/lib.rt:206:1
+same-length : tie.Need-same-length Inv-loop μ-loop
+same-length c = search needs
+
+-- src/lib.rt:206:1
+same-length-2 : tie.Need-same-length-2 Inv-loop μ-loop
+same-length-2 c = search needs
+
+-- src/lib.rt:206:1
+same-length-3 : tie.Need-same-length-3 Inv-loop μ-loop
+same-length-3 c = search needs
+
+-- src/lib.rt:206:1
+same-length-4 : tie.Need-same-length-4 Inv-loop μ-loop
+same-length-4 c = search needs
+
+-- src/lib.rt:206:1
+same-length-5 : tie.Need-same-length-5 Inv-loop μ-loop
+same-length-5 c = search needs
+
+-- src/lib.rt:206:1
+same-length-6 : tie.Need-same-length-6 Inv-loop μ-loop
+same-length-6 c = search needs
+
+-- src/lib.rt:206:1
+same-length-7 : tie.Need-same-length-7 Inv-loop μ-loop
+same-length-7 c = search needs
+
+-- src/lib.rt:206:1
+returns : tie.Need-returns Inv-loop μ-loop
+unfolding call-count
+returns c =
+    ran-end _ _ _ _ _ _ _ _ _ _ (omega arith) (c .before .loop .inv .4)
+
+pub run-calls-spec : {M : Type 1} → statement M
+run-calls-spec =
+    tie.close
+    (tie.spec
+    Inv-loop
+    μ-loop
+    add-count
+    loop-holds
+    call-end-requires
+    sub-run-call
+    part-run-call-start
+    part-run-call-end
+    run-call-requires
+    add-number
+    add-from
+    add-i
+    loop-less
+    loop-again
+    same-length
+    same-length-2
+    same-length-3
+    same-length-4
+    same-length-5
+    same-length-6
+    same-length-7
+    returns)
