@@ -6,11 +6,12 @@ use native.Mathlib.Nat.{add-zero, sub-zero, add-sub-cancel-left}
 use native.Mathlib.Omega.{arith}
 use lib.Dec.{leb}
 use borrow.Author.Tests.{leb-true, leb-false}
-use lib.ListN.{length, take, drop, length-drop}
+use lib.ListN.{length, take, drop, length-append, length-drop}
 use lib.Seq.{take-at, take-all, drop-drop}
 use Rattle.theory.specs.Layout.{Areas}
 use Rattle.theory.specs.Flowrun.{Printed, print-bytes, print-lines}
 use Rattle.theory.proofs.ListLaws.{by-test}
+use Rattle.io.specs.Counts.{Counts}
 use Rattle.text.specs.Writing.{Writes, Appends}
 use Rattle.lines.specs.Printing.{PrintsAfter, Prints}
 
@@ -44,7 +45,7 @@ module _ (w n k : ℕ) (input : List ℕ) (a : Areas) (empty : List ℕ) where
   rest-on : (i : ℕ) (b : Areas) → i < k
       → rest i b ≡ record {
         text = print-bytes w (n + i) (take 18 (drop (18 * i) input)) b .text ++ rest (i + 1) (print-bytes w (n + i) (take 18 (drop (18 * i) input)) b .areas) .text;
-        areas = rest (i + 1) (print-bytes w (n + i) (take 18 (drop (18 * i) input)) b .areas) .areas
+        areas = rest (i + 1) (print-bytes w (n + i) (take 18 (drop (18 * i) input)) b .areas) .areas;
       }
   unfolding print-lines
   rest-on i b h =
@@ -65,7 +66,9 @@ module _ (w n k : ℕ) (input : List ℕ) (a : Areas) (empty : List ℕ) where
         text = rw text written;
       }
 
-  pub ran-end : (i : ℕ) (b : Areas) (to : List ℕ) (at : ℕ) → i ≡ k → Ran i b to at → Prints (print-lines w n k input a) b empty to at
+  pub ran-end : (i : ℕ) (b : Areas) (to : List ℕ) (at : ℕ) → i ≡ k → Ran i b to at → Prints (print-lines w n k input a) b empty to at × Counts at to
   unfolding print-lines
   ran-end i b to at e r =
-      let none : k - i ≡ 0 = omega arith in rw (r .lines, none, append-nil) (refl, r .text)
+      let none : k - i ≡ 0 = omega arith in
+      let within : at ≤ length to = rw (r .text .1, length-append) (omega (arith, r .text .0)) in
+      (rw (r .lines, none, append-nil) (refl, r .text), (within, r .text .0))

@@ -14,6 +14,7 @@ ghost use Rattle.theory.specs.Lookup.{bare};
 ghost use Rattle.theory.specs.Flowrun.{letter-call, line-text, Printed, print-bytes, print-lines, call-count};
 ghost use Rattle.lookup.specs.Answers.{answer-of};
 ghost use Rattle.calls.specs.Data.{call-of, reply-of};
+ghost use Rattle.io.specs.Counts.{Counts};
 ghost use Rattle.text.specs.Writing.{Appends};
 ghost use Rattle.lines.specs.Asking.{call-asked};
 ghost use Rattle.lines.specs.Printing.{PrintsAfter, Prints};
@@ -217,7 +218,7 @@ pub fn run_calls(
     requires { ⌜ (128 * call-count (now input) ≤ length (now to)) × (first + length (now input) < 9223372036854775808) ⌝ }
     ensures { λ r. ⌜ Prints (print-lines (length (now (work .entry))) first (call-count (now (input .entry))) (now (input .entry)) (record { ledger = now (ledger .entry); true-counts = now («true_counts» .entry); clipped-counts = now (clipped .entry); buckets = now (buckets .entry); side-store = now (side .entry) }))
         (record { ledger = now (ledger .exit); true-counts = now («true_counts» .exit); clipped-counts = now (clipped .exit); buckets = now (buckets .exit); side-store = now (side .exit) })
-        (now (to .entry)) (now (to .exit)) r ⌝ }
+        (now (to .entry)) (now (to .exit)) r × Counts r (now (to .exit)) ⌝ }
 {
     let length = input.len();
     let count = (length + 17) / 18;
