@@ -1,0 +1,35 @@
+-- A key written part by part: each part goes behind what is written already. Addresses of w bytes, four bytes of ports, one of the protocol. Assumes nothing.
+use mathlib.Core.Path.{_≡_, sym, ap, _∙_}
+use mathlib.Core.List.{List, [], _∷_, _++_, append-assoc}
+use Prim.Native.Nat.{ℕ, suc, _+_, _≤_}
+use native.Mathlib.Omega.{arith}
+use lib.ListN.{length, drop, set, getD, length-append, length-drop, drop-of-length-le}
+use lib.Seq.{take-at, drop-at, drop-cons, set-at}
+use Rattle.ledger.proofs.PartLaws.{back}
+
+-- the part behind what is done is back as ys
+next-part : (a k : ℕ) (done rest ys : List ℕ) → length done ≡ a → back a k (done ++ rest) ys ≡ (done ++ ys) ++ drop k rest
+next-part a k done rest ys long = rw (take-at done rest a long, drop-at done rest a long) (sym (append-assoc done ys (drop k rest)))
+
+-- the last place of a list of n + 1
+last-place : (n : ℕ) (l : List ℕ) → length l ≡ n + 1 → drop n l ≡ getD l n 0 ∷ []
+last-place n l long = rw (drop-cons l n 0 (omega arith), drop-of-length-le l none)
+  where
+    none : length l ≤ suc n
+    none = omega arith
+
+module _ (w : ℕ) (key source destination ports : List ℕ) (x : ℕ) (room : length key ≡ w + w + 5) (source-long : length source ≡ w) (destination-long : length destination ≡ w) (ports-long : length ports ≡ 4) where
+  both-long : length (source ++ destination) ≡ w + w
+  both-long = rw length-append (omega arith)
+
+  all-long : length ((source ++ destination) ++ ports) ≡ w + w + 4
+  all-long = rw (length-append, both-long) (omega arith)
+
+  one-left : drop 4 (drop w (drop w key)) ≡ getD (drop w (drop w key)) 4 0 ∷ []
+  one-left = last-place 4 (drop w (drop w key)) (simp length-drop (omega arith))
+
+  pub key-written : set (back (w + w) 4 (back w w (source ++ drop w key) destination) ports) (w + w + 4) x ≡ source ++ destination ++ ports ++ (x ∷ [])
+  key-written =
+      rw (next-part w w source (drop w key) destination source-long, next-part (w + w) 4 (source ++ destination) (drop w (drop w key)) ports both-long)
+      (ap (λ (end : List ℕ). set (((source ++ destination) ++ ports) ++ end) (w + w + 4) x) one-left
+      ∙ set-at ((source ++ destination) ++ ports) (getD (drop w (drop w key)) 4 0) [] x (w + w + 4) all-long ∙ simp append-assoc)

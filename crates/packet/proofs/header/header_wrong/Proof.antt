@@ -1,0 +1,24 @@
+-- `packet::header::header_wrong` meets its contract: the tests are those of the definition. Assumes nothing.
+use borrow.Author.Tests.{lt-ltb, le-ltb}
+use lib.ListN.{length}
+use Rattle.theory.specs.Packet.{header-wrong}
+use borrow.Author.Needs.{needs}
+use Rattle.packet.proofs.header.header_wrong.Statement.{statement}
+use Rattle.packet.proofs.header.header_wrong.Tie as tie
+
+returns : tie.Need-returns
+unfolding header-wrong
+returns c = rw (lt-ltb _ _ (c .if1 .taken))
+
+header-length-requires : tie.Need-header-length-requires
+header-length-requires c κs = search needs
+
+version-requires : tie.Need-version-requires
+version-requires c κs = search needs
+
+returns-2 : tie.Need-returns-2
+unfolding header-wrong
+returns-2 c = rw (c .version .ensures, c .before .header-length .ensures, le-ltb (length (c .before .before .before .before .args .packet .now)) 20 (c .before .before .if1 .left))
+
+pub header-wrong-spec : {M : Type 1} → statement M
+header-wrong-spec = tie.close (tie.spec returns header-length-requires version-requires returns-2)

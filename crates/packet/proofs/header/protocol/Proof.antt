@@ -1,0 +1,16 @@
+-- `packet::header::protocol` meets its contract, by the definition. Assumes nothing.
+use mathlib.Core.Path.{refl}
+use Rattle.theory.specs.Packet.{protocol}
+use borrow.Author.Needs.{needs}
+use Rattle.packet.proofs.header.protocol.Statement.{statement}
+use Rattle.packet.proofs.header.protocol.Tie as tie
+
+shared-slice-read-result : tie.Need-shared-slice-read-result
+shared-slice-read-result c = search needs
+
+returns : tie.Need-returns
+unfolding protocol
+returns c = refl
+
+pub protocol-spec : {M : Type 1} → statement M
+protocol-spec = tie.close (tie.spec shared-slice-read-result returns)

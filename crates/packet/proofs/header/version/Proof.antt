@@ -1,0 +1,16 @@
+-- `packet::header::version` meets its contract, by the definition. Assumes nothing.
+use mathlib.Core.Path.{refl}
+use Rattle.theory.specs.Packet.{version}
+use borrow.Author.Needs.{needs}
+use Rattle.packet.proofs.header.version.Statement.{statement}
+use Rattle.packet.proofs.header.version.Tie as tie
+
+shared-slice-read-result : tie.Need-shared-slice-read-result
+shared-slice-read-result c = search needs
+
+returns : tie.Need-returns
+unfolding version
+returns c = refl
+
+pub version-spec : {M : Type 1} → statement M
+version-spec = tie.close (tie.spec shared-slice-read-result returns)

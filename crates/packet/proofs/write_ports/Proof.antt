@@ -1,0 +1,61 @@
+-- `packet::write_ports` meets its contract: what is lent to the port reader is the part after the header. Assumes nothing.
+use mathlib.Core.Path.{sym, _∙_}
+use borrow.Author.Tests.{not-true, not-false}
+use Rattle.packet.proofs.JudgingLaws.{no-ports, ports-after, after-lent}
+use borrow.Author.Needs.{needs}
+use Rattle.packet.proofs.write_ports.Statement.{statement}
+use Rattle.packet.proofs.write_ports.Tie as tie
+
+has-ports-requires : tie.Need-has-ports-requires
+has-ports-requires c κs = search needs
+
+zero-fill-requires : tie.Need-zero-fill-requires
+zero-fill-requires c κs = search needs
+
+same-length : tie.Need-same-length
+same-length c = search needs
+
+returns : tie.Need-returns
+returns c = rw (c .before .before .zero-fill .ensures, c .before .before .before .before .before .before .before .before .pre .1) (no-ports (c .before .before .before .before .before .before .before .before .args .packet .now) (sym (c .before .before .before .before .before .has-ports .ensures) ∙ not-true _ (c .before .before .before .before .if1 .taken)))
+
+header-length-requires : tie.Need-header-length-requires
+header-length-requires c κs = search needs
+
+sub-read-ports : tie.Need-sub-read-ports
+sub-read-ports c = search needs
+
+part-read-ports-start : tie.Need-part-read-ports-start
+part-read-ports-start c = search needs
+
+part-read-ports-end : tie.Need-part-read-ports-end
+part-read-ports-end c = search needs
+
+read-ports-requires : tie.Need-read-ports-requires
+read-ports-requires c κs =
+    let q = c .before .before .before .before .before .before .before .args .packet .now in
+    let right = c .before .before .before .before .before .before .before .pre .0 in
+    (rw (after-lent q (right .header) (c .before .before .header-length .result) (c .before .before .header-length .ensures)) (right .ports (sym (c .before .before .before .before .has-ports .ensures) ∙ not-false _ (c .before .before .before .if1 .left))), c .before .before .before .before .before .before .before .pre .1)
+
+same-length-2 : tie.Need-same-length-2
+same-length-2 c = search needs
+
+returns-2 : tie.Need-returns-2
+returns-2 c =
+    let q = c .before .before .before .before .before .before .before .before .before .before .args .packet .now in
+    rw (c .before .before .read-ports .ensures, after-lent q (c .before .before .before .before .before .before .before .before .before .before .pre .0 .header) (c .before .before .before .before .before .header-length .result) (c .before .before .before .before .before .header-length .ensures)) (ports-after q (sym (c .before .before .before .before .before .before .before .has-ports .ensures) ∙ not-false _ (c .before .before .before .before .before .before .if1 .left)))
+
+pub write-ports-spec : {M : Type 1} → statement M
+write-ports-spec =
+    tie.close
+    (tie.spec
+    has-ports-requires
+    zero-fill-requires
+    same-length
+    returns
+    header-length-requires
+    sub-read-ports
+    part-read-ports-start
+    part-read-ports-end
+    read-ports-requires
+    same-length-2
+    returns-2)

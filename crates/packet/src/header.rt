@@ -1,0 +1,47 @@
+// The header of an IPv4 packet: what it says, and whether it is wrong.
+use super::ports::protocol_has_ports;
+ghost use mathlib.Core.Path.{_≡_};
+ghost use Prim.Native.Nat.{_≤_};
+ghost use lib.ListN.{length};
+ghost use Rattle.theory.specs.Packet.{header-length, has-ports, header-wrong};
+ghost use Rattle.theory.specs.Packet as packets;
+
+fn version(packet: &[u8]) -> u8
+    requires { ⌜ 20 ≤ length (now packet) ⌝ }
+    ensures { λ r. ⌜ r ≡ packets.version (now (packet .entry)) ⌝ }
+{
+    packet[0] / 16
+}
+
+// Counted in words of four bytes.
+pub fn header_length(packet: &[u8]) -> usize
+    requires { ⌜ 20 ≤ length (now packet) ⌝ }
+    ensures { λ r. ⌜ r ≡ header-length (now (packet .entry)) ⌝ }
+{
+    4 * ((packet[0] % 16) as usize)
+}
+
+pub fn protocol(packet: &[u8]) -> u8
+    requires { ⌜ 20 ≤ length (now packet) ⌝ }
+    ensures { λ r. ⌜ r ≡ packets.protocol (now (packet .entry)) ⌝ }
+{
+    packet[9]
+}
+
+pub fn has_ports(packet: &[u8]) -> bool
+    requires { ⌜ 20 ≤ length (now packet) ⌝ }
+    ensures { λ r. ⌜ r ≡ has-ports (now (packet .entry)) ⌝ }
+{
+    protocol_has_ports(protocol(packet))
+}
+
+// "10, under 20 bytes, version not 4, header length under 20 or beyond the packet"
+pub fn header_wrong(packet: &[u8]) -> bool
+    ensures { λ r. ⌜ r ≡ header-wrong (now (packet .entry)) ⌝ }
+{
+    if packet.len() < 20 {
+        return true;
+    }
+    let end = header_length(packet);
+    (version(packet) != 4) | (end < 20) | (packet.len() < end)
+}

@@ -1,0 +1,76 @@
+// Document 01, the key of an IPv4 packet (RFC 791): the packet is judged first, and only then is its key written.
+use header::has_ports;
+use header::header_length;
+use header::header_wrong;
+use header::protocol;
+use ledger::bytes::copy;
+use ledger::bytes::zero_fill;
+use ports::read_ports;
+use settings::Settings;
+ghost use mathlib.Core.Path.{_≡_};
+ghost use lib.ListN.{length};
+ghost use Rattle.theory.specs.Packet.{ports-cut, ports, packet-key, Keyed, read-packet};
+ghost use Rattle.packet.specs.Judging.{refusal-of, HeaderRight, Right};
+
+pub mod header; // header.rt: what the header says, and whether it is wrong
+pub mod ports; // ports.rt: which protocols have ports, and where they stand
+
+// "11, protocol 6 or 17 with under 4 bytes after the header"
+fn ports_cut(packet: &[u8]) -> bool
+    requires { ⌜ HeaderRight (now packet) ⌝ }
+    ensures { λ r. ⌜ r ≡ ports-cut (now (packet .entry)) ⌝ }
+{
+    has_ports(packet) & (packet.len() - header_length(packet) < 4)
+}
+
+// 10, 11; else 0.
+fn refusal(packet: &[u8]) -> u32
+    ensures { λ r. ⌜ r ≡ refusal-of (now (packet .entry)) ⌝ }
+{
+    if header_wrong(packet) {
+        return 10;
+    }
+    if ports_cut(packet) {
+        return 11;
+    }
+    0
+}
+
+// "Ports come from the part after the header, options skipped, for protocols 6 and 17; for others they are zero."
+fn write_ports(packet: &[u8], to: &mut [u8])
+    requires { ⌜ Right (now packet) × (length (now to) ≡ 4) ⌝ }
+    ensures { λ _. ⌜ now (to .exit) ≡ ports (now (packet .entry)) ⌝ }
+{
+    if !has_ports(packet) {
+        zero_fill(&mut to[..]);
+        return;
+    }
+    let end = header_length(packet);
+    read_ports(&packet[end..], &mut to[..]);
+}
+
+// "source address, destination address, source port, destination port, protocol"
+fn write_key(packet: &[u8], key: &mut [u8])
+    requires { ⌜ Right (now packet) × (length (now key) ≡ 13) ⌝ }
+    ensures { λ _. ⌜ now (key .exit) ≡ packet-key (now (packet .entry)) ⌝ }
+{
+    copy(&mut key[..4], &packet[12..16]);
+    copy(&mut key[4..8], &packet[16..20]);
+    write_ports(packet, &mut key[8..12]);
+    key[12] = protocol(packet);
+}
+
+// The key of a packet into a lent buffer: 3, 10, 11; else 0 and the key. Refused, the buffer is as it was.
+pub fn read_packet_key(packet: &[u8], buffer: &mut [u8]) -> u32
+    ensures { λ r. ⌜ _≡_ {A = Keyed} (record { number = r; buffer = now (buffer .exit) }) (read-packet (now (packet .entry)) (now (buffer .entry))) ⌝ }
+{
+    if buffer.len() != Settings::KEY_WIDTH {
+        return 3;
+    }
+    let number = refusal(packet);
+    if number != 0 {
+        return number;
+    }
+    write_key(packet, &mut buffer[..]);
+    0
+}
