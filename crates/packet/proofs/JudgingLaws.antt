@@ -46,19 +46,22 @@ module _ (q : List ℕ) where
   pub unrefused-right : refusal-of q ≡ 0 → Right q
   unrefused-right e = let n = neither e in record { header = header-right (n .0); ports = ports-there (n .1) }
 
-  -- the ports of a protocol that has none, and of one that has
+  -- the ports of a protocol that has none, and of one that has: those of the part that is lent from the header's end on
   pub no-ports : has-ports q ≡ false → replicate 4 0 ≡ ports q
   unfolding ports
   no-ports e = rw e
 
-  pub ports-after : has-ports q ≡ true → take 4 (after-header q) ≡ ports q
-  unfolding ports
-  ports-after e = rw e
+  module _ (r : Right q) (has : has-ports q ≡ true) (end : ℕ) (e : end ≡ header-length q) where
+    after-lent : take (length q - end) (drop end q) ≡ after-header q
+    unfolding after-header
+    after-lent = rw e (tail-is (header-length q) q (r .header .within))
 
-  -- the part from the header's end on, as it is lent
-  pub after-lent : HeaderRight q → (end : ℕ) → end ≡ header-length q → take (length q - end) (drop end q) ≡ after-header q
-  unfolding after-header
-  after-lent header end e = rw e (tail-is (header-length q) q (header .within))
+    pub ports-fit : 4 ≤ length (take (length q - end) (drop end q))
+    ports-fit = rw after-lent (r .ports has)
+
+    pub ports-lent : take 4 (take (length q - end) (drop end q)) ≡ ports q
+    unfolding ports
+    ports-lent = rw (after-lent, has)
 
   module _ (buffer : List ℕ) where
     pub keyed-3 : (length buffer ≡ 13 → ⊥) → kept 3 buffer ≡ read-packet q buffer

@@ -1,7 +1,7 @@
 -- `packet::write_ports` meets its contract: what is lent to the port reader is the part after the header. Assumes nothing.
 use mathlib.Core.Path.{sym, _∙_}
 use borrow.Author.Tests.{not-true, not-false}
-use Rattle.packet.proofs.JudgingLaws.{no-ports, ports-after, after-lent}
+use Rattle.packet.proofs.JudgingLaws.{no-ports, ports-fit, ports-lent}
 use borrow.Author.Needs.{needs}
 use Rattle.packet.proofs.write_ports.Statement.{statement}
 use Rattle.packet.proofs.write_ports.Tie as tie
@@ -32,17 +32,15 @@ part-read-ports-end c = search needs
 
 read-ports-requires : tie.Need-read-ports-requires
 read-ports-requires c κs =
-    let q = c .before .before .before .before .before .before .before .args .packet .now in
-    let right = c .before .before .before .before .before .before .before .pre .0 in
-    (rw (after-lent q (right .header) (c .before .before .header-length .result) (c .before .before .header-length .ensures)) (right .ports (sym (c .before .before .before .before .has-ports .ensures) ∙ not-false _ (c .before .before .before .if1 .left))), c .before .before .before .before .before .before .before .pre .1)
+    (ports-fit (c .before .before .before .before .before .before .before .args .packet .now) (c .before .before .before .before .before .before .before .pre .0) (sym (c .before .before .before .before .has-ports .ensures) ∙ not-false _ (c .before .before .before .if1 .left)) (c .before .before .header-length .result) (c .before .before .header-length .ensures), c .before .before .before .before .before .before .before .pre .1)
 
 same-length-2 : tie.Need-same-length-2
 same-length-2 c = search needs
 
 returns-2 : tie.Need-returns-2
 returns-2 c =
-    let q = c .before .before .before .before .before .before .before .before .before .before .args .packet .now in
-    rw (c .before .before .read-ports .ensures, after-lent q (c .before .before .before .before .before .before .before .before .before .before .pre .0 .header) (c .before .before .before .before .before .header-length .result) (c .before .before .before .before .before .header-length .ensures)) (ports-after q (sym (c .before .before .before .before .before .before .before .has-ports .ensures) ∙ not-false _ (c .before .before .before .before .before .before .if1 .left)))
+    c .before .before .read-ports .ensures
+    ∙ ports-lent (c .before .before .before .before .before .before .before .before .before .before .args .packet .now) (c .before .before .before .before .before .before .before .before .before .before .pre .0) (sym (c .before .before .before .before .before .before .before .has-ports .ensures) ∙ not-false _ (c .before .before .before .before .before .before .if1 .left)) (c .before .before .before .before .before .header-length .result) (c .before .before .before .before .before .header-length .ensures)
 
 pub write-ports-spec : {M : Type 1} → statement M
 write-ports-spec =
