@@ -1,10 +1,9 @@
 -- `packet::write_key` meets its contract: each part is written behind the one before, the law `key-written`. Assumes nothing.
-use mathlib.Core.Path.{sym, ap, _∙_}
+use mathlib.Core.Path.{_≡_, sym, ap, _∙_}
 use native.Mathlib.Omega.{arith}
-use lib.ListN.{length, length-set}
+use lib.ListN.{length, length-take, length-drop, length-set}
 use lib.Seq.{length-take-le}
 use Rattle.theory.specs.Packet.{packet-key}
-use Rattle.ledger.proofs.PartLaws.{length-part}
 use Rattle.packet.proofs.KeyLaws.{key-written}
 use borrow.Author.Needs.{needs}
 use Rattle.packet.proofs.write_key.Statement.{statement}
@@ -26,7 +25,7 @@ part-copy-end : tie.Need-part-copy-end
 part-copy-end c = search needs
 
 copy-requires : tie.Need-copy-requires
-copy-requires c κs = rw (length-take-le 4 (c .before .before .before .before .args .key .now) (omega arith), length-part 12 4 (c .before .before .before .before .args .packet .now) (omega arith))
+copy-requires c κs = simp (length-take, length-drop) (omega arith)
 
 sub-copy-2 : tie.Need-sub-copy-2
 sub-copy-2 c = search needs
@@ -77,7 +76,7 @@ returns c =
     let source = c .before .before .before .before .before .before .before .before .before .before .before .before .copy in
     let destination = c .before .before .before .before .before .before .before .copy2 in
     let ports = c .before .before .before .write-ports in
-    let source-long = ap length (source .ensures) ∙ length-part 12 4 (start .args .packet .now) (omega arith) in
+    let source-long : length (source .last .0) ≡ 4 = ap length (source .ensures) ∙ simp (length-take, length-drop) (omega arith) in
     key-written 4 (start .args .key .now) (source .last .0) (destination .last .0) (ports .last .1 .0) (c .protocol .result) (start .pre .1) source-long (omega arith) (omega arith)
     ∙ rw (source .ensures, destination .ensures, ports .ensures, c .protocol .ensures)
 
