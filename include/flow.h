@@ -15,7 +15,7 @@
  * alters no area but work.
  *   1  a setting is out of range
  *   2  a lent area is not of its length
- *   3  a key is not of 13 bytes
+ *   3  a key, or a buffer for a packet's key, is not of 13 bytes
  *   4  the ledger is damaged: its count is above the capacity, its keys do not rise, or a byte after its last record is not zero
  *   5  what is read of the lookup areas is damaged: a clipped count is above the top count, a mark is above the room and not 255, or the
  *      side count is above the side places
@@ -23,6 +23,8 @@
  *   7  the key to change or to remove is not held
  *   8  a flow is to be added, and the capacity is reached
  *   9  after the call more flows would belong to the side store than it has places
+ *  10  the packet's header is wrong: it has under 20 bytes, its version is not 4, or its header length is under 20 or beyond the packet
+ *  11  the packet's protocol is 6 or 17, and under 4 bytes follow its header
  *
  * The areas that hold a table, with a record of 17 bytes: a key of 13, then its class in 4, high byte first:
  *   ledger          2 + 17 * capacity bytes: a two-byte count, high byte first, records in rising key order, zeros
@@ -142,6 +144,12 @@ uint32_t flow_remove(uint64_t p, uint64_t k, uint64_t room, uint64_t top, uint64
                      uint8_t *ledger, size_t ledger_length, uint16_t *true_counts, size_t true_counts_length, uint8_t *clipped,
                      size_t clipped_length, uint8_t *buckets, size_t buckets_length, uint8_t *side, size_t side_length,
                      uint16_t *work, size_t work_length, const uint8_t *key, size_t key_length);
+
+/* The key of an IPv4 packet (RFC 791). Lent: packet, of any length, which is only read; key, of 13 bytes.
+ * 0: key holds source address, destination address, source port, destination port and protocol. The ports are the first four bytes after the
+ *    header, options skipped, for protocols 6 and 17, and zeros for others.
+ * 3: key is not of 13 bytes. 10: the packet's header is wrong. 11: its ports are missing. */
+uint32_t flow_packet_key(const uint8_t *packet, size_t packet_length, uint8_t *key, size_t key_length);
 
 #ifdef __cplusplus
 }

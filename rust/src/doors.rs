@@ -197,6 +197,13 @@ mod c {
             key: *const u8,
             key_length: usize,
         ) -> u32;
+
+        pub fn flow_packet_key(
+            packet: *const u8,
+            packet_length: usize,
+            key: *mut u8,
+            key_length: usize,
+        ) -> u32;
     }
 }
 
@@ -497,4 +504,9 @@ pub fn remove(settings: [u64; 6], areas: LentAreas, work: &mut [u16], key: &[u8]
             key.len(),
         )
     }
+}
+
+/// The key of an IPv4 packet; 3 if the buffer for it is not of 13 bytes; 10 if the packet's header is wrong; 11 if its ports are missing.
+pub fn packet_key(packet: &[u8], key: &mut [u8]) -> u32 {
+    unsafe { c::flow_packet_key(packet.as_ptr(), packet.len(), key.as_mut_ptr(), key.len()) }
 }

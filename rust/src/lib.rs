@@ -2,17 +2,19 @@
 //!
 //! [`doors`] has each door as it stands: numbers and slices in, the answer's number out. The rest of the crate is what a Rust user
 //! takes: [`Settings`] that are in range, a [`Table`] that owns its areas, a [`HashTable`] that is filled, [`LookupAreas`] to [`search`]
-//! and to [`tally`] where others own them, and a [`Refusal`] in place of a number.
+//! and to [`tally`] where others own them, the key of a packet by [`packet_key`], and a [`Refusal`] in place of a number.
 
 #![deny(missing_docs)]
 
 mod lookup;
+mod packet;
 mod refusal;
 mod table;
 
 pub mod doors;
 
 pub use lookup::{search, search_lent, tally, LookupAreas, Tally};
+pub use packet::{packet_key, packet_key_into};
 pub use refusal::Refusal;
 pub use table::{Table, TableAreas};
 

@@ -69,7 +69,7 @@ impl Refusal {
         match self {
             Refusal::Setting => "a setting is out of range",
             Refusal::AreaLength => "a lent area is not of its length",
-            Refusal::KeyLength => "a key is not of 13 bytes",
+            Refusal::KeyLength => "a key, or the buffer for one, is not of 13 bytes",
             Refusal::DamagedLedger => "the ledger's count, key order or unused bytes are wrong",
             Refusal::DamagedLookup => "a clipped count, a mark or the side count is too high",
             Refusal::Held => "the key to add is held",

@@ -12,6 +12,7 @@ ghost use Rattle.theory.specs.Settings.{allowed, card-of};
 ghost use Rattle.settings.specs.Checked.{paper};
 ghost use Rattle.card.specs.Doors.{Filled, settings-check-of, lengths-of, area-lengths-of, hash-table-of, hash-of, HashedLent, first-hashes, Numbered, key-buckets-of};
 
+pub mod packets; // packets.rt: the door that reads a packet
 pub mod reading; // reading.rt: the doors that only read
 pub mod updating; // updating.rt: the doors that write
 

@@ -1,0 +1,11 @@
+// The door that reads a packet.
+ghost use mathlib.Core.Path.{_≡_};
+ghost use Rattle.theory.specs.Packet.{Keyed, read-packet};
+
+// The key of an IPv4 packet: 3 if `key` is not of 13 bytes; 10; 11; else the key.
+#[no_mangle]
+pub extern "C" fn flow_packet_key(packet: &[u8], key: &mut [u8]) -> u32
+    ensures { λ r. ⌜ _≡_ {A = Keyed} (record { number = r; buffer = now (key .exit) }) (read-packet (now (packet .entry)) (now (key .entry))) ⌝ }
+{
+    packet::read_packet_key(packet, &mut key[..])
+}
