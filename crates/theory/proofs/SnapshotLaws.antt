@@ -31,7 +31,7 @@ passed f false n e = (refl, e)
 abbrev word : List ℕ → ℕ
 word a = of-bytes (take 2 a)
 
-abbrev head : Settings → ℕ → List ℕ
+abbrev pub head : Settings → ℕ → List ℕ
 head t n = 6 ∷ t .p ∷ t .k ∷ t .room ∷ t .top ∷ t .capacity ∷ t .side-places ∷ n ∷ []
 
 abbrev settings-in : List ℕ → Settings
@@ -53,11 +53,11 @@ unfolding entries file-count
 words-are f =
     rw (drop-drop 2 2 f, drop-drop 2 4 f, drop-drop 2 6 f, drop-drop 2 8 f, drop-drop 2 10 f, drop-drop 2 12 f)
 
-snapshot-is : (t : Settings) (l : List Record) → snapshot t l ≡ flat (to-bytes 2) (head t (length l)) ++ flat record-bytes l
+pub snapshot-is : (t : Settings) (l : List Record) → snapshot t l ≡ flat (to-bytes 2) (head t (length l)) ++ flat record-bytes l
 unfolding snapshot section
 snapshot-is t l = simp append-assoc
 
-length-head : (ns : List ℕ) → length (flat (to-bytes 2) ns) ≡ 2 * length ns
+pub length-head : (ns : List ℕ) → length (flat (to-bytes 2) ns) ≡ 2 * length ns
 length-head ns = length-flat (to-bytes 2) 2 ns (all-every (λ n. length-to-bytes 2 n) ns)
 
 read-words : (ns rest : List ℕ) → All (λ n. n < 65536) ns → entries 2 word (length ns) (flat (to-bytes 2) ns ++ rest) ≡ ns
