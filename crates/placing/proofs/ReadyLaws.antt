@@ -4,16 +4,18 @@ use mathlib.Core.Path.{_≡_, refl}
 use mathlib.Core.Bool.{true, false}
 use mathlib.Core.List.{List}
 use Prim.Native.Nat.{ℕ, _^_, _<_}
+use native.Mathlib.Omega.{arith}
 use lib.ListN.{length}
 use Rattle.theory.specs.Hash.{H, numbers-of}
 use Rattle.theory.specs.Settings as plain
-use Rattle.theory.specs.Settings.{card-of}
+use Rattle.theory.specs.Settings.{allowed, card-of}
 use Rattle.theory.specs.Placing.{all-top, chosen}
 use Rattle.theory.proofs.NumberLaws.{distinct}
 use Rattle.theory.proofs.SettingsLaws.{Sound, sound, numbers-of-distinct}
 use Rattle.theory.proofs.PlacingLaws.{chosen-below}
 use Rattle.settings.specs.declared.Settings.{Settings}
 use Rattle.settings.specs.Checked.{paper}
+use Rattle.settings.proofs.Laws.{width-is}
 use Rattle.hash.specs.declared.Numbers.{Numbers}
 use Rattle.hash.specs.Numbering.{Holds}
 use Rattle.hash.specs.Table.{TableRight}
@@ -40,3 +42,12 @@ module _ (s : Settings) (t : List ℕ) (ready : Ready s t) where
 
   pub chosen-within : (c : ℕ → ℕ) (k : List ℕ) → all-top (card-of (paper s)) c k ≡ false → chosen (card-of (paper s)) c k < card-of (paper s) .buckets
   chosen-within c k e = chosen-below (card-of (paper s)) sound-card c k e
+
+-- the table that a call makes is the right one
+pub ready : (s : Settings) → allowed (paper s) ≡ true → (t : List ℕ) → TableRight 13 t → length t ≡ 3328 → Ready s t
+ready s ok t right long =
+    record {
+      ok = ok;
+      right = rw (width-is (paper s)) right;
+      long = rw (width-is (paper s), long) (omega arith);
+    }

@@ -5,6 +5,7 @@ ghost use Rattle.theory.specs.Settings.{allowed, card-of, record-size, bucket-s
 ghost use Rattle.settings.specs.Checked.{paper, checked-of};
 
 pub mod counts; // counts.rt: true counts and clipped counts, each a type of its own
+pub mod lengths; // lengths.rt: the lengths of the areas that a call is lent
 
 // In the paper's order and letters: p, k, B, T, N, S.
 pub struct Settings {

@@ -1,52 +1,23 @@
 -- Laws of the calls with their settings and lengths: each is `perform`'s. Assumes nothing.
 use mathlib.Core.Path.{_≡_, refl, _∙_}
-use mathlib.Core.Bool.{true, false, _&&_, and-true}
+use mathlib.Core.Bool.{true, false, _&&_}
 use mathlib.Core.List.{List, [], _∷_}
 use Prim.Native.Nat.{ℕ}
-use native.Mathlib.Omega.{arith}
 use lib.Dec.{eqb}
-use borrow.Author.Tests.{eqb-true}
-use lib.ListN.{length}
 use Rattle.theory.specs.Lists.{all}
 use Rattle.theory.specs.Settings as plain
-use Rattle.theory.specs.Settings.{Card, card-of, allowed, ledger-length, true-length, clipped-length, buckets-length, work-length}
+use Rattle.theory.specs.Settings.{Card, card-of, allowed, work-length}
 use Rattle.theory.specs.Layout.{Areas, layout}
 use Rattle.theory.specs.Lookup.{bare}
 use Rattle.theory.specs.Ledger.{clear, Step, answered}
-use Rattle.theory.specs.Calls.{refused, update, call, lookup-lengths, all-lengths, lent-lengths, perform}
-use Rattle.theory.proofs.ListLaws.{and-left, and-right}
-use Rattle.theory.proofs.CallLaws.{Sized}
+use Rattle.theory.specs.Calls.{refused, update, call, all-lengths, lent-lengths, perform}
 use Rattle.settings.specs.declared.Settings.{Settings}
 use Rattle.settings.specs.Checked.{paper}
-use Rattle.settings.proofs.Laws.{width-is}
-use Rattle.hash.specs.Table.{TableRight}
-use Rattle.placing.specs.Ready.{Ready}
+use Rattle.settings.specs.Lengths.{lengths-of, right-lengths}
+use Rattle.settings.proofs.LengthLaws.{lengths-are}
 use Rattle.update.specs.declared.Edit.{Edit}
 use Rattle.update.specs.declared.Edit.the-variants.{Insert, Replace, Remove}
-use Rattle.update.specs.declared.Lengths.{Lengths}
-use Rattle.update.specs.Editing.{call-of, right-lengths}
-
--- the lengths of areas
-abbrev pub lengths-of : Areas → Lengths
-lengths-of a =
-    record { ledger = length (a .ledger); «true_counts» = length (a .true-counts); clipped = length (a .clipped-counts); buckets = length (a .buckets); side = length (a .side-store) }
-
-lengths-are : (c : Card) (a : Areas) → all (λ x. x) (all-lengths c a) ≡ right-lengths c (lengths-of a)
-unfolding all-lengths lookup-lengths
-lengths-are c a = rw and-true
-
-pub sized-by : (c : Card) (a : Areas) → right-lengths c (lengths-of a) ≡ true → Sized c a
-sized-by c a e =
-    let e₁ = and-right (eqb (length (a .ledger)) (ledger-length c)) _ e in
-    let e₂ = and-right (eqb (length (a .true-counts)) (true-length c)) _ e₁ in
-    let e₃ = and-right (eqb (length (a .clipped-counts)) (clipped-length c)) _ e₂ in
-    record {
-      ledger = eqb-true _ _ (and-left (eqb (length (a .ledger)) (ledger-length c)) _ e);
-      true-counts = eqb-true _ _ (and-left (eqb (length (a .true-counts)) (true-length c)) _ e₁);
-      clipped-counts = eqb-true _ _ (and-left (eqb (length (a .clipped-counts)) (clipped-length c)) _ e₂);
-      buckets = eqb-true _ _ (and-left (eqb (length (a .buckets)) (buckets-length c)) _ e₃);
-      side-store = eqb-true _ _ (and-right (eqb (length (a .buckets)) (buckets-length c)) _ e₃);
-    }
+use Rattle.update.specs.Editing.{call-of}
 
 -- ---- the three edits are calls of one shape
 module _ (edit : Edit) (k : List ℕ) (x : ℕ) where
@@ -98,12 +69,3 @@ module _ (t : plain.Settings) (a : Areas) where
         → record { reply = answered (bare 0); state = b } ≡ perform t 0 clear a
     unfolding perform lent-lengths call
     clears e b f = let q = rw same at e in rw (ok, lengths-are (card-of t) a, q, f, same)
-
--- the table that a call makes is the right one
-pub ready : (s : Settings) → allowed (paper s) ≡ true → (t : List ℕ) → TableRight 13 t → length t ≡ 3328 → Ready s t
-ready s ok t right long =
-    record {
-      ok = ok;
-      right = rw (width-is (paper s)) right;
-      long = rw (width-is (paper s), long) (omega arith);
-    }

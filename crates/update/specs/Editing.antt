@@ -1,12 +1,12 @@
 -- Add, change and remove as one: what they share as the code holds it. Assumes nothing.
 use mathlib.Core.Path.{_≡_}
-use mathlib.Core.Bool.{Bool, false, cond, not, _&&_}
+use mathlib.Core.Bool.{Bool, false, cond, not}
 use mathlib.Core.List.{List}
 use Prim.Native.Nat.{ℕ, _≤_, _<_}
-use lib.Dec.{leb, eqb}
+use lib.Dec.{leb}
 use lib.ListN.{length}
 use Rattle.theory.specs.Settings as plain
-use Rattle.theory.specs.Settings.{Card, card-of, ledger-length, true-length, clipped-length, buckets-length, side-length}
+use Rattle.theory.specs.Settings.{Card, card-of}
 use Rattle.theory.specs.Records.{Record}
 use Rattle.theory.specs.Ledger.{Call, add, change, remove, refusal, next, side-need-of}
 use Rattle.theory.specs.Calls.{ledger-records, ledger-invalid}
@@ -17,7 +17,6 @@ use Rattle.placing.specs.Worked.{Worked}
 use Rattle.update.specs.declared.Edit.{Edit}
 use Rattle.update.specs.declared.Edit.the-variants.{Insert, Replace, Remove}
 use Rattle.update.specs.declared.Plan.{Plan}
-use Rattle.update.specs.declared.Lengths.{Lengths}
 
 -- the call that an edit is
 abbrev pub call-of : Edit → List ℕ → ℕ → Call
@@ -69,10 +68,3 @@ pub record Planned (s : Settings) (m : ℕ) (edit : Edit) (k : List ℕ) (x : �
   pub worked : Worked (card-of (paper s)) m (next (card-of (paper s)) (call-of edit k x) (ledger-records (card-of (paper s)) ledger)) work
   pub need : r .need ≡ side-need-of (card-of (paper s)) (next (card-of (paper s)) (call-of edit k x) (ledger-records (card-of (paper s)) ledger))
   pub enough : r .need ≤ card-of (paper s) .side-places
-
--- the five areas have their lengths
-abbrev pub right-lengths : Card → Lengths → Bool
-right-lengths s l =
-    eqb (l .ledger) (ledger-length s)
-    && (eqb (l .«true_counts») (true-length s)
-    && (eqb (l .clipped) (clipped-length s) && (eqb (l .buckets) (buckets-length s) && eqb (l .side) (side-length s))))

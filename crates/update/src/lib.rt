@@ -1,12 +1,14 @@
 // Document 01, the calls that write: clear, add, change, remove. They judge first, on the ledger and work alone, and then write every area.
 use settings::Checked;
 use settings::Settings;
+use settings::lengths::Lengths;
+use settings::lengths::lengths_right;
 ghost use mathlib.Core.Path.{_≡_};
 ghost use mathlib.Core.Bool.{true, false};
 ghost use mathlib.Core.List.{List, _++_};
 ghost use Prim.Native.Nat.{ℕ, _+_, _-_, _*_, _<_, _≤_};
 ghost use lib.ListN.{length, take, drop};
-ghost use Rattle.theory.specs.Settings.{allowed, card-of, record-size, ledger-length, work-length};
+ghost use Rattle.theory.specs.Settings.{card-of, record-size, ledger-length, work-length};
 ghost use Rattle.theory.specs.Records.{Record, records, record-bytes};
 ghost use Rattle.theory.specs.Lookup.{bare};
 ghost use Rattle.theory.specs.Ledger.{side-need-of, next, Step, answered};
@@ -21,7 +23,7 @@ ghost use Rattle.ledger.specs.Edits.{ValidLedger};
 ghost use Rattle.theory.proofs.ByteLaws.{Fit};
 ghost use Rattle.placing.specs.Ready.{Ready};
 ghost use Rattle.placing.specs.Worked.{Worked};
-ghost use Rattle.update.specs.Editing.{right-lengths, call-of, edited, brings, leaves-out, by-list, Fits, judged-number, Planned};
+ghost use Rattle.update.specs.Editing.{call-of, edited, brings, leaves-out, by-list, Fits, judged-number, Planned};
 
 // Add, change or remove.
 pub enum Edit {
@@ -306,27 +308,6 @@ fn update_lent(
         &buffer[..size],
     );
     0
-}
-
-// The lengths of the five areas that a call is lent.
-struct Lengths {
-    ledger: usize,
-    true_counts: usize,
-    clipped: usize,
-    buckets: usize,
-    side: usize,
-}
-
-fn lengths_right(s: Settings, l: Lengths) -> bool
-    requires { ⌜ allowed (paper s) ≡ true ⌝ }
-    ensures { λ r. ⌜ r ≡ right-lengths (card-of (paper s)) l ⌝ }
-{
-    let ledger_right = l.ledger == s.ledger_length();
-    let true_right = l.true_counts == s.true_length();
-    let clipped_right = l.clipped == s.clipped_length();
-    let buckets_right = l.buckets == s.buckets_length();
-    let side_right = l.side == s.side_length();
-    ledger_right & (true_right & (clipped_right & (buckets_right & side_right)))
 }
 
 // Add, change or remove: 1, 2, then the call. The table of the hash is made once.

@@ -4,7 +4,8 @@ use borrow.Author.Tests.{not-true, not-false}
 use Rattle.theory.specs.Settings.{card-of}
 use Rattle.settings.specs.Checked.{paper}
 use Rattle.settings.proofs.Laws.{allowed-arm, refused-arm, allowed-settings}
-use Rattle.update.proofs.CallLaws.{sized-by, clears-1, clears-2, clears}
+use Rattle.settings.proofs.LengthLaws.{sized-by}
+use Rattle.update.proofs.CallLaws.{clears-1, clears-2, clears}
 use borrow.Author.Needs.{needs}
 use Rattle.update.proofs.clear.Statement.{statement}
 use Rattle.update.proofs.clear.Tie as tie

@@ -9,7 +9,9 @@ use Rattle.theory.specs.Settings.{card-of}
 use Rattle.theory.proofs.ListLaws.{and-left, and-right}
 use Rattle.settings.specs.Checked.{paper}
 use Rattle.settings.proofs.Laws.{allowed-arm, refused-arm, allowed-settings}
-use Rattle.update.proofs.CallLaws.{sized-by, performs-1, performs-2, performs-on, ready}
+use Rattle.settings.proofs.LengthLaws.{sized-by}
+use Rattle.placing.proofs.ReadyLaws.{ready}
+use Rattle.update.proofs.CallLaws.{performs-1, performs-2, performs-on}
 use Rattle.update.proofs.update.Statement.{statement}
 use Rattle.update.proofs.update.Tie as tie
 

@@ -1,7 +1,7 @@
--- `update::lengths_right` meets its contract, by what the settings say. Assumes nothing.
+-- `settings::lengths::lengths_right` meets its contract, by what the settings say. Assumes nothing.
 use borrow.Author.Needs.{needs}
-use Rattle.update.proofs.lengths_right.Statement.{statement}
-use Rattle.update.proofs.lengths_right.Tie as tie
+use Rattle.settings.proofs.lengths.lengths_right.Statement.{statement}
+use Rattle.settings.proofs.lengths.lengths_right.Tie as tie
 
 ledger-length-requires : tie.Need-ledger-length-requires
 ledger-length-requires c κs = search needs

@@ -1,0 +1,18 @@
+-- The lengths of the five areas that a call is lent, as the code holds them. Assumes nothing.
+use mathlib.Core.Bool.{Bool, _&&_}
+use lib.Dec.{eqb}
+use lib.ListN.{length}
+use Rattle.theory.specs.Settings.{Card, ledger-length, true-length, clipped-length, buckets-length, side-length}
+use Rattle.theory.specs.Layout.{Areas}
+use Rattle.settings.specs.declared.lengths.Lengths.{Lengths}
+
+abbrev pub lengths-of : Areas → Lengths
+lengths-of a =
+    record { ledger = length (a .ledger); «true_counts» = length (a .true-counts); clipped = length (a .clipped-counts); buckets = length (a .buckets); side = length (a .side-store) }
+
+-- each is as the settings say
+abbrev pub right-lengths : Card → Lengths → Bool
+right-lengths s l =
+    eqb (l .ledger) (ledger-length s)
+    && (eqb (l .«true_counts») (true-length s)
+    && (eqb (l .clipped) (clipped-length s) && (eqb (l .buckets) (buckets-length s) && eqb (l .side) (side-length s))))

@@ -1,0 +1,28 @@
+// The lengths of the five areas that a call is lent, judged at once.
+use super::Settings;
+ghost use mathlib.Core.Path.{_≡_};
+ghost use mathlib.Core.Bool.{true};
+ghost use Rattle.theory.specs.Settings.{allowed, card-of};
+ghost use Rattle.settings.specs.Checked.{paper};
+ghost use Rattle.settings.specs.Lengths.{right-lengths};
+
+pub struct Lengths {
+    pub ledger: usize,
+    pub true_counts: usize,
+    pub clipped: usize,
+    pub buckets: usize,
+    pub side: usize,
+}
+
+// Each is as the settings say; else 2.
+pub fn lengths_right(s: Settings, l: Lengths) -> bool
+    requires { ⌜ allowed (paper s) ≡ true ⌝ }
+    ensures { λ r. ⌜ r ≡ right-lengths (card-of (paper s)) l ⌝ }
+{
+    let ledger_right = l.ledger == s.ledger_length();
+    let true_right = l.true_counts == s.true_length();
+    let clipped_right = l.clipped == s.clipped_length();
+    let buckets_right = l.buckets == s.buckets_length();
+    let side_right = l.side == s.side_length();
+    ledger_right & (true_right & (clipped_right & (buckets_right & side_right)))
+}
