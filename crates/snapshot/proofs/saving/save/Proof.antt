@@ -1,0 +1,76 @@
+-- `snapshot::saving::save` meets its contract: 1, 2, then the call with a table made once. Assumes nothing.
+use mathlib.Core.Path.{_≡_, ap, _∙_}
+use mathlib.Core.Bool.{true, _&&_}
+use borrow.Author.Tests.{eqb-true, not-true, not-false}
+use lib.Dec.{eqb}
+use lib.ListN.{length}
+use Rattle.theory.specs.Settings.{Settings}
+use Rattle.theory.specs.Snapshot.{save}
+use Rattle.theory.proofs.ListLaws.{and-left, and-right}
+use Rattle.settings.proofs.Laws.{allowed-arm, refused-arm, allowed-settings}
+use Rattle.placing.proofs.ReadyLaws.{ready}
+use Rattle.snapshot.proofs.SaveLaws.{saves-1, saves-2}
+use borrow.Author.Needs.{needs}
+use Rattle.snapshot.proofs.saving.save.Statement.{statement}
+use Rattle.snapshot.proofs.saving.save.Tie as tie
+
+new-requires : tie.Need-new-requires
+new-requires c κs = search needs
+
+enum-known-checked : tie.Need-enum-known-checked
+enum-known-checked c = search needs
+
+enum-told : tie.Need-enum-told
+enum-told c = search needs
+
+returns : tie.Need-returns
+returns c = saves-1 (record { p = c .before .before .before .before .before .before .args .p; k = c .before .before .before .before .before .before .args .k; room = c .before .before .before .before .before .before .args .room; top = c .before .before .before .before .before .before .args .top; capacity = c .before .before .before .before .before .before .args .capacity; side-places = c .before .before .before .before .before .before .args .side-places }) (c .before .before .before .before .before .before .args .ledger .now) (length (c .before .before .before .before .before .before .args .work .now)) (c .before .before .before .before .before .before .args .target .now) (refused-arm (record { p = c .before .before .before .before .before .before .args .p; k = c .before .before .before .before .before .before .args .k; room = c .before .before .before .before .before .before .args .room; top = c .before .before .before .before .before .before .args .top; capacity = c .before .before .before .before .before .before .args .capacity; side-places = c .before .before .before .before .before .before .args .side-places }) (c .before .before .new .result) (c .before .before .new .ensures) (c .enum-told .given .1))
+
+work-length-requires : tie.Need-work-length-requires
+work-length-requires c κs = allowed-settings (record { p = c .before .before .before .before .before .before .before .args .p; k = c .before .before .before .before .before .before .before .args .k; room = c .before .before .before .before .before .before .before .args .room; top = c .before .before .before .before .before .before .before .args .top; capacity = c .before .before .before .before .before .before .before .args .capacity; side-places = c .before .before .before .before .before .before .before .args .side-places }) (c .before .before .before .new .result) (c .before .before .before .new .ensures) (c .before .checked .given .0 .0) (c .before .checked .given .1)
+
+ledger-length-requires : tie.Need-ledger-length-requires
+ledger-length-requires c κs = allowed-settings (record { p = c .before .before .before .before .before .before .before .before .args .p; k = c .before .before .before .before .before .before .before .before .args .k; room = c .before .before .before .before .before .before .before .before .args .room; top = c .before .before .before .before .before .before .before .before .args .top; capacity = c .before .before .before .before .before .before .before .before .args .capacity; side-places = c .before .before .before .before .before .before .before .before .args .side-places }) (c .before .before .before .before .new .result) (c .before .before .before .before .new .ensures) (c .before .before .checked .given .0 .0) (c .before .before .checked .given .1)
+
+returns-2 : tie.Need-returns-2
+returns-2 c = let arm = allowed-arm (record { p = c .before .before .before .before .before .before .before .before .before .before .args .p; k = c .before .before .before .before .before .before .before .before .before .before .args .k; room = c .before .before .before .before .before .before .before .before .before .before .args .room; top = c .before .before .before .before .before .before .before .before .before .before .args .top; capacity = c .before .before .before .before .before .before .before .before .before .before .args .capacity; side-places = c .before .before .before .before .before .before .before .before .before .before .args .side-places }) (c .before .before .before .before .before .before .new .result) (c .before .before .before .before .before .before .new .ensures) (c .before .before .before .before .checked .given .0 .0) (c .before .before .before .before .checked .given .1) in saves-2 (record { p = c .before .before .before .before .before .before .before .before .before .before .args .p; k = c .before .before .before .before .before .before .before .before .before .before .args .k; room = c .before .before .before .before .before .before .before .before .before .before .args .room; top = c .before .before .before .before .before .before .before .before .before .before .args .top; capacity = c .before .before .before .before .before .before .before .before .before .before .args .capacity; side-places = c .before .before .before .before .before .before .before .before .before .before .args .side-places }) (c .before .before .before .before .before .before .before .before .before .before .args .ledger .now) (length (c .before .before .before .before .before .before .before .before .before .before .args .work .now)) (c .before .before .before .before .before .before .before .before .before .before .args .target .now) (arm .0) (c .before .before .before .before .checked .given .0 .0) (arm .1) (c .before .before .work-length .result) (c .before .ledger-length .result) (c .before .before .work-length .ensures) (c .before .ledger-length .ensures) (not-true _ (c .if1 .taken))
+
+table-requires : tie.Need-table-requires
+table-requires c κs = search needs
+
+slice-aggregate-save-lent : tie.Need-slice-aggregate-save-lent
+slice-aggregate-save-lent c = search needs
+
+save-lent-requires : tie.Need-save-lent-requires
+save-lent-requires c κs = let v : ((eqb (length (c .before .before .before .before .before .before .before .before .before .before .before .before .before .before .args .work .now)) (c .before .before .before .before .before .before .work-length .result)) && eqb (length (c .before .before .before .before .before .before .before .before .before .before .before .before .before .before .args .ledger .now)) (c .before .before .before .before .before .ledger-length .result)) ≡ true = not-false _ (c .before .before .before .before .if1 .left) in (
+  ready (c .before .before .before .before .before .before .before .before .checked .given .0 .0) (allowed-settings (record { p = c .before .before .before .before .before .before .before .before .before .before .before .before .before .before .args .p; k = c .before .before .before .before .before .before .before .before .before .before .before .before .before .before .args .k; room = c .before .before .before .before .before .before .before .before .before .before .before .before .before .before .args .room; top = c .before .before .before .before .before .before .before .before .before .before .before .before .before .before .args .top; capacity = c .before .before .before .before .before .before .before .before .before .before .before .before .before .before .args .capacity; side-places = c .before .before .before .before .before .before .before .before .before .before .before .before .before .before .args .side-places }) (c .before .before .before .before .before .before .before .before .before .before .new .result) (c .before .before .before .before .before .before .before .before .before .before .new .ensures) (c .before .before .before .before .before .before .before .before .checked .given .0 .0) (c .before .before .before .before .before .before .before .before .checked .given .1)) (c .before .before .before .table .result) (c .before .before .before .table .ensures) (search needs),
+  eqb-true _ _ (and-left (eqb (length (c .before .before .before .before .before .before .before .before .before .before .before .before .before .before .args .work .now)) (c .before .before .before .before .before .before .work-length .result)) _ v) ∙ c .before .before .before .before .before .before .work-length .ensures,
+  eqb-true _ _ (and-right (eqb (length (c .before .before .before .before .before .before .before .before .before .before .before .before .before .before .args .work .now)) (c .before .before .before .before .before .before .work-length .result)) _ v) ∙ c .before .before .before .before .before .ledger-length .ensures,
+)
+
+same-length : tie.Need-same-length
+same-length c = search needs
+
+same-length-2 : tie.Need-same-length-2
+same-length-2 c = search needs
+
+returns-3 : tie.Need-returns-3
+returns-3 c = let arm = allowed-arm (record { p = c .before .before .before .before .before .before .before .before .before .before .before .before .before .before .before .before .before .before .before .args .p; k = c .before .before .before .before .before .before .before .before .before .before .before .before .before .before .before .before .before .before .before .args .k; room = c .before .before .before .before .before .before .before .before .before .before .before .before .before .before .before .before .before .before .before .args .room; top = c .before .before .before .before .before .before .before .before .before .before .before .before .before .before .before .before .before .before .before .args .top; capacity = c .before .before .before .before .before .before .before .before .before .before .before .before .before .before .before .before .before .before .before .args .capacity; side-places = c .before .before .before .before .before .before .before .before .before .before .before .before .before .before .before .before .before .before .before .args .side-places }) (c .before .before .before .before .before .before .before .before .before .before .before .before .before .before .before .new .result) (c .before .before .before .before .before .before .before .before .before .before .before .before .before .before .before .new .ensures) (c .before .before .before .before .before .before .before .before .before .before .before .before .before .checked .given .0 .0) (c .before .before .before .before .before .before .before .before .before .before .before .before .before .checked .given .1) in (c .before .before .before .before .save-lent .ensures) ∙ ap (λ (u : Settings). save u (c .before .before .before .before .before .before .before .before .before .before .before .before .before .before .before .before .before .before .before .args .ledger .now) (length (c .before .before .before .before .before .before .before .before .before .before .before .before .before .before .before .before .before .before .before .args .work .now)) (c .before .before .before .before .before .before .before .before .before .before .before .before .before .before .before .before .before .before .before .args .target .now)) (arm .1)
+
+pub save-spec : {M : Type 1} → statement M
+save-spec =
+    tie.close
+    (tie.spec
+    new-requires
+    enum-known-checked
+    enum-told
+    returns
+    work-length-requires
+    ledger-length-requires
+    returns-2
+    table-requires
+    slice-aggregate-save-lent
+    save-lent-requires
+    same-length
+    same-length-2
+    returns-3)

@@ -1,0 +1,53 @@
+-- `snapshot::saving::write_head` meets its contract: eight numbers, each after the last. Assumes nothing.
+use native.Mathlib.Omega.{arith}
+use Rattle.theory.proofs.SettingsLaws.{ranges}
+use Rattle.settings.specs.Checked.{paper}
+use Rattle.snapshot.proofs.SaveLaws.{head-written}
+use borrow.Author.Needs.{needs}
+use Rattle.snapshot.proofs.saving.write_head.Statement.{statement}
+use Rattle.snapshot.proofs.saving.write_head.Tie as tie
+
+put-number-requires : tie.Need-put-number-requires
+put-number-requires c κs = search needs
+
+put-number-requires-2 : tie.Need-put-number-requires-2
+put-number-requires-2 c κs = let r = ranges (paper (c .before .before .before .before .before .before .args .s)) (c .before .before .before .before .before .before .pre .0) in (omega (arith, c .before .before .before .before .before .before .pre .1, c .before .before .before .put-number .kept .0), omega (arith, r .p-high))
+
+put-number-requires-3 : tie.Need-put-number-requires-3
+put-number-requires-3 c κs = let r = ranges (paper (c .before .before .before .before .before .before .before .before .before .before .args .s)) (c .before .before .before .before .before .before .before .before .before .before .pre .0) in (omega (arith, c .before .before .before .before .before .before .before .before .before .before .pre .1, c .before .before .before .before .before .before .before .put-number .kept .0, c .before .before .before .put-number2 .kept .0), omega (arith, r .k-high))
+
+put-number-requires-4 : tie.Need-put-number-requires-4
+put-number-requires-4 c κs = let r = ranges (paper (c .before .before .before .before .before .before .before .before .before .before .before .before .before .before .args .s)) (c .before .before .before .before .before .before .before .before .before .before .before .before .before .before .pre .0) in (omega (arith, c .before .before .before .before .before .before .before .before .before .before .before .before .before .before .pre .1, c .before .before .before .before .before .before .before .before .before .before .before .put-number .kept .0, c .before .before .before .before .before .before .before .put-number2 .kept .0, c .before .before .before .put-number3 .kept .0), omega (arith, r .room-high))
+
+put-number-requires-5 : tie.Need-put-number-requires-5
+put-number-requires-5 c κs = let r = ranges (paper (c .before .before .before .before .before .before .before .before .before .before .before .before .before .before .before .before .before .before .args .s)) (c .before .before .before .before .before .before .before .before .before .before .before .before .before .before .before .before .before .before .pre .0) in (omega (arith, c .before .before .before .before .before .before .before .before .before .before .before .before .before .before .before .before .before .before .pre .1, c .before .before .before .before .before .before .before .before .before .before .before .before .before .before .before .put-number .kept .0, c .before .before .before .before .before .before .before .before .before .before .before .put-number2 .kept .0, c .before .before .before .before .before .before .before .put-number3 .kept .0, c .before .before .before .put-number4 .kept .0), omega (arith, r .top-high))
+
+put-number-requires-6 : tie.Need-put-number-requires-6
+put-number-requires-6 c κs = let r = ranges (paper (c .before .before .before .before .before .before .before .before .before .before .before .before .before .before .before .before .before .before .before .before .before .before .args .s)) (c .before .before .before .before .before .before .before .before .before .before .before .before .before .before .before .before .before .before .before .before .before .before .pre .0) in (omega (arith, c .before .before .before .before .before .before .before .before .before .before .before .before .before .before .before .before .before .before .before .before .before .before .pre .1, c .before .before .before .before .before .before .before .before .before .before .before .before .before .before .before .before .before .before .before .put-number .kept .0, c .before .before .before .before .before .before .before .before .before .before .before .before .before .before .before .put-number2 .kept .0, c .before .before .before .before .before .before .before .before .before .before .before .put-number3 .kept .0, c .before .before .before .before .before .before .before .put-number4 .kept .0, c .before .before .before .put-number5 .kept .0), omega (arith, r .capacity-high))
+
+put-number-requires-7 : tie.Need-put-number-requires-7
+put-number-requires-7 c κs = let r = ranges (paper (c .before .before .before .before .before .before .before .before .before .before .before .before .before .before .before .before .before .before .before .before .before .before .before .before .before .before .args .s)) (c .before .before .before .before .before .before .before .before .before .before .before .before .before .before .before .before .before .before .before .before .before .before .before .before .before .before .pre .0) in (omega (arith, c .before .before .before .before .before .before .before .before .before .before .before .before .before .before .before .before .before .before .before .before .before .before .before .before .before .before .pre .1, c .before .before .before .before .before .before .before .before .before .before .before .before .before .before .before .before .before .before .before .before .before .before .before .put-number .kept .0, c .before .before .before .before .before .before .before .before .before .before .before .before .before .before .before .before .before .before .before .put-number2 .kept .0, c .before .before .before .before .before .before .before .before .before .before .before .before .before .before .before .put-number3 .kept .0, c .before .before .before .before .before .before .before .before .before .before .before .put-number4 .kept .0, c .before .before .before .before .before .before .before .put-number5 .kept .0, c .before .before .before .put-number6 .kept .0), omega (arith, r .side-high))
+
+put-number-requires-8 : tie.Need-put-number-requires-8
+put-number-requires-8 c κs = search needs
+
+same-length : tie.Need-same-length
+same-length c = search needs
+
+returns : tie.Need-returns
+returns c = head-written (paper (c .before .before .before .before .before .before .before .before .before .before .before .before .before .before .before .before .before .before .before .before .before .before .before .before .before .before .before .before .before .before .before .before .before .args .s)) (c .before .before .before .before .before .before .before .before .before .before .before .before .before .before .before .before .before .before .before .before .before .before .before .before .before .before .before .before .before .before .before .before .before .args .n) (c .before .before .before .before .before .before .before .before .before .before .before .before .before .before .before .before .before .before .before .before .before .before .before .before .before .before .before .before .before .before .before .before .before .args .to .now) (c .before .before .before .before .before .before .before .before .before .before .before .before .before .before .before .before .before .before .before .before .before .before .before .before .before .before .before .before .before .before .put-number .last .0) (c .before .before .before .before .before .before .before .before .before .before .before .before .before .before .before .before .before .before .before .before .before .before .before .before .before .before .put-number2 .last .0) (c .before .before .before .before .before .before .before .before .before .before .before .before .before .before .before .before .before .before .before .before .before .before .put-number3 .last .0) (c .before .before .before .before .before .before .before .before .before .before .before .before .before .before .before .before .before .before .put-number4 .last .0) (c .before .before .before .before .before .before .before .before .before .before .before .before .before .before .put-number5 .last .0) (c .before .before .before .before .before .before .before .before .before .before .put-number6 .last .0) (c .before .before .before .before .before .before .put-number7 .last .0) (c .before .before .put-number8 .last .0) (c .before .before .before .before .before .before .before .before .before .before .before .before .before .before .before .before .before .before .before .before .before .before .before .before .before .before .before .before .before .before .before .before .before .pre .1) (c .before .before .before .before .before .before .before .before .before .before .before .before .before .before .before .before .before .before .before .before .before .before .before .before .before .before .before .before .before .before .put-number .ensures) (c .before .before .before .before .before .before .before .before .before .before .before .before .before .before .before .before .before .before .before .before .before .before .before .before .before .before .put-number2 .ensures) (c .before .before .before .before .before .before .before .before .before .before .before .before .before .before .before .before .before .before .before .before .before .before .put-number3 .ensures) (c .before .before .before .before .before .before .before .before .before .before .before .before .before .before .before .before .before .before .put-number4 .ensures) (c .before .before .before .before .before .before .before .before .before .before .before .before .before .before .put-number5 .ensures) (c .before .before .before .before .before .before .before .before .before .before .put-number6 .ensures) (c .before .before .before .before .before .before .put-number7 .ensures) (c .before .before .put-number8 .ensures)
+
+pub write-head-spec : {M : Type 1} → statement M
+write-head-spec =
+    tie.close
+    (tie.spec
+    put-number-requires
+    put-number-requires-2
+    put-number-requires-3
+    put-number-requires-4
+    put-number-requires-5
+    put-number-requires-6
+    put-number-requires-7
+    put-number-requires-8
+    same-length
+    returns)

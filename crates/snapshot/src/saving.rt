@@ -1,0 +1,102 @@
+// Settings and the ledger's records into a target buffer.
+use crate::place_records;
+use ledger::bytes::copy;
+use ledger::bytes::count_at;
+use ledger::bytes::write_number;
+use settings::Checked;
+use settings::Settings;
+ghost use mathlib.Core.Path.{_≡_};
+ghost use mathlib.Core.Bool.{true};
+ghost use Prim.Native.Nat.{_+_, _*_, _≤_, _<_};
+ghost use lib.ListN.{length};
+ghost use Rattle.theory.specs.Lists.{flat};
+ghost use Rattle.theory.specs.Settings.{allowed, card-of, record-size, ledger-length, work-length};
+ghost use Rattle.theory.specs.Records.{to-bytes, count-of};
+ghost use Rattle.theory.specs.Calls.{ledger-records};
+ghost use Rattle.theory.specs.Snapshot as plain;
+ghost use Rattle.theory.specs.Snapshot.{Saved, snapshot};
+ghost use Rattle.theory.proofs.SnapshotLaws.{head};
+ghost use Rattle.settings.specs.Checked.{paper};
+ghost use Rattle.ledger.specs.Edits.{ValidLedger};
+ghost use Rattle.placing.specs.Ready.{Ready};
+ghost use Rattle.snapshot.specs.Files.{put-at};
+
+fn put_number(to: &mut [u8], at: usize, n: usize)
+    requires { ⌜ (at + 2 ≤ length (now to)) × (n < 65536) ⌝ }
+    ensures { λ _. ⌜ now (to .exit) ≡ put-at at n (now (to .entry)) ⌝ }
+{
+    write_number(&mut to[at..], n);
+}
+
+// "6 settings of two bytes in the order above", after their count; then the count of the records.
+fn write_head(s: Settings, to: &mut [u8], n: usize)
+    requires { ⌜ (allowed (paper s) ≡ true) × (length (now to) ≡ 16) × (n < 65536) ⌝ }
+    ensures { λ _. ⌜ now (to .exit) ≡ flat (to-bytes 2) (head (paper s) n) ⌝ }
+{
+    put_number(&mut to[..], 0, crate::SETTINGS);
+    put_number(&mut to[..], 2, s.p);
+    put_number(&mut to[..], 4, s.k);
+    put_number(&mut to[..], 6, s.room);
+    put_number(&mut to[..], 8, s.top);
+    put_number(&mut to[..], 10, s.capacity);
+    put_number(&mut to[..], 12, s.side_places);
+    put_number(&mut to[..], 14, n);
+}
+
+// The snapshot of the n records of a ledger.
+fn write_snapshot(s: Settings, target: &mut [u8], ledger: &[u8], n: usize)
+    requires { ⌜ ValidLedger s (now ledger) × (n ≡ count-of (now ledger)) × (length (now target) ≡ 16 + record-size (card-of (paper s)) * n) ⌝ }
+    ensures { λ _. ⌜ now (target .exit) ≡ snapshot (paper s) (ledger-records (card-of (paper s)) (now (ledger .entry))) ⌝ }
+{
+    write_head(s, &mut target[..crate::HEAD], n);
+    let end = 2 + s.record_size() * n;
+    copy(&mut target[crate::HEAD..], &ledger[2..end]);
+}
+
+// On allowed settings and areas of their lengths: 4, 9, 12; else the snapshot is written.
+fn save_lent(s: Settings, t: &[u64], ledger: &[u8], work: &mut [u16], target: &mut [u8]) -> u32
+    requires { ⌜ Ready s (now t) × (length (now work) ≡ work-length (card-of (paper s))) × (length (now ledger) ≡ ledger-length (card-of (paper s))) ⌝ }
+    ensures { λ r. ⌜ _≡_ {A = Saved} (record { number = r; target = now (target .exit) })
+        (plain.save (paper s) (now (ledger .entry)) (length (now (work .entry))) (now (target .entry))) ⌝ }
+{
+    if !ledger::valid(s, ledger) {
+        return 4;
+    }
+    let n = count_at(ledger);
+    let m = s.buckets();
+    let need = place_records(s, t, m, &mut work[..], &ledger[2..], n);
+    if s.side_places < need {
+        return 9;
+    }
+    if target.len() != crate::HEAD + s.record_size() * n {
+        return 12;
+    }
+    write_snapshot(s, &mut target[..], ledger, n);
+    0
+}
+
+// 1, 2, then the call. The table of the hash is made once.
+pub fn save(
+    p: u64,
+    k: u64,
+    room: u64,
+    top: u64,
+    capacity: u64,
+    side_places: u64,
+    ledger: &[u8],
+    work: &mut [u16],
+    target: &mut [u8],
+) -> u32
+    ensures { λ r. ⌜ _≡_ {A = Saved} (record { number = r; target = now (target .exit) })
+        (plain.save (record { p = p; k = k; room = room; top = top; capacity = capacity; side-places = «side_places» }) (now (ledger .entry)) (length (now (work .entry))) (now (target .entry))) ⌝ }
+{
+    let checked = Settings::new(p, k, room, top, capacity, side_places);
+    let Checked::Allowed(s) = checked else {
+        return 1;
+    };
+    if !((work.len() == s.work_length()) & (ledger.len() == s.ledger_length())) {
+        return 2;
+    }
+    let table = hash::table();
+    save_lent(s, &table[..], ledger, &mut work[..], &mut target[..])
+}
