@@ -1,2 +1,4 @@
 pub mod PartLaws
 pub mod SaveLaws
+pub mod FileLaws
+pub mod LoadLaws

@@ -1,9 +1,36 @@
 -- What save and load share with a file as the code reads and writes it. Assumes nothing.
+use mathlib.Core.Bool.{Bool, cond, not, _||_}
 use mathlib.Core.List.{List, _++_}
-use Prim.Native.Nat.{ℕ, _+_}
-use lib.ListN.{take, drop}
-use Rattle.theory.specs.Records.{to-bytes}
+use Prim.Native.Nat.{ℕ, _+_, _*_}
+use lib.Dec.{ltb, eqb}
+use lib.ListN.{length, take, drop}
+use Rattle.theory.specs.Settings as plain
+use Rattle.theory.specs.Settings.{card-of, record-size}
+use Rattle.theory.specs.Records.{Record, to-bytes, count-of, records, rising}
+use Rattle.theory.specs.Layout.{Areas}
+use Rattle.theory.specs.Snapshot as snapshots
+use Rattle.theory.specs.Snapshot.{file-count}
+use Rattle.settings.specs.Checked.{paper}
+use Rattle.snapshot.specs.declared.loading.Loaded.{Loaded}
 
 -- a number in the two bytes from a place on
 abbrev pub put-at : ℕ → ℕ → List ℕ → List ℕ
 put-at at n l = take at l ++ (to-bytes 2 n ++ drop (at + 2) l)
+
+-- what loading answers, with the areas after it
+abbrev pub loaded-of : Loaded → Areas → snapshots.Loaded
+loaded-of r a = record { number = r .number; settings = paper (r .settings); areas = a }
+
+-- 12: no allowed first count, its settings and the second count
+unfoldable pub head-wrong : List ℕ → Bool
+head-wrong f = ltb (length f) 16 || not (eqb (count-of f) 6)
+
+-- the records of a file under settings
+abbrev pub listed : plain.Settings → List ℕ → List Record
+listed t f = records (card-of t .width) (file-count f) (drop 16 f)
+
+-- 8, 12, 13, or 0
+unfoldable pub by-file : plain.Settings → List ℕ → ℕ
+by-file t f =
+    cond (ltb (t .capacity) (file-count f)) 8
+    (cond (not (eqb (length f) (16 + record-size (card-of t) * file-count f))) 12 (cond (not (rising (listed t f))) 13 0))

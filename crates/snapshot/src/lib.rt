@@ -10,6 +10,8 @@ ghost use Rattle.settings.specs.Checked.{paper};
 ghost use Rattle.placing.specs.Ready.{Ready};
 ghost use Rattle.placing.specs.Worked.{Worked};
 
+pub mod loading; // loading.rt: a file into every area
+pub mod reading; // reading.rt: what a file says, and the refusals that it alone decides
 pub mod saving; // saving.rt: settings and ledger into a file
 
 // "two sections, each after its two-byte count": the first count, and the bytes before the first record.

@@ -1,0 +1,118 @@
+-- `snapshot::loading::load` meets its contract: 12, 1, 2, then the call with a table made once. Assumes nothing.
+use mathlib.Core.Path.{sym, ap, _∙_}
+use mathlib.Core.Bool.{Bool, _&&_}
+use borrow.Author.Tests.{eqb-true, not-true, not-false}
+use lib.Dec.{eqb}
+use lib.ListN.{length}
+use Rattle.theory.specs.Settings.{card-of}
+use Rattle.theory.specs.Snapshot.{file-settings}
+use Rattle.theory.proofs.ListLaws.{and-left, and-right}
+use Rattle.settings.specs.Checked.{paper}
+use Rattle.settings.proofs.Laws.{allowed-arm, refused-arm, allowed-settings}
+use Rattle.settings.proofs.LengthLaws.{sized-by}
+use Rattle.placing.proofs.ReadyLaws.{ready}
+use Rattle.snapshot.proofs.FileLaws.{head-long}
+use Rattle.snapshot.proofs.LoadLaws.{loads-12, loads-1, loads-2}
+use borrow.Author.Needs.{needs}
+use Rattle.snapshot.proofs.loading.load.Statement.{statement}
+use Rattle.snapshot.proofs.loading.load.Tie as tie
+
+head-wrong-requires : tie.Need-head-wrong-requires
+head-wrong-requires c κs = search needs
+
+not-loaded-requires : tie.Need-not-loaded-requires
+not-loaded-requires c κs = search needs
+
+returns : tie.Need-returns
+returns c = (c .not-loaded .ensures (record { ledger = c .before .before .before .before .before .before .before .before .before .before .args .ledger .now; true-counts = c .before .before .before .before .before .before .before .before .before .before .args .true-counts .now; clipped-counts = c .before .before .before .before .before .before .before .before .before .before .args .clipped .now; buckets = c .before .before .before .before .before .before .before .before .before .before .args .buckets .now; side-store = c .before .before .before .before .before .before .before .before .before .before .args .side .now })) ∙ loads-12 (c .before .before .before .before .before .before .before .before .before .before .args .file .now) (length (c .before .before .before .before .before .before .before .before .before .before .args .work .now)) (record { ledger = c .before .before .before .before .before .before .before .before .before .before .args .ledger .now; true-counts = c .before .before .before .before .before .before .before .before .before .before .args .true-counts .now; clipped-counts = c .before .before .before .before .before .before .before .before .before .before .args .clipped .now; buckets = c .before .before .before .before .before .before .before .before .before .before .args .buckets .now; side-store = c .before .before .before .before .before .before .before .before .before .before .args .side .now }) (sym (c .before .before .head-wrong .ensures) ∙ (c .before .if1 .taken))
+
+read-settings-requires : tie.Need-read-settings-requires
+read-settings-requires c κs = head-long (c .before .before .before .before .before .before .before .before .before .args .file .now) (sym (c .before .head-wrong .ensures) ∙ (c .if1 .left))
+
+enum-known-checked : tie.Need-enum-known-checked
+enum-known-checked c = search needs
+
+enum-told : tie.Need-enum-told
+enum-told c = search needs
+
+not-loaded-requires-2 : tie.Need-not-loaded-requires-2
+not-loaded-requires-2 c κs = search needs
+
+returns-2 : tie.Need-returns-2
+returns-2 c = (c .not-loaded2 .ensures (record { ledger = c .before .before .before .before .before .before .before .before .before .before .before .before .before .args .ledger .now; true-counts = c .before .before .before .before .before .before .before .before .before .before .before .before .before .args .true-counts .now; clipped-counts = c .before .before .before .before .before .before .before .before .before .before .before .before .before .args .clipped .now; buckets = c .before .before .before .before .before .before .before .before .before .before .before .before .before .args .buckets .now; side-store = c .before .before .before .before .before .before .before .before .before .before .before .before .before .args .side .now })) ∙ loads-1 (c .before .before .before .before .before .before .before .before .before .before .before .before .before .args .file .now) (length (c .before .before .before .before .before .before .before .before .before .before .before .before .before .args .work .now)) (record { ledger = c .before .before .before .before .before .before .before .before .before .before .before .before .before .args .ledger .now; true-counts = c .before .before .before .before .before .before .before .before .before .before .before .before .before .args .true-counts .now; clipped-counts = c .before .before .before .before .before .before .before .before .before .before .before .before .before .args .clipped .now; buckets = c .before .before .before .before .before .before .before .before .before .before .before .before .before .args .buckets .now; side-store = c .before .before .before .before .before .before .before .before .before .before .before .before .before .args .side .now }) (sym (c .before .before .before .before .before .head-wrong .ensures) ∙ (c .before .before .before .before .if1 .left)) (refused-arm (file-settings (c .before .before .before .before .before .before .before .before .before .before .before .before .before .args .file .now)) (c .before .before .before .read-settings .result) (c .before .before .before .read-settings .ensures) (c .before .enum-told .given .1))
+
+work-length-requires : tie.Need-work-length-requires
+work-length-requires c κs = allowed-settings (file-settings (c .before .before .before .before .before .before .before .before .before .before .before .before .before .args .file .now)) (c .before .before .before .read-settings .result) (c .before .before .before .read-settings .ensures) (c .before .checked .given .0 .0) (c .before .checked .given .1)
+
+lengths-right-requires : tie.Need-lengths-right-requires
+lengths-right-requires c κs = allowed-settings (file-settings (c .before .before .before .before .before .before .before .before .before .before .before .before .before .before .args .file .now)) (c .before .before .before .before .read-settings .result) (c .before .before .before .before .read-settings .ensures) (c .before .before .checked .given .0 .0) (c .before .before .checked .given .1)
+
+not-loaded-requires-3 : tie.Need-not-loaded-requires-3
+not-loaded-requires-3 c κs = search needs
+
+returns-3 : tie.Need-returns-3
+returns-3 c = let arm = allowed-arm (file-settings (c .before .before .before .before .before .before .before .before .before .before .before .before .before .before .before .before .before .args .file .now)) (c .before .before .before .before .before .before .before .read-settings .result) (c .before .before .before .before .before .before .before .read-settings .ensures) (c .before .before .before .before .before .checked .given .0 .0) (c .before .before .before .before .before .checked .given .1) in (c .not-loaded3 .ensures (record { ledger = c .before .before .before .before .before .before .before .before .before .before .before .before .before .before .before .before .before .args .ledger .now; true-counts = c .before .before .before .before .before .before .before .before .before .before .before .before .before .before .before .before .before .args .true-counts .now; clipped-counts = c .before .before .before .before .before .before .before .before .before .before .before .before .before .before .before .before .before .args .clipped .now; buckets = c .before .before .before .before .before .before .before .before .before .before .before .before .before .before .before .before .before .args .buckets .now; side-store = c .before .before .before .before .before .before .before .before .before .before .before .before .before .before .before .before .before .args .side .now })) ∙ loads-2 (c .before .before .before .before .before .before .before .before .before .before .before .before .before .before .before .before .before .args .file .now) (length (c .before .before .before .before .before .before .before .before .before .before .before .before .before .before .before .before .before .args .work .now)) (record { ledger = c .before .before .before .before .before .before .before .before .before .before .before .before .before .before .before .before .before .args .ledger .now; true-counts = c .before .before .before .before .before .before .before .before .before .before .before .before .before .before .before .before .before .args .true-counts .now; clipped-counts = c .before .before .before .before .before .before .before .before .before .before .before .before .before .before .before .before .before .args .clipped .now; buckets = c .before .before .before .before .before .before .before .before .before .before .before .before .before .before .before .before .before .args .buckets .now; side-store = c .before .before .before .before .before .before .before .before .before .before .before .before .before .before .before .before .before .args .side .now }) (sym (c .before .before .before .before .before .before .before .before .before .head-wrong .ensures) ∙ (c .before .before .before .before .before .before .before .before .if1 .left)) (arm .0) (c .before .before .before .before .before .checked .given .0 .0) (arm .1) (c .before .before .before .work-length .result) (c .before .before .before .work-length .ensures) (ap (λ (b : Bool). (eqb (length (c .before .before .before .before .before .before .before .before .before .before .before .before .before .before .before .before .before .args .work .now)) (c .before .before .before .work-length .result)) && b) (sym (c .before .before .lengths-right .ensures)) ∙ not-true _ (c .before .if2 .taken))
+
+table-requires : tie.Need-table-requires
+table-requires c κs = search needs
+
+slice-aggregate-load-lent : tie.Need-slice-aggregate-load-lent
+slice-aggregate-load-lent c = search needs
+
+load-lent-requires : tie.Need-load-lent-requires
+load-lent-requires c κs = let arm = allowed-arm (file-settings (c .before .before .before .before .before .before .before .before .before .before .before .before .before .before .before .before .before .before .before .before .before .before .before .before .args .file .now)) (c .before .before .before .before .before .before .before .before .before .before .before .before .before .before .read-settings .result) (c .before .before .before .before .before .before .before .before .before .before .before .before .before .before .read-settings .ensures) (c .before .before .before .before .before .before .before .before .before .before .before .before .checked .given .0 .0) (c .before .before .before .before .before .before .before .before .before .before .before .before .checked .given .1) in
+    let v = (ap (λ (b : Bool). (eqb (length (c .before .before .before .before .before .before .before .before .before .before .before .before .before .before .before .before .before .before .before .before .before .before .before .before .args .work .now)) (c .before .before .before .before .before .before .before .before .before .before .work-length .result)) && b) (sym (c .before .before .before .before .before .before .before .before .before .lengths-right .ensures)) ∙ not-false _ (c .before .before .before .before .before .before .before .before .if2 .left)) in (
+      ready (c .before .before .before .before .before .before .before .before .before .before .before .before .checked .given .0 .0) (allowed-settings (file-settings (c .before .before .before .before .before .before .before .before .before .before .before .before .before .before .before .before .before .before .before .before .before .before .before .before .args .file .now)) (c .before .before .before .before .before .before .before .before .before .before .before .before .before .before .read-settings .result) (c .before .before .before .before .before .before .before .before .before .before .before .before .before .before .read-settings .ensures) (c .before .before .before .before .before .before .before .before .before .before .before .before .checked .given .0 .0) (c .before .before .before .before .before .before .before .before .before .before .before .before .checked .given .1)) (c .before .before .before .before .before .before .before .table .result) (c .before .before .before .before .before .before .before .table .ensures) (search needs),
+      (sym (c .before .before .before .before .before .before .before .before .before .before .before .before .before .before .before .before .head-wrong .ensures) ∙ (c .before .before .before .before .before .before .before .before .before .before .before .before .before .before .before .if1 .left)),
+      arm .1,
+      eqb-true _ _ (and-left (eqb (length (c .before .before .before .before .before .before .before .before .before .before .before .before .before .before .before .before .before .before .before .before .before .before .before .before .args .work .now)) (c .before .before .before .before .before .before .before .before .before .before .work-length .result)) _ v) ∙ c .before .before .before .before .before .before .before .before .before .before .work-length .ensures,
+      sized-by (card-of (paper (c .before .before .before .before .before .before .before .before .before .before .before .before .checked .given .0 .0))) (record { ledger = c .before .before .before .before .before .before .before .before .before .before .before .before .before .before .before .before .before .before .before .before .before .before .before .before .args .ledger .now; true-counts = c .before .before .before .before .before .before .before .before .before .before .before .before .before .before .before .before .before .before .before .before .before .before .before .before .args .true-counts .now; clipped-counts = c .before .before .before .before .before .before .before .before .before .before .before .before .before .before .before .before .before .before .before .before .before .before .before .before .args .clipped .now; buckets = c .before .before .before .before .before .before .before .before .before .before .before .before .before .before .before .before .before .before .before .before .before .before .before .before .args .buckets .now; side-store = c .before .before .before .before .before .before .before .before .before .before .before .before .before .before .before .before .before .before .before .before .before .before .before .before .args .side .now }) (and-right (eqb (length (c .before .before .before .before .before .before .before .before .before .before .before .before .before .before .before .before .before .before .before .before .before .before .before .before .args .work .now)) (c .before .before .before .before .before .before .before .before .before .before .work-length .result)) _ v),
+    )
+
+same-length : tie.Need-same-length
+same-length c = search needs
+
+same-length-2 : tie.Need-same-length-2
+same-length-2 c = search needs
+
+same-length-3 : tie.Need-same-length-3
+same-length-3 c = search needs
+
+same-length-4 : tie.Need-same-length-4
+same-length-4 c = search needs
+
+same-length-5 : tie.Need-same-length-5
+same-length-5 c = search needs
+
+same-length-6 : tie.Need-same-length-6
+same-length-6 c = search needs
+
+returns-4 : tie.Need-returns-4
+returns-4 c = search needs
+
+pub load-spec : {M : Type 1} → statement M
+load-spec =
+    tie.close
+    (tie.spec
+    head-wrong-requires
+    not-loaded-requires
+    returns
+    read-settings-requires
+    enum-known-checked
+    enum-told
+    not-loaded-requires-2
+    returns-2
+    work-length-requires
+    lengths-right-requires
+    not-loaded-requires-3
+    returns-3
+    table-requires
+    slice-aggregate-load-lent
+    load-lent-requires
+    same-length
+    same-length-2
+    same-length-3
+    same-length-4
+    same-length-5
+    same-length-6
+    returns-4)

@@ -1,0 +1,71 @@
+-- `snapshot::loading::write_ledger` meets its contract: the count, the records, zeros. Assumes nothing.
+use native.Mathlib.Omega.{arith}
+use Rattle.theory.specs.Settings.{card-of}
+use Rattle.theory.proofs.SettingsLaws.{sound}
+use Rattle.settings.specs.Checked.{paper}
+use Rattle.ledger.proofs.KeyLaws.{bytes-of}
+use Rattle.snapshot.proofs.LoadLaws.{ends-within, copy-end, copy-room, zeros-start, ledger-written}
+use borrow.Author.Needs.{needs}
+use Rattle.snapshot.proofs.loading.write_ledger.Statement.{statement}
+use Rattle.snapshot.proofs.loading.write_ledger.Tie as tie
+
+record-size-requires : tie.Need-record-size-requires
+record-size-requires c κs = search needs
+
+mul-end : tie.Need-mul-end
+mul-end c = omega (arith, ends-within (card-of (paper (c .before .before .before .args .s))) (c .before .before .before .args .area .now) (c .before .before .before .args .n) (c .before .before .before .pre .2) (c .before .before .before .pre .3) (c .before .before .before .args .ledger .now) (c .before .before .before .pre .1) (c .record-size .result) (c .record-size .ensures))
+
+add-end : tie.Need-add-end
+add-end c = omega (arith, ends-within (card-of (paper (c .before .before .before .args .s))) (c .before .before .before .args .area .now) (c .before .before .before .args .n) (c .before .before .before .pre .2) (c .before .before .before .pre .3) (c .before .before .before .args .ledger .now) (c .before .before .before .pre .1) (c .record-size .result) (c .record-size .ensures))
+
+write-number-requires : tie.Need-write-number-requires
+write-number-requires c κs = (omega (arith, ends-within (card-of (paper (c .before .before .before .before .args .s))) (c .before .before .before .before .args .area .now) (c .before .before .before .before .args .n) (c .before .before .before .before .pre .2) (c .before .before .before .before .pre .3) (c .before .before .before .before .args .ledger .now) (c .before .before .before .before .pre .1) (c .before .record-size .result) (c .before .record-size .ensures)), omega (arith, c .before .before .before .before .pre .2, sound (paper (c .before .before .before .before .args .s)) (c .before .before .before .before .pre .0) .capacity-small))
+
+sub-copy : tie.Need-sub-copy
+sub-copy c = search needs
+
+part-copy-start : tie.Need-part-copy-start
+part-copy-start c = search needs
+
+part-copy-end : tie.Need-part-copy-end
+part-copy-end c = copy-end (card-of (paper (c .before .before .before .before .before .before .before .args .s))) (c .before .before .before .before .before .before .before .args .area .now) (c .before .before .before .before .before .before .before .args .n) (c .before .before .before .before .before .before .before .pre .2) (c .before .before .before .before .before .before .before .pre .3) (c .before .before .before .before .before .before .before .args .ledger .now) (c .before .before .before .before .before .before .before .pre .1) (c .before .before .before .before .record-size .result) (c .before .before .before .before .record-size .ensures) (c .before .before .write-number .last .0) (c .before .before .write-number .ensures)
+
+copy-requires : tie.Need-copy-requires
+copy-requires c κs = copy-room (card-of (paper (c .before .before .before .before .before .before .before .before .args .s))) (c .before .before .before .before .before .before .before .before .args .area .now) (c .before .before .before .before .before .before .before .before .args .n) (c .before .before .before .before .before .before .before .before .pre .2) (c .before .before .before .before .before .before .before .before .pre .3) (c .before .before .before .before .before .before .before .before .args .ledger .now) (c .before .before .before .before .before .before .before .before .pre .1) (c .before .before .before .before .before .record-size .result) (c .before .before .before .before .before .record-size .ensures) (c .before .before .before .write-number .last .0) (c .before .before .before .write-number .ensures)
+
+sub-zero-fill : tie.Need-sub-zero-fill
+sub-zero-fill c = zeros-start (card-of (paper (c .before .before .before .before .before .before .before .before .before .before .before .args .s))) (c .before .before .before .before .before .before .before .before .before .before .before .args .area .now) (c .before .before .before .before .before .before .before .before .before .before .before .args .n) (c .before .before .before .before .before .before .before .before .before .before .before .pre .2) (c .before .before .before .before .before .before .before .before .before .before .before .pre .3) (c .before .before .before .before .before .before .before .before .before .before .before .args .ledger .now) (c .before .before .before .before .before .before .before .before .before .before .before .pre .1) (c .before .before .before .before .before .before .before .before .record-size .result) (c .before .before .before .before .before .before .before .before .record-size .ensures) (c .before .before .before .before .before .before .write-number .last .0) (c .before .before .before .before .before .before .write-number .ensures) (c .before .before .copy .last .0) (c .before .before .copy .ensures)
+
+part-zero-fill-start : tie.Need-part-zero-fill-start
+part-zero-fill-start c = zeros-start (card-of (paper (c .before .before .before .before .before .before .before .before .before .before .before .args .s))) (c .before .before .before .before .before .before .before .before .before .before .before .args .area .now) (c .before .before .before .before .before .before .before .before .before .before .before .args .n) (c .before .before .before .before .before .before .before .before .before .before .before .pre .2) (c .before .before .before .before .before .before .before .before .before .before .before .pre .3) (c .before .before .before .before .before .before .before .before .before .before .before .args .ledger .now) (c .before .before .before .before .before .before .before .before .before .before .before .pre .1) (c .before .before .before .before .before .before .before .before .record-size .result) (c .before .before .before .before .before .before .before .before .record-size .ensures) (c .before .before .before .before .before .before .write-number .last .0) (c .before .before .before .before .before .before .write-number .ensures) (c .before .before .copy .last .0) (c .before .before .copy .ensures)
+
+part-zero-fill-end : tie.Need-part-zero-fill-end
+part-zero-fill-end c = search needs
+
+zero-fill-requires : tie.Need-zero-fill-requires
+zero-fill-requires c κs = search needs
+
+same-length : tie.Need-same-length
+same-length c = search needs
+
+returns : tie.Need-returns
+returns c = ledger-written (card-of (paper (c .before .before .before .before .before .before .before .before .before .before .before .before .before .before .before .args .s))) (c .before .before .before .before .before .before .before .before .before .before .before .before .before .before .before .args .area .now) (c .before .before .before .before .before .before .before .before .before .before .before .before .before .before .before .args .n) (c .before .before .before .before .before .before .before .before .before .before .before .before .before .before .before .pre .2) (c .before .before .before .before .before .before .before .before .before .before .before .before .before .before .before .pre .3) (c .before .before .before .before .before .before .before .before .before .before .before .before .before .before .before .args .ledger .now) (c .before .before .before .before .before .before .before .before .before .before .before .before .before .before .before .pre .1) (c .before .before .before .before .before .before .before .before .before .before .before .before .record-size .result) (c .before .before .before .before .before .before .before .before .before .before .before .before .record-size .ensures) (c .before .before .before .before .before .before .before .before .before .before .write-number .last .0) (c .before .before .before .before .before .before .before .before .before .before .write-number .ensures) (c .before .before .before .before .before .before .copy .last .0) (c .before .before .before .before .before .before .copy .ensures) (bytes-of (c .before .before .before .before .before .before .before .before .before .before .before .before .before .before .before .args .area .now) (c .before .before .before .before .before .before .before .before .before .before .before .before .before .shared-slice-known .given)) (c .before .before .zero-fill .last .0) (c .before .before .zero-fill .ensures)
+
+pub write-ledger-spec : {M : Type 1} → statement M
+write-ledger-spec =
+    tie.close
+    (tie.spec
+    record-size-requires
+    mul-end
+    add-end
+    write-number-requires
+    sub-copy
+    part-copy-start
+    part-copy-end
+    copy-requires
+    sub-zero-fill
+    part-zero-fill-start
+    part-zero-fill-end
+    zero-fill-requires
+    same-length
+    returns)

@@ -1,0 +1,43 @@
+-- `snapshot::reading::read_settings` meets its contract, field by field. Assumes nothing.
+use mathlib.Core.Path.{_∙_}
+use Rattle.snapshot.proofs.FileLaws.{settings-read}
+use borrow.Author.Needs.{needs}
+use Rattle.snapshot.proofs.reading.read_settings.Statement.{statement}
+use Rattle.snapshot.proofs.reading.read_settings.Tie as tie
+
+setting-requires : tie.Need-setting-requires
+setting-requires c κs = search needs
+
+setting-requires-2 : tie.Need-setting-requires-2
+setting-requires-2 c κs = search needs
+
+setting-requires-3 : tie.Need-setting-requires-3
+setting-requires-3 c κs = search needs
+
+setting-requires-4 : tie.Need-setting-requires-4
+setting-requires-4 c κs = search needs
+
+setting-requires-5 : tie.Need-setting-requires-5
+setting-requires-5 c κs = search needs
+
+setting-requires-6 : tie.Need-setting-requires-6
+setting-requires-6 c κs = search needs
+
+new-requires : tie.Need-new-requires
+new-requires c κs = search needs
+
+returns : tie.Need-returns
+returns c = (c .new .ensures) ∙ settings-read (c .before .before .before .before .before .before .before .before .args .file .now) (c .before .before .before .before .before .before .setting .result) (c .before .before .before .before .before .setting2 .result) (c .before .before .before .before .setting3 .result) (c .before .before .before .setting4 .result) (c .before .before .setting5 .result) (c .before .setting6 .result) (c .before .before .before .before .before .before .setting .ensures) (c .before .before .before .before .before .setting2 .ensures) (c .before .before .before .before .setting3 .ensures) (c .before .before .before .setting4 .ensures) (c .before .before .setting5 .ensures) (c .before .setting6 .ensures)
+
+pub read-settings-spec : {M : Type 1} → statement M
+read-settings-spec =
+    tie.close
+    (tie.spec
+    setting-requires
+    setting-requires-2
+    setting-requires-3
+    setting-requires-4
+    setting-requires-5
+    setting-requires-6
+    new-requires
+    returns)

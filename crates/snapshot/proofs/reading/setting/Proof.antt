@@ -1,0 +1,40 @@
+-- `snapshot::reading::setting` meets its contract: two bytes of a part that runs to the end. Assumes nothing.
+use native.Mathlib.Omega.{arith}
+use Prim.Native.Nat.{_+_, _*_}
+use Rattle.snapshot.proofs.FileLaws.{number-lent}
+use borrow.Author.Needs.{needs}
+use Rattle.snapshot.proofs.reading.setting.Statement.{statement}
+use Rattle.snapshot.proofs.reading.setting.Tie as tie
+
+mul-at : tie.Need-mul-at
+mul-at c = search needs
+
+add-at : tie.Need-add-at
+add-at c = search needs
+
+sub-count-at : tie.Need-sub-count-at
+sub-count-at c = search needs
+
+part-count-at-start : tie.Need-part-count-at-start
+part-count-at-start c = search needs
+
+part-count-at-end : tie.Need-part-count-at-end
+part-count-at-end c = search needs
+
+count-at-requires : tie.Need-count-at-requires
+count-at-requires c κs = search needs
+
+returns : tie.Need-returns
+returns c = number-lent (c .before .before .before .args .file .now) (2 + 2 * (c .before .before .before .args .i)) (omega (arith, c .before .before .before .pre .0, c .before .before .before .pre .1)) (c .count-at .result) (c .count-at .ensures .0)
+
+pub setting-spec : {M : Type 1} → statement M
+setting-spec =
+    tie.close
+    (tie.spec
+    mul-at
+    add-at
+    sub-count-at
+    part-count-at-start
+    part-count-at-end
+    count-at-requires
+    returns)

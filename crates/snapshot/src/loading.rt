@@ -1,0 +1,195 @@
+// A file into every area: its settings are handed back, its list's layout is written.
+use crate::place_records;
+use crate::reading::head_wrong;
+use crate::reading::read_settings;
+use crate::reading::refusal_by_file;
+use ledger::bytes::copy;
+use ledger::bytes::count_at;
+use ledger::bytes::write_number;
+use ledger::bytes::zero_fill;
+use settings::Checked;
+use settings::Settings;
+use settings::lengths::Lengths;
+use settings::lengths::lengths_right;
+ghost use mathlib.Core.Path.{_≡_};
+ghost use mathlib.Core.Bool.{true, false};
+ghost use Prim.Native.Nat.{_+_, _*_, _≤_};
+ghost use lib.ListN.{length};
+ghost use Rattle.theory.specs.Settings.{allowed, card-of, record-size, ledger-length, work-length};
+ghost use Rattle.theory.specs.Records.{records};
+ghost use Rattle.theory.specs.Ledger.{side-need-of};
+ghost use Rattle.theory.specs.Layout.{Areas, counted-places, layout};
+ghost use Rattle.theory.specs.Snapshot as plain;
+ghost use Rattle.theory.specs.Snapshot.{file-settings, not-loaded};
+ghost use Rattle.theory.proofs.CallLaws.{Sized};
+ghost use Rattle.settings.specs.Checked.{paper};
+ghost use Rattle.placing.specs.Ready.{Ready};
+ghost use Rattle.placing.specs.Worked.{Worked};
+ghost use Rattle.snapshot.specs.Files.{loaded-of, head-wrong};
+
+// The answer, and the settings handed back: zeros when refused.
+pub struct Loaded {
+    pub number: u32,
+    pub settings: Settings,
+}
+
+fn not_loaded(number: u32) -> Loaded
+    ensures { λ r. ⌜ ((a : Areas) → loaded-of r a ≡ not-loaded number a) ⌝ }
+{
+    Loaded {
+        number,
+        settings: Settings {
+            p: 0,
+            k: 0,
+            room: 0,
+            top: 0,
+            capacity: 0,
+            side_places: 0,
+        },
+    }
+}
+
+// The ledger area of n records that fill an area.
+fn write_ledger(s: Settings, ledger: &mut [u8], area: &[u8], n: usize)
+    requires { ⌜ (allowed (paper s) ≡ true) × (length (now ledger) ≡ ledger-length (card-of (paper s))) × (n ≤ card-of (paper s) .capacity)
+        × (length (now area) ≡ record-size (card-of (paper s)) * n) ⌝ }
+    ensures { λ _. ⌜ now (ledger .exit) ≡ counted-places (card-of (paper s)) (card-of (paper s) .capacity) (records (card-of (paper s) .width) n (now (area .entry))) ⌝ }
+{
+    let end = 2 + s.record_size() * n;
+    write_number(&mut ledger[..], n);
+    copy(&mut ledger[2..end], area);
+    zero_fill(&mut ledger[end..]);
+}
+
+// The layout of n records that fill an area, in every area.
+fn write_list(
+    s: Settings,
+    t: &[u64],
+    m: usize,
+    ledger: &mut [u8],
+    true_counts: &mut [u16],
+    clipped: &mut [u8],
+    buckets: &mut [u8],
+    side: &mut [u8],
+    work: &[u16],
+    area: &[u8],
+    n: usize,
+    need: usize,
+)
+    requires { ⌜ Ready s (now t) × (m ≡ card-of (paper s) .buckets) × (length (now work) ≡ m + m)
+        × (n ≤ card-of (paper s) .capacity) × (length (now area) ≡ record-size (card-of (paper s)) * n)
+        × Worked (card-of (paper s)) m (records (card-of (paper s) .width) n (now area)) (now work)
+        × (need ≡ side-need-of (card-of (paper s)) (records (card-of (paper s) .width) n (now area))) × (need ≤ card-of (paper s) .side-places)
+        × Sized (card-of (paper s)) (record { ledger = now ledger; true-counts = now «true_counts»; clipped-counts = now clipped; buckets = now buckets; side-store = now side }) ⌝ }
+    ensures { λ _. ⌜ _≡_ {A = Areas} (record { ledger = now (ledger .exit); true-counts = now («true_counts» .exit); clipped-counts = now (clipped .exit); buckets = now (buckets .exit); side-store = now (side .exit) })
+        (layout (card-of (paper s)) (records (card-of (paper s) .width) n (now (area .entry)))) ⌝ }
+{
+    write_ledger(s, &mut ledger[..], area, n);
+    writing::write_areas(
+        s,
+        t,
+        m,
+        work,
+        &mut true_counts[..],
+        &mut clipped[..],
+        &mut buckets[..],
+        &mut side[..],
+        area,
+        n,
+        need,
+    );
+}
+
+// With a file's allowed settings and areas of their lengths: 8, 12, 13, 9; else the layout is written.
+fn load_lent(
+    s: Settings,
+    t: &[u64],
+    file: &[u8],
+    ledger: &mut [u8],
+    true_counts: &mut [u16],
+    clipped: &mut [u8],
+    buckets: &mut [u8],
+    side: &mut [u8],
+    work: &mut [u16],
+) -> Loaded
+    requires { ⌜ Ready s (now t) × (head-wrong (now file) ≡ false) × (paper s ≡ file-settings (now file)) × (length (now work) ≡ work-length (card-of (paper s)))
+        × Sized (card-of (paper s)) (record { ledger = now ledger; true-counts = now «true_counts»; clipped-counts = now clipped; buckets = now buckets; side-store = now side }) ⌝ }
+    ensures { λ r. ⌜ loaded-of r (record { ledger = now (ledger .exit); true-counts = now («true_counts» .exit); clipped-counts = now (clipped .exit); buckets = now (buckets .exit); side-store = now (side .exit) })
+        ≡ plain.load (now (file .entry)) (length (now (work .entry)))
+        (record { ledger = now (ledger .entry); true-counts = now («true_counts» .entry); clipped-counts = now (clipped .entry); buckets = now (buckets .entry); side-store = now (side .entry) }) ⌝ }
+{
+    let number = refusal_by_file(s, file);
+    if number != 0 {
+        return not_loaded(number);
+    }
+    let n = count_at(&file[14..]);
+    let m = s.buckets();
+    let area = &file[crate::HEAD..];
+    let need = place_records(s, t, m, &mut work[..], area, n);
+    if s.side_places < need {
+        return not_loaded(9);
+    }
+    write_list(
+        s,
+        t,
+        m,
+        &mut ledger[..],
+        &mut true_counts[..],
+        &mut clipped[..],
+        &mut buckets[..],
+        &mut side[..],
+        work,
+        area,
+        n,
+        need,
+    );
+    Loaded {
+        number: 0,
+        settings: s,
+    }
+}
+
+// 12 for the head, 1, 2, then the call. The table of the hash is made once.
+pub fn load(
+    file: &[u8],
+    ledger: &mut [u8],
+    true_counts: &mut [u16],
+    clipped: &mut [u8],
+    buckets: &mut [u8],
+    side: &mut [u8],
+    work: &mut [u16],
+) -> Loaded
+    ensures { λ r. ⌜ loaded-of r (record { ledger = now (ledger .exit); true-counts = now («true_counts» .exit); clipped-counts = now (clipped .exit); buckets = now (buckets .exit); side-store = now (side .exit) })
+        ≡ plain.load (now (file .entry)) (length (now (work .entry)))
+        (record { ledger = now (ledger .entry); true-counts = now («true_counts» .entry); clipped-counts = now (clipped .entry); buckets = now (buckets .entry); side-store = now (side .entry) }) ⌝ }
+{
+    if head_wrong(file) {
+        return not_loaded(12);
+    }
+    let checked = read_settings(file);
+    let Checked::Allowed(s) = checked else {
+        return not_loaded(1);
+    };
+    let l = Lengths {
+        ledger: ledger.len(),
+        true_counts: true_counts.len(),
+        clipped: clipped.len(),
+        buckets: buckets.len(),
+        side: side.len(),
+    };
+    if !((work.len() == s.work_length()) & lengths_right(s, l)) {
+        return not_loaded(2);
+    }
+    let table = hash::table();
+    load_lent(
+        s,
+        &table[..],
+        file,
+        &mut ledger[..],
+        &mut true_counts[..],
+        &mut clipped[..],
+        &mut buckets[..],
+        &mut side[..],
+        &mut work[..],
+    )
+}

@@ -1,0 +1,79 @@
+// What a file says: its settings, and the refusals that it decides alone.
+use ledger::bytes::count_at;
+use ledger::keys::keys_rise;
+use settings::Checked;
+use settings::Settings;
+ghost use mathlib.Core.Path.{_≡_};
+ghost use mathlib.Core.Bool.{true, not, _&&_};
+ghost use Prim.Native.Nat.{_≤_, _<_};
+ghost use lib.ListN.{length};
+ghost use Rattle.theory.specs.Settings.{allowed};
+ghost use Rattle.theory.specs.Snapshot as plain;
+ghost use Rattle.theory.specs.Snapshot.{file-settings};
+ghost use Rattle.settings.specs.Checked.{paper, checked-of};
+ghost use Rattle.snapshot.specs.Files.{head-wrong, by-file};
+
+// Setting i of a file, from 0.
+fn setting(file: &[u8], i: usize) -> u64
+    requires { ⌜ (16 ≤ length (now file)) × (i < 6) ⌝ }
+    ensures { λ r. ⌜ r ≡ plain.setting (now (file .entry)) i ⌝ }
+{
+    let at = 2 + 2 * i;
+    count_at(&file[at..]) as u64
+}
+
+pub fn read_settings(file: &[u8]) -> Checked
+    requires { ⌜ 16 ≤ length (now file) ⌝ }
+    ensures { λ r. ⌜ r ≡ checked-of (file-settings (now (file .entry))) ⌝ }
+{
+    Settings::new(
+        setting(file, 0),
+        setting(file, 1),
+        setting(file, 2),
+        setting(file, 3),
+        setting(file, 4),
+        setting(file, 5),
+    )
+}
+
+// 12: without an allowed first count, its settings and the second count.
+pub fn head_wrong(file: &[u8]) -> bool
+    ensures { λ r. ⌜ r ≡ head-wrong (now (file .entry)) ⌝ }
+{
+    if file.len() < crate::HEAD {
+        return true;
+    }
+    count_at(file) != crate::SETTINGS
+}
+
+// Loading answers 1: for a door that is lent an area for the settings.
+pub fn settings_refused(file: &[u8]) -> bool
+    ensures { λ r. ⌜ r ≡ (not (head-wrong (now (file .entry))) && not (allowed (file-settings (now (file .entry))))) ⌝ }
+{
+    if head_wrong(file) {
+        return false;
+    }
+    let checked = read_settings(file);
+    let Checked::Allowed(_) = checked else {
+        return true;
+    };
+    false
+}
+
+// 8, 12 for a cut or overlong file, 13; else 0.
+pub fn refusal_by_file(s: Settings, file: &[u8]) -> u32
+    requires { ⌜ (allowed (paper s) ≡ true) × (16 ≤ length (now file)) ⌝ }
+    ensures { λ r. ⌜ r ≡ by-file (paper s) (now (file .entry)) ⌝ }
+{
+    let n = count_at(&file[14..]);
+    if s.capacity < n {
+        return 8;
+    }
+    if file.len() != crate::HEAD + s.record_size() * n {
+        return 12;
+    }
+    if !keys_rise(&file[crate::HEAD..], n, s.width()) {
+        return 13;
+    }
+    0
+}
