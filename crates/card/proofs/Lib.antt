@@ -1,3 +1,4 @@
 mod AreaLaws
 mod DoorLaws
 mod ReadingLaws
+pub mod SnapshotLaws

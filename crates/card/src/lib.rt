@@ -13,8 +13,9 @@ ghost use Rattle.settings.specs.Checked.{paper};
 ghost use Rattle.card.specs.Doors.{Filled, settings-check-of, lengths-of, area-lengths-of, hash-table-of, hash-of, HashedLent, first-hashes, Numbered, key-buckets-of};
 
 pub mod packets; // packets.rt: the door that reads a packet
-pub mod reading; // reading.rt: the doors that only read
-pub mod updating; // updating.rt: the doors that write
+pub mod reading; // reading.rt: the doors of search and tally
+pub mod snapshots; // snapshots.rt: the doors that save and load
+pub mod updating; // updating.rt: the doors that clear, add, change and remove
 
 // The settings' verdict: 0, or 1 when one is out of range.
 #[no_mangle]

@@ -1,7 +1,7 @@
 -- Laws of the lines of an input: after i of k calls the lines so far stand at the start of the buffer, and the rest is still to come. Assumes nothing.
-use mathlib.Core.Path.{_≡_, refl, sym, ap, subst, _∙_}
-use mathlib.Core.List.{List, [], _∷_, _++_, append-assoc, append-nil}
-use Prim.Native.Nat.{ℕ, zero, suc, _+_, _-_, _*_, _≤_, _<_, min}
+use mathlib.Core.Path.{_≡_, refl, sym, ap, _∙_}
+use mathlib.Core.List.{List, _++_, append-assoc, append-nil}
+use Prim.Native.Nat.{ℕ, suc, _+_, _-_, _*_, _≤_, _<_, min}
 use native.Mathlib.Nat.{add-zero, sub-zero, add-sub-cancel-left}
 use native.Mathlib.Omega.{arith}
 use lib.Dec.{leb}
@@ -12,7 +12,7 @@ use Rattle.theory.specs.Layout.{Areas}
 use Rattle.theory.specs.Flowrun.{Printed, print-bytes, print-lines}
 use Rattle.theory.proofs.ListLaws.{by-test}
 use Rattle.io.specs.Counts.{Counts}
-use Rattle.text.specs.Writing.{Writes, Appends}
+use Rattle.text.specs.Writing.{Writes}
 use Rattle.lines.specs.Printing.{PrintsAfter, Prints}
 
 -- the bytes of call i, of an input that may end before them

@@ -1,7 +1,6 @@
 -- Laws of flowrun's text: a number's digits, the length of a line, and lines printed in pieces. Assumes nothing.
-use mathlib.Core.Path.{_≡_, refl, sym, ap, _∙_}
-use mathlib.Core.Bool.{cond}
-use mathlib.Core.List.{List, [], _∷_, _++_, append-assoc}
+use mathlib.Core.Path.{_≡_, refl}
+use mathlib.Core.List.{List, _∷_, _++_, append-assoc}
 use Prim.Native.Nat.{ℕ, zero, suc, _+_, _*_, _/_, _%_, _^_, _≤_, _<_}
 use native.Mathlib.Nat.{add-suc, suc-add, add-zero, zero-add, pow-suc}
 use native.Mathlib.Omega.{arith}
@@ -10,8 +9,7 @@ use borrow.Author.Tests.{ltb-true, ltb-false, lt-ltb, le-ltb}
 use lib.ListN.{length, take, drop, length-append, length-drop}
 use lib.Seq.{take-append-le, drop-append-le}
 use Rattle.theory.specs.Layout.{Areas}
-use Rattle.theory.specs.Lookup.{Answer}
-use Rattle.theory.specs.Flowrun.{digits-of, decimal, Line, line-text, Printed, print-bytes, print-lines}
+use Rattle.theory.specs.Flowrun.{digits-of, decimal, Line, line-text, print-bytes, print-lines}
 use Rattle.theory.proofs.ListLaws.{by-test}
 
 -- any bound that is large enough gives the same digits

@@ -1,6 +1,6 @@
 -- Document 01, 'Program flowrun': the text that the program prints for the bytes of its input. Assumes nothing.
 use mathlib.Core.Bool.{cond, not}
-use mathlib.Core.List.{List, [], _∷_, _++_}
+use mathlib.Core.List.{List, _∷_, _++_}
 use mathlib.Core.Option.{Option, none, some}
 use Prim.Native.Nat.{ℕ, zero, suc, _+_, _/_, _%_}
 use lib.Dec.{ltb, eqb}
@@ -9,7 +9,7 @@ use Rattle.theory.specs.Records.{of-bytes}
 use Rattle.theory.specs.Settings.{Settings, card-of, work-length}
 use Rattle.theory.specs.Layout.{Areas, layout}
 use Rattle.theory.specs.Lookup.{Answer, bare}
-use Rattle.theory.specs.Ledger.{Call, clear, add, change, remove, search, fetch, tally, Reply, answered, handed, totalled, Step}
+use Rattle.theory.specs.Ledger.{Call, clear, add, change, remove, search, fetch, tally, Reply, answered, handed, totalled}
 use Rattle.theory.specs.Calls.{perform}
 
 -- "Settings 6, 3, 2, 4, 128, 8 in the order above"

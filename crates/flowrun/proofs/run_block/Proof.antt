@@ -7,12 +7,6 @@ use Rattle.theory.specs.Flowrun.{call-count}
 use borrow.Author.Needs.{needs}
 use Rattle.flowrun.proofs.run_block.Statement.{statement}
 use Rattle.flowrun.proofs.run_block.Tie as tie
-use Rattle.flowrun.proofs.run_block.Reads as reads
-use Rattle.flowrun.proofs.run_block.Lts as lts
-use Rattle.io.proofs.large_buffer.Reads as large-buffer-reads
-use Rattle.io.proofs.read_full.Reads as read-full-reads
-use Rattle.io.proofs.write_all.Reads as write-all-reads
-use Rattle.lines.proofs.run_calls.Reads as run-calls-reads
 
 -- src/main.rt:18:32
 slice-aggregate-read-full : tie.Need-slice-aggregate-read-full

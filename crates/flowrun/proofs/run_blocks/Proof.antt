@@ -6,9 +6,6 @@ use borrow.Author.Needs.{needs}
 use lib.ListN.{length}
 use Rattle.flowrun.proofs.run_blocks.Statement.{statement}
 use Rattle.flowrun.proofs.run_blocks.Tie as tie
-use Rattle.flowrun.proofs.run_blocks.Reads as reads
-use Rattle.flowrun.proofs.run_blocks.Lts as lts
-use Rattle.flowrun.proofs.run_block.Reads as run-block-reads
 
 abbrev Inv-loop : tie.InvT-loop
 Inv-loop ledger₀ true-counts₀ clipped₀ buckets₀ side₀ work₀ block₀ ledger true-counts clipped buckets side work block =

@@ -4,10 +4,6 @@ use Rattle.lines.proofs.LineLaws.{line-after}
 use borrow.Author.Needs.{needs}
 use Rattle.lines.proofs.append_line.Statement.{statement}
 use Rattle.lines.proofs.append_line.Tie as tie
-use Rattle.lines.proofs.append_line.Reads as reads
-use Rattle.lines.proofs.append_line.Lts as lts
-use Rattle.text.proofs.append_decimal.Reads as append-decimal-reads
-use Rattle.text.proofs.append_letter.Reads as append-letter-reads
 
 -- src/lib.rt:86:18
 cast-number : tie.Need-cast-number

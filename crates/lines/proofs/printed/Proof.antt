@@ -4,10 +4,6 @@ use Rattle.lines.proofs.LineLaws.{printed-other, printed-answer}
 use borrow.Author.Needs.{needs}
 use Rattle.lines.proofs.printed.Statement.{statement}
 use Rattle.lines.proofs.printed.Tie as tie
-use Rattle.lines.proofs.printed.Reads as reads
-use Rattle.lines.proofs.printed.Lts as lts
-use Rattle.lines.proofs.written.Reads as written-reads
-use Rattle.lookup.proofs.searching.bare.Reads as bare-reads
 
 -- src/lib.rt:68:25
 enum-known-reply : tie.Need-enum-known-reply

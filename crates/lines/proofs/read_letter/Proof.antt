@@ -3,8 +3,6 @@ use Rattle.theory.specs.Flowrun.{letter-call}
 use Rattle.lines.proofs.LineLaws.{no-call}
 use Rattle.lines.proofs.read_letter.Statement.{statement}
 use Rattle.lines.proofs.read_letter.Tie as tie
-use Rattle.lines.proofs.read_letter.Reads as reads
-use Rattle.lines.proofs.read_letter.Lts as lts
 
 -- src/lib.rt:39:1
 returns : tie.Need-returns

@@ -3,10 +3,6 @@ use Rattle.lines.proofs.LineLaws.{prints-after}
 use borrow.Author.Needs.{needs}
 use Rattle.lines.proofs.run_call.Statement.{statement}
 use Rattle.lines.proofs.run_call.Tie as tie
-use Rattle.lines.proofs.run_call.Reads as reads
-use Rattle.lines.proofs.run_call.Lts as lts
-use Rattle.lines.proofs.append_line.Reads as append-line-reads
-use Rattle.lines.proofs.show_call.Reads as show-call-reads
 
 -- src/lib.rt:179:9
 show-call-requires : tie.Need-show-call-requires

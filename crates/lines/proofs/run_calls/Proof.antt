@@ -1,5 +1,5 @@
 -- `lines::run_calls` meets its contract: after i calls, what `Ran` says. Assumes nothing.
-use mathlib.Core.Path.{_≡_, refl, sym, ap, _∙_}
+use mathlib.Core.Path.{_≡_, refl, ap, _∙_}
 use mathlib.Core.List.{List}
 use Prim.Native.Nat.{ℕ, _+_, _-_, _*_, _≤_}
 use native.Mathlib.Omega.{arith}
@@ -10,10 +10,6 @@ use Rattle.theory.specs.Flowrun.{call-count}
 use Rattle.lines.proofs.BlockLaws.{call-bytes, Ran, ran-start, ran-on, ran-end}
 use Rattle.lines.proofs.run_calls.Statement.{statement}
 use Rattle.lines.proofs.run_calls.Tie as tie
-use Rattle.lines.proofs.run_calls.Reads as reads
-use Rattle.lines.proofs.run_calls.Lts as lts
-use Rattle.lines.proofs.call_end.Reads as call-end-reads
-use Rattle.lines.proofs.run_call.Reads as run-call-reads
 
 abbrev areas-of : List ℕ → List ℕ → List ℕ → List ℕ → List ℕ → Areas
 areas-of ledger true-counts clipped buckets side =

@@ -5,13 +5,6 @@ use Rattle.lines.proofs.LineLaws.{shown-left-over, shown-unknown, shown
 use borrow.Author.Needs.{needs}
 use Rattle.lines.proofs.show_call.Statement.{statement}
 use Rattle.lines.proofs.show_call.Tie as tie
-use Rattle.lines.proofs.show_call.Reads as reads
-use Rattle.lines.proofs.show_call.Lts as lts
-use Rattle.calls.proofs.perform.Reads as perform-reads
-use Rattle.ledger.proofs.bytes.class_at.Reads as class-at-reads
-use Rattle.lines.proofs.printed.Reads as printed-reads
-use Rattle.lines.proofs.read_letter.Reads as read-letter-reads
-use Rattle.lines.proofs.show_unknown.Reads as show-unknown-reads
 
 -- src/lib.rt:130:9
 show-unknown-requires : tie.Need-show-unknown-requires

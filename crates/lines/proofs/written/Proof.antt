@@ -3,8 +3,6 @@ use borrow.Author.Tests.{ne-eqb}
 use Rattle.theory.specs.Flowrun as flowrun
 use Rattle.lines.proofs.written.Statement.{statement}
 use Rattle.lines.proofs.written.Tie as tie
-use Rattle.lines.proofs.written.Reads as reads
-use Rattle.lines.proofs.written.Lts as lts
 
 -- src/lib.rt:53:1
 returns : tie.Need-returns

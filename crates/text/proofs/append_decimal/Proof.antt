@@ -1,14 +1,11 @@
 -- `text::append_decimal` meets its contract: the law `append-lent`. Assumes nothing.
 use borrow.Author.Needs.{needs}
-use mathlib.Core.List.{[], _∷_, _++_}
+use mathlib.Core.List.{_∷_, _++_}
 use native.Mathlib.Omega.{arith}
 use Rattle.theory.specs.Flowrun.{decimal}
 use Rattle.text.proofs.TextLaws.{append-lent}
 use Rattle.text.proofs.append_decimal.Statement.{statement}
 use Rattle.text.proofs.append_decimal.Tie as tie
-use Rattle.text.proofs.append_decimal.Reads as reads
-use Rattle.text.proofs.append_decimal.Lts as lts
-use Rattle.text.proofs.write_decimal.Reads as write-decimal-reads
 
 -- src/lib.rt:36:24
 sub-write-decimal : tie.Need-sub-write-decimal

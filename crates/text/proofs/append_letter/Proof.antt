@@ -1,14 +1,10 @@
 -- `text::append_letter` meets its contract: the law `append-lent`. Assumes nothing.
 use borrow.Author.Needs.{needs}
-use mathlib.Core.List.{[], _∷_, _++_}
+use mathlib.Core.List.{_∷_}
 use native.Mathlib.Omega.{arith}
-use Rattle.theory.specs.Flowrun.{decimal}
 use Rattle.text.proofs.TextLaws.{append-lent}
 use Rattle.text.proofs.append_letter.Statement.{statement}
 use Rattle.text.proofs.append_letter.Tie as tie
-use Rattle.text.proofs.append_letter.Reads as reads
-use Rattle.text.proofs.append_letter.Lts as lts
-use Rattle.text.proofs.write_letter.Reads as write-letter-reads
 
 -- src/lib.rt:43:23
 sub-write-letter : tie.Need-sub-write-letter

@@ -5,10 +5,6 @@ use native.Mathlib.Omega.{arith}
 use Rattle.text.proofs.TextLaws.{few-digits, front-length, decimal-inside, decimal-written}
 use Rattle.text.proofs.write_decimal.Statement.{statement}
 use Rattle.text.proofs.write_decimal.Tie as tie
-use Rattle.text.proofs.write_decimal.Reads as reads
-use Rattle.text.proofs.write_decimal.Lts as lts
-use Rattle.io.proofs.decimal.Reads as decimal-reads
-use Rattle.ledger.proofs.bytes.copy.Reads as copy-reads
 
 -- src/lib.rt:15:9
 decimal-requires : tie.Need-decimal-requires

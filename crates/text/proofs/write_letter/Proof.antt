@@ -5,8 +5,6 @@ use native.Mathlib.Omega.{arith}
 use Rattle.text.proofs.TextLaws.{two-bytes}
 use Rattle.text.proofs.write_letter.Statement.{statement}
 use Rattle.text.proofs.write_letter.Tie as tie
-use Rattle.text.proofs.write_letter.Reads as reads
-use Rattle.text.proofs.write_letter.Lts as lts
 
 -- src/lib.rt:26:5
 slice-write-to : tie.Need-slice-write-to

@@ -1,0 +1,22 @@
+-- Laws of the door of load: what it hands back is what loading gives. Assumes nothing.
+use mathlib.Core.Path.{_≡_}
+use mathlib.Core.Bool.{cond}
+use mathlib.Core.List.{List}
+use Prim.Native.Nat.{ℕ}
+use lib.Dec.{eqb}
+use borrow.Author.Tests.{eq-eqb, ne-eqb}
+use lib.ListN.{length}
+use Rattle.theory.specs.Layout.{Areas}
+use Rattle.theory.specs.Snapshot.{settings-list, Loaded, load}
+use Rattle.card.specs.Snapshots.{load-of}
+
+module _ (file : List ℕ) (w : ℕ) (a : Areas) (settings : List ℕ) where
+  pub settings-area-wrong : (length settings ≡ 6 → ⊥) → (n : ℕ) → n ≡ cond (eqb (load file w a .number) 1) 1 2
+      → record { number = n; settings = settings; areas = a } ≡ load-of file w a settings
+  unfolding load-of
+  settings-area-wrong q n e = rw (ne-eqb (length settings) 6 q, e)
+
+  pub loaded-into : length settings ≡ 6 → (x : Loaded) → x ≡ load file w a → (after : List ℕ) → after ≡ settings-list (x .settings)
+      → record { number = x .number; settings = after; areas = x .areas } ≡ load-of file w a settings
+  unfolding load-of
+  loaded-into q x e after f = rw (eq-eqb (length settings) 6 q, f, e)

@@ -1,0 +1,96 @@
+// The doors of snapshots: save and load.
+use settings::Settings;
+ghost use mathlib.Core.Path.{_≡_};
+ghost use mathlib.Core.Bool.{cond};
+ghost use Prim.Native.Nat.{ℕ};
+ghost use lib.Dec.{eqb};
+ghost use lib.ListN.{length};
+ghost use Rattle.theory.specs.Layout.{Areas};
+ghost use Rattle.theory.specs.Snapshot.{settings-list, Saved, save, load};
+ghost use Rattle.settings.specs.Checked.{paper};
+ghost use Rattle.card.specs.Snapshots.{LoadedInto, load-of};
+
+// Saves a ledger: 1, 2, 4, 9, 12; else the target holds the snapshot.
+#[no_mangle]
+pub extern "C" fn flow_save(
+    p: u64,
+    k: u64,
+    room: u64,
+    top: u64,
+    capacity: u64,
+    side_places: u64,
+    ledger: &[u8],
+    work: &mut [u16],
+    target: &mut [u8],
+) -> u32
+    ensures { λ r. ⌜ _≡_ {A = Saved} (record { number = r; target = now (target .exit) })
+        (save (record { p = p; k = k; room = room; top = top; capacity = capacity; side-places = «side_places» }) (now (ledger .entry)) (length (now (work .entry))) (now (target .entry))) ⌝ }
+{
+    snapshot::saving::save(
+        p,
+        k,
+        room,
+        top,
+        capacity,
+        side_places,
+        ledger,
+        &mut work[..],
+        &mut target[..],
+    )
+}
+
+// 1 where loading would answer it, else 2.
+fn refuse_settings_area(file: &[u8]) -> u32
+    ensures { λ r. ⌜ ((w : ℕ) (a : Areas) → r ≡ cond (eqb (load (now (file .entry)) w a .number) 1) 1 2) ⌝ }
+{
+    if snapshot::reading::settings_refused(file) {
+        1
+    } else {
+        2
+    }
+}
+
+// The six settings in the paper's order.
+fn write_settings(s: Settings, to: &mut [u64])
+    requires { ⌜ length (now to) ≡ 6 ⌝ }
+    ensures { λ _. ⌜ now (to .exit) ≡ settings-list (paper s) ⌝ }
+{
+    to[0] = s.p as u64;
+    to[1] = s.k as u64;
+    to[2] = s.room as u64;
+    to[3] = s.top as u64;
+    to[4] = s.capacity as u64;
+    to[5] = s.side_places as u64;
+}
+
+// Loads a file: 12 for its head, 1, 2, 8, 12, 13, 9; else every area holds the layout of its list, and `settings` its settings (zeros when refused).
+#[no_mangle]
+pub extern "C" fn flow_load(
+    file: &[u8],
+    ledger: &mut [u8],
+    true_counts: &mut [u16],
+    clipped: &mut [u8],
+    buckets: &mut [u8],
+    side: &mut [u8],
+    work: &mut [u16],
+    settings: &mut [u64],
+) -> u32
+    ensures { λ r. ⌜ _≡_ {A = LoadedInto} (record { number = r; settings = now (settings .exit); areas = record { ledger = now (ledger .exit); true-counts = now («true_counts» .exit); clipped-counts = now (clipped .exit); buckets = now (buckets .exit); side-store = now (side .exit) } })
+        (load-of (now (file .entry)) (length (now (work .entry))) (record { ledger = now (ledger .entry); true-counts = now («true_counts» .entry); clipped-counts = now (clipped .entry); buckets = now (buckets .entry); side-store = now (side .entry) }) (now (settings .entry))) ⌝ }
+{
+    if settings.len() != 6 {
+        return refuse_settings_area(file);
+    }
+    let loaded = snapshot::loading::load(
+        file,
+        &mut ledger[..],
+        &mut true_counts[..],
+        &mut clipped[..],
+        &mut buckets[..],
+        &mut side[..],
+        &mut work[..],
+    );
+    let s = loaded.settings;
+    write_settings(s, &mut settings[..]);
+    loaded.number
+}
