@@ -1,6 +1,6 @@
 -- `text::append_decimal` meets its contract: the law `append-lent`. Assumes nothing.
 use borrow.Author.Needs.{needs}
-use mathlib.Core.List.{_∷_, _++_}
+use mathlib.Core.List.{[], _∷_, _++_}
 use native.Mathlib.Omega.{arith}
 use Rattle.theory.specs.Flowrun.{decimal}
 use Rattle.text.proofs.TextLaws.{append-lent}

@@ -1,6 +1,6 @@
 -- `text::append_letter` meets its contract: the law `append-lent`. Assumes nothing.
 use borrow.Author.Needs.{needs}
-use mathlib.Core.List.{_∷_}
+use mathlib.Core.List.{[], _∷_}
 use native.Mathlib.Omega.{arith}
 use Rattle.text.proofs.TextLaws.{append-lent}
 use Rattle.text.proofs.append_letter.Statement.{statement}
