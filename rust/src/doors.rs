@@ -1,5 +1,6 @@
 //! The doors as they stand. Each answers 0 or the number of a refusal, on every input, and a search also 100 for absent; a refused call
-//! alters nothing but work. Settings stand in the order p, k, room, top, capacity, side places.
+//! alters nothing but work, and a refused load also makes the settings that it hands back zeros. Settings stand in the order p, k, room,
+//! top, capacity, side places.
 
 /// The five areas that the calls share, lent to one that writes.
 #[derive(Debug)]
@@ -118,6 +119,16 @@ doors! {
     /// The layout of the ledger's list without a held flow; 1, 2, 3 and 4 as for [`add`]; 7 if the key is not held; 9 if the side store
     /// would not suffice.
     fn remove = flow_remove(settings: [u64; 6], areas: LentAreas, work: &mut [u16], key: &[u8]) -> u32;
+
+    /// The snapshot of a ledger's list in `target`; 1; 2 if the ledger or `work` is not of its length; 4 if the ledger is damaged; 9 if the
+    /// side store does not suffice; 12 if `target` is not of 16 + 17 n bytes for n records.
+    fn save = flow_save(settings: [u64; 6], ledger: &[u8], work: &mut [u16], target: &mut [u8]) -> u32;
+
+    /// The layout of a snapshot's list, and its settings in `settings`, which are zeros when it is refused. 12 if the file has under 16 bytes
+    /// or its first count is not 6; 1; 2 if an area or `work` is not of its length under the file's settings; 8 for more records than the
+    /// capacity; 12 for a cut or overlong file; 13 if its keys do not rise; 9 if the side store does not suffice. With `settings` not of 6
+    /// numbers 1 where the file has a setting out of range, else 2, and they stay.
+    fn load = flow_load(file: &[u8], areas: LentAreas, work: &mut [u16], settings: &mut [u64]) -> u32;
 
     /// The key of an IPv4 packet; 3 if the buffer for it is not of 13 bytes; 10 if the packet's header is wrong; 11 if its ports are missing.
     fn packet_key = flow_packet_key(packet: &[u8], key: &mut [u8]) -> u32;

@@ -63,8 +63,12 @@ impl Settings {
         capacity: u64,
         side_places: u64,
     ) -> Result<Settings, Refusal> {
-        let numbers = [p, k, room, top, capacity, side_places];
+        Settings::of([p, k, room, top, capacity, side_places])
+    }
+
+    fn of(numbers: [u64; 6]) -> Result<Settings, Refusal> {
         accepted(doors::settings_check(numbers))?;
+        let [p, k, room, top, capacity, side_places] = numbers;
         Ok(Settings {
             p,
             k,

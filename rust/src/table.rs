@@ -3,6 +3,10 @@
 use crate::doors::{self, LentAreas};
 use crate::{accepted, lookup, HashTable, LookupAreas, Refusal, Settings, Tally};
 
+// A snapshot: a two-byte count of settings, six of them in two bytes each, a two-byte count of records, and these.
+const FILE_HEAD: usize = 16;
+const RECORD_BYTES: usize = 17;
+
 /// A table with its five areas and its work area. Whatever was called, the areas hold the layout of the flows held.
 ///
 /// ```
@@ -22,12 +26,43 @@ use crate::{accepted, lookup, HashTable, LookupAreas, Refusal, Settings, Tally};
 #[derive(Clone, Debug)]
 pub struct Table {
     settings: Settings,
+    own: OwnAreas,
+}
+
+#[derive(Clone, Debug, Default)]
+struct OwnAreas {
     ledger: Vec<u8>,
     true_counts: Vec<u16>,
     clipped_counts: Vec<u8>,
     buckets: Vec<u8>,
     side_store: Vec<u8>,
     work: Vec<u16>,
+}
+
+impl OwnAreas {
+    // Zeros, of the settings' lengths.
+    fn of(settings: &Settings) -> OwnAreas {
+        let lengths = settings.area_lengths();
+        OwnAreas {
+            ledger: vec![0; lengths.ledger as usize],
+            true_counts: vec![0; lengths.true_counts as usize],
+            clipped_counts: vec![0; lengths.clipped_counts as usize],
+            buckets: vec![0; lengths.buckets as usize],
+            side_store: vec![0; lengths.side_store as usize],
+            work: vec![0; lengths.work as usize],
+        }
+    }
+
+    fn lend(&mut self) -> (LentAreas<'_>, &mut [u16]) {
+        let areas = LentAreas {
+            ledger: &mut self.ledger,
+            true_counts: &mut self.true_counts,
+            clipped: &mut self.clipped_counts,
+            buckets: &mut self.buckets,
+            side: &mut self.side_store,
+        };
+        (areas, &mut self.work)
+    }
 }
 
 /// The five areas of a [`Table`], for reading.
@@ -59,16 +94,8 @@ impl<'a> TableAreas<'a> {
 impl Table {
     /// A cleared table.
     pub fn new(settings: Settings) -> Table {
-        let lengths = settings.area_lengths();
-        let mut table = Table {
-            settings,
-            ledger: vec![0; lengths.ledger as usize],
-            true_counts: vec![0; lengths.true_counts as usize],
-            clipped_counts: vec![0; lengths.clipped_counts as usize],
-            buckets: vec![0; lengths.buckets as usize],
-            side_store: vec![0; lengths.side_store as usize],
-            work: vec![0; lengths.work as usize],
-        };
+        let own = OwnAreas::of(&settings);
+        let mut table = Table { settings, own };
         table.clear();
         table
     }
@@ -81,18 +108,18 @@ impl Table {
     /// The five areas.
     pub fn areas(&self) -> TableAreas<'_> {
         TableAreas {
-            ledger: &self.ledger,
-            true_counts: &self.true_counts,
-            clipped_counts: &self.clipped_counts,
-            buckets: &self.buckets,
-            side_store: &self.side_store,
+            ledger: &self.own.ledger,
+            true_counts: &self.own.true_counts,
+            clipped_counts: &self.own.clipped_counts,
+            buckets: &self.own.buckets,
+            side_store: &self.own.side_store,
         }
     }
 
     /// Takes every flow out.
     pub fn clear(&mut self) {
         let numbers = self.settings.numbers();
-        let (areas, _) = self.lend();
+        let (areas, _) = self.own.lend();
         accepted(doors::clear(numbers, areas)).expect("areas of their lengths are cleared");
     }
 
@@ -100,7 +127,7 @@ impl Table {
     /// the capacity is reached, [`Refusal::SideFull`] where more flows would belong to the side than there are side places.
     pub fn add(&mut self, key: &[u8], class: u32) -> Result<(), Refusal> {
         let numbers = self.settings.numbers();
-        let (areas, work) = self.lend();
+        let (areas, work) = self.own.lend();
         accepted(doors::add(numbers, areas, work, key, class))
     }
 
@@ -108,7 +135,7 @@ impl Table {
     /// held.
     pub fn change(&mut self, key: &[u8], class: u32) -> Result<(), Refusal> {
         let numbers = self.settings.numbers();
-        let (areas, work) = self.lend();
+        let (areas, work) = self.own.lend();
         accepted(doors::change(numbers, areas, work, key, class))
     }
 
@@ -116,7 +143,7 @@ impl Table {
     /// [`Refusal::SideFull`] where flows that the removal moves would belong to the side, and it has too few places.
     pub fn remove(&mut self, key: &[u8]) -> Result<(), Refusal> {
         let numbers = self.settings.numbers();
-        let (areas, work) = self.lend();
+        let (areas, work) = self.own.lend();
         accepted(doors::remove(numbers, areas, work, key))
     }
 
@@ -137,14 +164,58 @@ impl Table {
             .expect("a table's own areas are not damaged")
     }
 
-    fn lend(&mut self) -> (LentAreas<'_>, &mut [u16]) {
-        let areas = LentAreas {
-            ledger: &mut self.ledger,
-            true_counts: &mut self.true_counts,
-            clipped: &mut self.clipped_counts,
-            buckets: &mut self.buckets,
-            side: &mut self.side_store,
-        };
-        (areas, &mut self.work)
+    /// The snapshot: settings and flows, for [`Table::load`].
+    ///
+    /// ```
+    /// use flow::{Refusal, Settings, Table};
+    ///
+    /// let mut table = Table::new(Settings::new(6, 3, 2, 4, 128, 8)?);
+    /// table.add(&[1; 13], 7)?;
+    /// let file = table.save();
+    /// assert_eq!(file.len(), 16 + 17);
+    /// let loaded = Table::load(&file)?;
+    /// assert_eq!(loaded.search(&[1; 13]), Ok(Some(7)));
+    /// assert_eq!(Table::load(&file[..20]).err(), Some(Refusal::FileLength));
+    /// # Ok::<(), Refusal>(())
+    /// ```
+    pub fn save(&mut self) -> Vec<u8> {
+        let held = u16::from_be_bytes([self.own.ledger[0], self.own.ledger[1]]);
+        let mut file = vec![0; FILE_HEAD + RECORD_BYTES * usize::from(held)];
+        accepted(doors::save(
+            self.settings.numbers(),
+            &self.own.ledger,
+            &mut self.own.work,
+            &mut file,
+        ))
+        .expect("a table's own ledger is not damaged, and its side store suffices");
+        file
     }
+
+    /// The table of a snapshot, with the settings of the file.
+    ///
+    /// [`Refusal::FileLength`] where the file is cut or overlong or its first count is not 6, [`Refusal::Setting`] where one of its settings
+    /// is out of range, [`Refusal::Full`] where it has more flows than its capacity, [`Refusal::FileOrder`] where its keys do not rise,
+    /// [`Refusal::SideFull`] where more flows would belong to the side than there are side places.
+    pub fn load(file: &[u8]) -> Result<Table, Refusal> {
+        let mut own = match Settings::of(file_settings(file)) {
+            Ok(settings) => OwnAreas::of(&settings),
+            // no settings, no lengths: the door says why it refuses the file
+            Err(_) => OwnAreas::default(),
+        };
+        let mut numbers = [0; 6];
+        let (areas, work) = own.lend();
+        accepted(doors::load(file, areas, work, &mut numbers))?;
+        let settings = Settings::of(numbers)?;
+        Ok(Table { settings, own })
+    }
+}
+
+// The settings that a file's head has, and zeros where it is cut.
+fn file_settings(file: &[u8]) -> [u64; 6] {
+    let mut settings = [0; 6];
+    let places = file.get(2..).unwrap_or(&[]).chunks_exact(2);
+    for (setting, bytes) in settings.iter_mut().zip(places) {
+        *setting = u64::from(u16::from_be_bytes([bytes[0], bytes[1]]));
+    }
+    settings
 }
