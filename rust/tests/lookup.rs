@@ -3,6 +3,7 @@
 mod made;
 mod model;
 mod random;
+mod seen;
 
 use flow::{doors, HashTable, LookupAreas, Refusal, Settings, Tally};
 use made::{damage_ledger, filled, random_count, random_key, set_count, spoiled, wrong_length};
@@ -13,7 +14,7 @@ use model::lookup::{self as paper, Answer, Lookup, Part, Place};
 use model::records::{Key, Record};
 use model::settings::{Settings as Model, LIMITS};
 use random::Random;
-use std::collections::BTreeMap;
+use seen::Seen;
 
 // Searches of each test, each through both doors.
 const ON_LAYOUTS: u64 = 400_000;
@@ -25,28 +26,6 @@ const _: () = assert!(ON_LAYOUTS + ON_LARGE_LAYOUTS + ON_DAMAGED_AREAS >= 1_000_
 
 // Tallies of a test.
 const TALLIES: u64 = 60_000;
-
-// How often each answer was seen.
-#[derive(Default)]
-struct Seen {
-    total: u64,
-    answers: BTreeMap<u32, u64>,
-}
-
-impl Seen {
-    fn note(&mut self, answer: u32) {
-        self.total += 1;
-        *self.answers.entry(answer).or_default() += 1;
-    }
-
-    // Prints the counts; fails where one of these answers never occurred.
-    fn report(&self, what: &str, expected: &[u32]) {
-        println!("{} {what}, by answer: {:?}", self.total, self.answers);
-        for answer in expected {
-            assert!(self.answers.contains_key(answer), "{what}: no {answer}");
-        }
-    }
-}
 
 // What a test calls the doors with.
 struct Doors {
@@ -79,7 +58,7 @@ impl Doors {
             "{:?} {key:?}",
             card.settings
         );
-        self.seen.note(expected.number);
+        self.seen.note("search", expected.number);
         expected
     }
 
@@ -116,7 +95,7 @@ impl Doors {
                 assert_eq!((answer, totals), (number, BEFORE), "{:?}", card.settings);
             }
         }
-        self.seen.note(answer);
+        self.seen.note("tally", answer);
         expected
     }
 }
@@ -212,7 +191,7 @@ fn searches_on_layouts() {
     let mut places = Places::default();
     let mut clipped_below_true = 0;
     let mut tables = 0;
-    while doors.seen.total < ON_LAYOUTS {
+    while doors.seen.total() < ON_LAYOUTS {
         let card = random_card(&mut random);
         let (list, areas) = random_table(&mut random, &card);
         clipped_below_true += areas
@@ -230,7 +209,9 @@ fn searches_on_layouts() {
         search_layout(&mut doors, &mut places, &card, &list, &areas, &absent);
         tables += 1;
     }
-    doors.seen.report("searches on layouts", &[0, 100]);
+    doors
+        .seen
+        .report("searches on layouts", &[("search", &[0, 100])]);
     println!(
         "{tables} tables, {clipped_below_true} counters clipped below the true count, {places:?}"
     );
@@ -247,7 +228,7 @@ fn searches_on_large_layouts() {
     let mut places = Places::default();
     let mut largest = 0;
     let mut card = Card::new(Model::of([12, 3, 4, 15, 4096, 64]));
-    while doors.seen.total < ON_LARGE_LAYOUTS {
+    while doors.seen.total() < ON_LARGE_LAYOUTS {
         let (list, areas) = filled(&mut random, &card, 4000.min(card.settings.n));
         let absent: Vec<Key> = (0..4000).map(|_| random_key(&mut random)).collect();
         search_layout(&mut doors, &mut places, &card, &list, &areas, &absent);
@@ -256,7 +237,9 @@ fn searches_on_large_layouts() {
         numbers[0] = random.between(9, 12);
         card = Card::new(Model::of(numbers));
     }
-    doors.seen.report("searches on large layouts", &[0, 100]);
+    doors
+        .seen
+        .report("searches on large layouts", &[("search", &[0, 100])]);
     println!("at most {largest} flows, {places:?}");
     assert_eq!(largest, 4000);
 }
@@ -367,7 +350,7 @@ fn searches_on_damaged_areas() {
     let mut random = Random::new(13);
     let mut doors = Doors::new();
     let (mut held_of_side, mut held_of_buckets) = (0, 0);
-    while doors.seen.total < ON_DAMAGED_AREAS {
+    while doors.seen.total() < ON_DAMAGED_AREAS {
         let card = random_card(&mut random);
         let (list, areas) = random_table(&mut random, &card);
         let mut keys: Vec<Key> = list.iter().take(40).map(|r| r.key).collect();
@@ -386,7 +369,9 @@ fn searches_on_damaged_areas() {
             }
         }
     }
-    doors.seen.report("searches on damaged areas", &[0, 100, 5]);
+    doors
+        .seen
+        .report("searches on damaged areas", &[("search", &[0, 100, 5])]);
     println!("held: {held_of_buckets} out of the buckets, {held_of_side} out of the side store");
     assert!(held_of_buckets > 0 && held_of_side > 0);
 }
@@ -396,7 +381,7 @@ fn searches_on_damaged_areas() {
 fn searches_with_wrong_lengths_and_settings() {
     let mut random = Random::new(14);
     let mut doors = Doors::new();
-    while doors.seen.total < ON_WRONG_LENGTHS {
+    while doors.seen.total() < ON_WRONG_LENGTHS {
         let card = random_card(&mut random);
         let (list, areas) = random_table(&mut random, &card);
         for _ in 0..50 {
@@ -427,7 +412,7 @@ fn searches_with_wrong_lengths_and_settings() {
     }
     doors.seen.report(
         "searches, some with wrong lengths and settings",
-        &[0, 100, 1, 2, 3, 5],
+        &[("search", &[0, 100, 1, 2, 3, 5])],
     );
 }
 
@@ -540,7 +525,7 @@ fn other_buckets_do_not_count() {
     let mut random = Random::new(18);
     let mut doors = Doors::new();
     let (mut one, mut none) = (0, 0);
-    while doors.seen.total < BY_LOCALITY {
+    while doors.seen.total() < BY_LOCALITY {
         let card = random_card(&mut random);
         let (list, mut areas) = random_table(&mut random, &card);
         let mut keys: Vec<Key> = list.iter().take(10).map(|r| r.key).collect();
@@ -566,7 +551,9 @@ fn other_buckets_do_not_count() {
             assert_eq!(doors.search(&card, other.lookup(), key), answer);
         }
     }
-    doors.seen.report("searches by locality", &[0, 100, 5]);
+    doors
+        .seen
+        .report("searches by locality", &[("search", &[0, 100, 5])]);
     println!("one bucket read by {one}, none by {none}");
     assert!(one > 0 && none > 0);
 }
@@ -576,7 +563,7 @@ fn tallies() {
     let mut random = Random::new(19);
     let mut doors = Doors::new();
     let (mut in_side, mut marked, mut of_layouts) = (0, 0, 0);
-    while doors.seen.total < TALLIES {
+    while doors.seen.total() < TALLIES {
         let card = random_card(&mut random);
         let (list, areas) = random_table(&mut random, &card);
         // a layout: the plain ledger's numbers
@@ -612,7 +599,7 @@ fn tallies() {
             let _ = doors.tally(&Card::new(settings), &areas.ledger, areas.lookup());
         }
     }
-    doors.seen.report("tallies", &[0, 1, 2, 4, 5]);
+    doors.seen.report("tallies", &[("tally", &[0, 1, 2, 4, 5])]);
     println!("{of_layouts} on layouts, with {in_side} records in side stores and {marked} buckets marked 255");
     assert!(in_side > 0 && marked > 0);
 }
@@ -676,7 +663,9 @@ fn each_fault_of_a_tally() {
         assert_eq!(call([4, 1, 1, 1, 1, 0]), 1);
         assert_eq!(totals, vec![7; n]);
     }
-    doors.seen.report("tallies with one fault", &[0, 5]);
+    doors
+        .seen
+        .report("tallies with one fault", &[("tally", &[0, 5])]);
 }
 
 // The safe crate hands on what the doors say.

@@ -1,13 +1,18 @@
 //! The doors that write against the model: lists of calls with all five areas compared after every call, areas that no call left behind,
 //! damaged ledgers, wrong lengths and settings, and lists that end with the same flows.
 
+mod lending;
 mod made;
 mod model;
 mod random;
+mod seen;
 
-use flow::doors::{self, LentAreas};
-use flow::{HashTable, Refusal, Settings, Table, Tally};
-use made::{damage_ledger, filled, random_class, random_key, random_list, spoiled, wrong_length};
+use flow::{doors, HashTable, Refusal, Settings, Table, Tally};
+use lending::{assert_areas, door, kind};
+use made::{
+    damage_ledger, filled, random_areas, random_class, random_key, random_list, random_work,
+    resize, small_card, spoiled, wrong_length,
+};
 use model::calls::{perform, Call};
 use model::card::Card;
 use model::layout::{layout, placing, Areas};
@@ -16,6 +21,7 @@ use model::lookup as paper;
 use model::records::{counted_area, Key, Record};
 use model::settings::{Settings as Model, LIMITS};
 use random::Random;
+use seen::Seen;
 use std::collections::BTreeMap;
 
 const LISTS: u64 = 4_000;
@@ -26,136 +32,6 @@ const ON_FOREIGN_AREAS: u64 = 20_000;
 const ON_DAMAGED_LEDGERS: u64 = 30_000;
 const ON_WRONG_LENGTHS: u64 = 30_000;
 const _: () = assert!(LISTS >= 2_000 && CALLS_OF_A_LIST >= 200 && PAIRS >= 1_000);
-
-// How often each kind of call gave each answer.
-#[derive(Default)]
-struct Seen {
-    answers: BTreeMap<(&'static str, u32), u64>,
-}
-
-impl Seen {
-    fn note(&mut self, kind: &'static str, answer: u32) {
-        *self.answers.entry((kind, answer)).or_default() += 1;
-    }
-
-    fn total(&self) -> u64 {
-        self.answers.values().sum()
-    }
-
-    // Prints the counts; fails where one of these answers of a kind never occurred.
-    fn report(&self, what: &str, expected: &[(&'static str, &[u32])]) {
-        println!("{} {what}:", self.total());
-        for ((kind, answer), times) in &self.answers {
-            println!("  {kind} {answer}: {times}");
-        }
-        for (kind, answers) in expected {
-            for answer in answers.iter() {
-                let seen = self.answers.contains_key(&(*kind, *answer));
-                assert!(seen, "{what}: {kind} never answered {answer}");
-            }
-        }
-    }
-}
-
-fn kind(call: &Call) -> &'static str {
-    match call {
-        Call::Clear => "clear",
-        Call::Add(..) => "add",
-        Call::Change(..) => "change",
-        Call::Remove(..) => "remove",
-    }
-}
-
-// The call through its door.
-fn door(settings: &Model, areas: &mut Areas, work: &mut [u16], call: &Call) -> u32 {
-    let numbers = settings.numbers();
-    let lent = LentAreas {
-        ledger: &mut areas.ledger,
-        true_counts: &mut areas.true_counts,
-        clipped: &mut areas.clipped,
-        buckets: &mut areas.buckets,
-        side: &mut areas.side,
-    };
-    match call {
-        Call::Clear => doors::clear(numbers, lent),
-        Call::Add(key, class) => doors::add(numbers, lent, work, key, *class),
-        Call::Change(key, class) => doors::change(numbers, lent, work, key, *class),
-        Call::Remove(key) => doors::remove(numbers, lent, work, key),
-    }
-}
-
-fn random_bytes(random: &mut Random, length: u64) -> Vec<u8> {
-    (0..length).map(|_| random.next() as u8).collect()
-}
-
-fn random_numbers(random: &mut Random, length: u64) -> Vec<u16> {
-    (0..length).map(|_| random.next() as u16).collect()
-}
-
-// Areas of their lengths with random bytes.
-fn random_areas(random: &mut Random, settings: &Model) -> Areas {
-    let lengths = settings.area_lengths();
-    Areas {
-        ledger: random_bytes(random, lengths[0]),
-        true_counts: random_numbers(random, lengths[1]),
-        clipped: random_bytes(random, lengths[2]),
-        buckets: random_bytes(random, lengths[3]),
-        side: random_bytes(random, lengths[4]),
-    }
-}
-
-// Work of its length: random numbers, or all zeros, or all ones.
-fn random_work(random: &mut Random, settings: &Model) -> Vec<u16> {
-    let length = settings.area_lengths()[5];
-    match random.between(0, 4) {
-        0 => vec![0; length as usize],
-        1 => vec![u16::MAX; length as usize],
-        _ => random_numbers(random, length),
-    }
-}
-
-// The areas after a call, one by one, so that a failure names its area.
-fn assert_areas(areas: &Areas, expected: &Areas, settings: &Model, call: &dyn std::fmt::Debug) {
-    let what = || format!("{settings:?}, {call:?}");
-    assert!(areas.ledger == expected.ledger, "ledger: {}", what());
-    assert!(
-        areas.true_counts == expected.true_counts,
-        "true counts: {}",
-        what()
-    );
-    assert!(
-        areas.clipped == expected.clipped,
-        "clipped counts: {}",
-        what()
-    );
-    assert!(areas.buckets == expected.buckets, "buckets: {}", what());
-    assert!(areas.side == expected.side, "side store: {}", what());
-}
-
-// Mostly few buckets, low counts, few side places and a small capacity; one in twenty over the whole ranges, one in ten between.
-fn random_card(random: &mut Random) -> Card {
-    let small = [
-        4,
-        random.between(1, 4),
-        random.between(1, 2),
-        random.between(2, 4),
-        random.between(1, 24),
-        random.between(0, 4),
-    ];
-    let numbers = match random.between(0, 19) {
-        0 => LIMITS.map(|(low, high)| random.between(low, high)),
-        1 | 2 => [
-            random.between(4, 7),
-            random.between(1, 4),
-            random.between(1, 4),
-            random.between(2, 15),
-            random.between(1, 200),
-            random.between(0, 16),
-        ],
-        _ => small,
-    };
-    Card::new(Model::of(numbers))
-}
 
 // What a list of calls goes by.
 struct Mix {
@@ -300,7 +176,7 @@ fn lists_of_calls() {
     let mut seen = Seen::default();
     let (mut in_side, mut marked, mut clipped, mut most) = (0, 0, 0, 0);
     for _ in 0..LISTS {
-        let card = random_card(&mut random);
+        let card = small_card(&mut random);
         let mix = Mix::new(&mut random, &card);
         let mut beside = Beside::cleared(&mut random, card);
         for _ in 0..CALLS_OF_A_LIST {
@@ -397,7 +273,7 @@ fn updates_on_foreign_areas() {
     let mut seen = Seen::default();
     let (mut no_layout, mut repaired) = (0, 0);
     while seen.total() < ON_FOREIGN_AREAS {
-        let card = random_card(&mut random);
+        let card = small_card(&mut random);
         let settings = card.settings;
         let most = settings.n.min(2 * settings.m()).min(300);
         let count = match random.between(0, 2) {
@@ -482,7 +358,7 @@ fn updates_on_damaged_ledgers() {
     let mut seen = Seen::default();
     let mut faults = BTreeMap::new();
     while seen.total() < ON_DAMAGED_LEDGERS {
-        let card = random_card(&mut random);
+        let card = small_card(&mut random);
         let settings = card.settings;
         let count = random.between(0, settings.n.min(100));
         let (list, right) = filled(&mut random, &card, count);
@@ -527,7 +403,7 @@ fn updates_with_wrong_lengths_and_settings() {
     let mut random = Random::new(45);
     let mut seen = Seen::default();
     while seen.total() < ON_WRONG_LENGTHS {
-        let card = random_card(&mut random);
+        let card = small_card(&mut random);
         let count = random.between(0, card.settings.n.min(100));
         let (list, right) = filled(&mut random, &card, count);
         let mut keys: Vec<Key> = list.iter().map(|r| r.key).collect();
@@ -586,7 +462,7 @@ fn each_wrong_length_and_setting() {
     let mut random = Random::new(46);
     let (mut lengths_wrong, mut settings_wrong) = (0, 0);
     for _ in 0..100 {
-        let card = random_card(&mut random);
+        let card = small_card(&mut random);
         let count = card.settings.n.min(20);
         let (list, right) = filled(&mut random, &card, count);
         let held = list.first().map_or(random_key(&mut random), |r| r.key);
@@ -628,10 +504,6 @@ fn each_wrong_length_and_setting() {
         }
     }
     println!("2 for {lengths_wrong} wrong lengths, 1 for {settings_wrong} settings out of range");
-}
-
-fn resize<T: Clone + Default>(random: &mut Random, area: &mut Vec<T>) {
-    area.resize(wrong_length(random, area.len()), T::default());
 }
 
 // Calls through the doors alone; which flows are held is read from the ledger area.
@@ -705,7 +577,7 @@ fn same_flows_same_bytes() {
     let mut random = Random::new(47);
     let (mut pairs, mut stuck, mut flows, mut in_side, mut moved) = (0, 0, 0, 0, 0);
     while pairs < PAIRS {
-        let card = random_card(&mut random);
+        let card = small_card(&mut random);
         let mix = Mix::new(&mut random, &card);
         let mut one = Alone::cleared(&mut random, &card);
         for _ in 0..random.between(1, 80) {
@@ -750,7 +622,7 @@ fn safe_table() {
     let hash_table = HashTable::new();
     let mut seen = Seen::default();
     for _ in 0..LISTS_THROUGH_TABLE {
-        let card = random_card(&mut random);
+        let card = small_card(&mut random);
         let [p, k, room, top, capacity, side_places] = card.settings.numbers();
         let settings = Settings::new(p, k, room, top, capacity, side_places).unwrap();
         let mix = Mix::new(&mut random, &card);

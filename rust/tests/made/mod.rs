@@ -143,3 +143,63 @@ pub fn damage_ledger(random: &mut Random, card: &Card, ledger: &mut [u8]) {
         }
     }
 }
+
+/// Mostly few buckets, low counts, few side places and a small capacity; one in twenty over the whole ranges, one in ten between.
+pub fn small_card(random: &mut Random) -> Card {
+    let small = [
+        4,
+        random.between(1, 4),
+        random.between(1, 2),
+        random.between(2, 4),
+        random.between(1, 24),
+        random.between(0, 4),
+    ];
+    let numbers = match random.between(0, 19) {
+        0 => LIMITS.map(|(low, high)| random.between(low, high)),
+        1 | 2 => [
+            random.between(4, 7),
+            random.between(1, 4),
+            random.between(1, 4),
+            random.between(2, 15),
+            random.between(1, 200),
+            random.between(0, 16),
+        ],
+        _ => small,
+    };
+    Card::new(Model::of(numbers))
+}
+
+pub fn random_bytes(random: &mut Random, length: u64) -> Vec<u8> {
+    (0..length).map(|_| random.next() as u8).collect()
+}
+
+fn random_numbers(random: &mut Random, length: u64) -> Vec<u16> {
+    (0..length).map(|_| random.next() as u16).collect()
+}
+
+/// Areas of their lengths with random bytes.
+pub fn random_areas(random: &mut Random, settings: &Model) -> Areas {
+    let lengths = settings.area_lengths();
+    Areas {
+        ledger: random_bytes(random, lengths[0]),
+        true_counts: random_numbers(random, lengths[1]),
+        clipped: random_bytes(random, lengths[2]),
+        buckets: random_bytes(random, lengths[3]),
+        side: random_bytes(random, lengths[4]),
+    }
+}
+
+/// Work of its length: random numbers, or all zeros, or all ones.
+pub fn random_work(random: &mut Random, settings: &Model) -> Vec<u16> {
+    let length = settings.area_lengths()[5];
+    match random.between(0, 4) {
+        0 => vec![0; length as usize],
+        1 => vec![u16::MAX; length as usize],
+        _ => random_numbers(random, length),
+    }
+}
+
+/// Another length, with zeros where it grows.
+pub fn resize<T: Clone + Default>(random: &mut Random, area: &mut Vec<T>) {
+    area.resize(wrong_length(random, area.len()), T::default());
+}

@@ -41,17 +41,12 @@ pub fn perform(card: &Card, areas: &mut Areas, work: usize, call: &Call) -> u32 
     if !settings.allowed() {
         return 1;
     }
-    let lengths = settings.area_lengths();
-    let lent = [
-        areas.ledger.len(),
-        areas.true_counts.len(),
-        areas.clipped.len(),
-        areas.buckets.len(),
-        areas.side.len(),
-        work,
-    ];
-    let taken = if *call == Call::Clear { 5 } else { 6 };
-    if (0..taken).any(|i| lent[i] as u64 != lengths[i]) {
+    let taken = if *call == Call::Clear {
+        None
+    } else {
+        Some(work)
+    };
+    if !areas.fit(settings, taken) {
         return 2;
     }
     let mut ledger = Ledger::default();

@@ -3,6 +3,7 @@
 use super::card::Card;
 use super::placing::Placing;
 use super::records::{counted_area, Record};
+use super::settings::Settings;
 
 /// The five areas that calls share.
 #[derive(Clone, Debug, PartialEq, Eq)]
@@ -12,6 +13,22 @@ pub struct Areas {
     pub clipped: Vec<u8>,
     pub buckets: Vec<u8>,
     pub side: Vec<u8>,
+}
+
+impl Areas {
+    /// Not 2: each has its length under the settings, and so has the work area of a call that takes one.
+    pub fn fit(&self, settings: &Settings, work: Option<usize>) -> bool {
+        let lengths = settings.area_lengths();
+        let lent = [
+            self.ledger.len(),
+            self.true_counts.len(),
+            self.clipped.len(),
+            self.buckets.len(),
+            self.side.len(),
+        ];
+        (0..5).all(|i| lent[i] as u64 == lengths[i])
+            && work.map_or(true, |length| length as u64 == lengths[5])
+    }
 }
 
 /// Where the records of a list in rising key order belong.
