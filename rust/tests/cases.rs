@@ -11,6 +11,7 @@ use model::lookup::{fill, search, second_search, tally, Part};
 use model::placing::Placing;
 use model::records::{Key, Record};
 use model::settings::Settings;
+use model::snapshot::snapshot;
 use random::Random;
 
 // k is not looked at: the bucket numbers are given.
@@ -89,6 +90,12 @@ fn clipped_counts_3_and_20() {
 #[test]
 fn fill_for_16_buckets() {
     assert_eq!([0, 2, 6].map(|n| fill(n, 16)), [0, 13, 38]);
+}
+
+#[test]
+fn snapshot_of_an_empty_list() {
+    let file = [0, 6, 0, 4, 0, 1, 0, 1, 0, 2, 0, 1, 0, 0, 0, 0];
+    assert_eq!(snapshot(&Settings::of([4, 1, 1, 2, 1, 0]), &[]), file);
 }
 
 // From a clear, a list of random calls: the layout of the plain ledger's list answers every search and tally as the plain ledger does.

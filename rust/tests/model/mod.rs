@@ -13,3 +13,4 @@ pub mod lookup;
 pub mod placing;
 pub mod records;
 pub mod settings;
+pub mod snapshot;

@@ -1,0 +1,445 @@
+//! Save and load against the model: on lists with and without a layout, on damaged ledgers, on files cut, extended and altered, on wrong
+//! lengths and settings. All areas are compared after every call.
+
+mod lending;
+mod made;
+mod model;
+mod random;
+mod seen;
+
+use flow::{doors, Refusal, Table};
+use lending::{assert_areas, lend};
+use made::{
+    damage_ledger, filled, random_areas, random_bytes, random_count, random_list, random_work,
+    resize, set_count, small_card, spoiled, wrong_length,
+};
+use model::card::Card;
+use model::layout::{layout, placing, Areas};
+use model::ledger::list_of;
+use model::records::{count, counted_area, Record};
+use model::settings::{Settings as Model, LIMITS};
+use model::snapshot::{self as paper, snapshot};
+use random::Random;
+use seen::Seen;
+use std::collections::BTreeMap;
+
+const SAVES: u64 = 200_000;
+const LOADS: u64 = 200_000;
+const LOADS_WITH_ONE_FAULT: u64 = 60_000;
+const THROUGH_TABLE: u64 = 20_000;
+const _: () = assert!(SAVES >= 200_000 && LOADS >= 200_000);
+
+// A list of a few records, now and then of as many as the capacity allows: with a layout, or as it comes.
+fn some_list(random: &mut Random, card: &Card) -> Vec<Record> {
+    let most = card.settings.n.min(2 * card.settings.m()).min(100);
+    let count = match random.between(0, 4) {
+        0 => most,
+        _ => random.between(0, most),
+    };
+    match random.between(0, 3) {
+        0 => random_list(random, count),
+        _ => filled(random, card, count).0,
+    }
+}
+
+// One save: the door and the model agree in the answer and in the target, which a refusal leaves.
+fn save(card: &Card, ledger: &[u8], work: &mut [u16], target: &[u8]) -> (u32, Vec<u8>) {
+    let mut expected = target.to_vec();
+    let by_paper = paper::save(card, ledger, work.len(), &mut expected);
+    let mut after = target.to_vec();
+    let answer = doors::save(card.settings.numbers(), ledger, work, &mut after);
+    assert_eq!(answer, by_paper, "{:?}, {ledger:?}", card.settings);
+    assert!(answer == 0 || after == target);
+    assert!(after == expected, "target: {:?}, {ledger:?}", card.settings);
+    (answer, after)
+}
+
+#[test]
+fn saves() {
+    let mut random = Random::new(51);
+    let mut seen = Seen::default();
+    let mut flows = 0;
+    while seen.total() < SAVES {
+        let card = small_card(&mut random);
+        let settings = card.settings;
+        let list = some_list(&mut random, &card);
+        for _ in 0..10 {
+            let mut ledger = counted_area(&list, settings.n);
+            let mut work = random_work(&mut random, &settings);
+            let mut length = 16 + 17 * list.len();
+            let mut numbers = settings;
+            if random.between(0, 4) == 0 {
+                damage_ledger(&mut random, &card, &mut ledger);
+            }
+            if random.between(0, 9) == 0 {
+                resize(&mut random, &mut ledger);
+            }
+            if random.between(0, 9) == 0 {
+                resize(&mut random, &mut work);
+            }
+            if random.between(0, 3) == 0 {
+                length = wrong_length(&mut random, length);
+            }
+            if random.between(0, 9) == 0 {
+                numbers = spoiled(&mut random, settings);
+            }
+            let target = random_bytes(&mut random, length as u64);
+            let (answer, file) = save(&Card::new(numbers), &ledger, &mut work, &target);
+            seen.note("save", answer);
+            if answer == 0 {
+                flows += list.len();
+                load_back(&mut random, &settings, &file, &ledger);
+            }
+        }
+    }
+    seen.report("saves", &[("save", &[0, 1, 2, 4, 9, 12])]);
+    println!("{flows} flows saved and loaded back");
+}
+
+// The paper's case: settings 4, 1, 1, 2, 1, 0 and no flows.
+#[test]
+fn save_of_an_empty_list() {
+    let mut target = [7; 16];
+    let answer = doors::save([4, 1, 1, 2, 1, 0], &[0; 19], &mut [7; 32], &mut target);
+    let file = [0, 6, 0, 4, 0, 1, 0, 1, 0, 2, 0, 1, 0, 0, 0, 0];
+    assert_eq!((answer, target), (0, file));
+}
+
+// What was saved is loaded into areas with any contents: the settings, the ledger and the layout of its list.
+fn load_back(random: &mut Random, settings: &Model, file: &[u8], ledger: &[u8]) {
+    let mut areas = random_areas(random, settings);
+    let mut work = random_work(random, settings);
+    let mut handed_back = [7; 6];
+    let answer = doors::load(file, lend(&mut areas), &mut work, &mut handed_back);
+    assert_eq!((answer, handed_back), (0, settings.numbers()));
+    let expected = layout(&Card::new(*settings), &list_of(ledger)).unwrap();
+    assert!(areas.ledger == ledger);
+    assert_areas(&areas, &expected, settings, &"load of a saved file");
+}
+
+// The settings that stand in a file, and zeros where it is cut.
+fn file_settings(file: &[u8]) -> Model {
+    let mut head = file.to_vec();
+    head.resize(16, 0);
+    Model::of([2, 4, 6, 8, 10, 12].map(|at| count(&head[at..])))
+}
+
+// What a load is lent.
+#[derive(Clone)]
+struct Load {
+    file: Vec<u8>,
+    areas: Areas,
+    work: Vec<u16>,
+    settings: Vec<u64>,
+}
+
+impl Load {
+    // A right one: areas of their lengths with any contents, and a list with a layout.
+    fn new(random: &mut Random, card: &Card) -> Load {
+        let settings = &card.settings;
+        let count = random.between(0, settings.n.min(2 * settings.m()).min(60));
+        let (list, _) = filled(random, card, count);
+        Load {
+            file: snapshot(settings, &list),
+            areas: random_areas(random, settings),
+            work: random_work(random, settings),
+            settings: (0..6).map(|_| random.next()).collect(),
+        }
+    }
+
+    fn records(&self) -> usize {
+        (self.file.len() - 16) / 17
+    }
+
+    // The door and the model agree in the answer, in all areas and in the settings handed back.
+    fn compare(&self, what: &str) -> u32 {
+        let mut expected = self.clone();
+        let by_paper = paper::load(
+            &self.file,
+            &mut expected.areas,
+            self.work.len(),
+            &mut expected.settings,
+        );
+        let mut after = self.clone();
+        let answer = doors::load(
+            &self.file,
+            lend(&mut after.areas),
+            &mut after.work,
+            &mut after.settings,
+        );
+        assert_eq!(answer, by_paper, "{what}: {:?}", self.file);
+        assert_eq!(after.settings, expected.settings, "{what}: {:?}", self.file);
+        assert!(answer == 0 || expected.areas == self.areas);
+        let head = Model::of(
+            [2, 4, 6, 8, 10, 12].map(|at| match self.file.get(at..at + 2) {
+                Some(bytes) => u64::from(bytes[0]) * 256 + u64::from(bytes[1]),
+                None => 0,
+            }),
+        );
+        assert_areas(&after.areas, &expected.areas, &head, &what);
+        if answer == 0 {
+            let mut again = vec![7; self.file.len()];
+            let numbers = [0, 1, 2, 3, 4, 5].map(|i| after.settings[i]);
+            let saved = doors::save(numbers, &after.areas.ledger, &mut after.work, &mut again);
+            assert_eq!((saved, again), (0, self.file.clone()));
+        }
+        answer
+    }
+}
+
+// The faults by themselves, and what each gives.
+const FAULTS: [(&str, u32); 20] = [
+    ("no file", 12),
+    ("cut in its head", 12),
+    ("cut in its records", 12),
+    ("cut by a record", 12),
+    ("a byte more", 12),
+    ("a record more", 12),
+    ("first count", 12),
+    ("a setting too low", 1),
+    ("a setting too high", 1),
+    ("other settings", 2),
+    ("an area's length", 2),
+    ("length of work", 2),
+    ("numbers for the settings", 2),
+    ("second count above N", 8),
+    ("more records than N", 8),
+    ("second count too low", 12),
+    ("second count too high", 12),
+    ("records swapped", 13),
+    ("equal keys", 13),
+    ("side need above S", 9),
+];
+
+// Makes the fault, unless the file has too few records for it or the capacity leaves no room.
+fn fault(random: &mut Random, card: &Card, load: &mut Load, name: &str) -> bool {
+    let settings = &card.settings;
+    let n = load.records();
+    let length = load.file.len() as u64;
+    match name {
+        "no file" => load.file.clear(),
+        "cut in its head" => load.file.truncate(random.between(0, 15) as usize),
+        "cut in its records" if n > 0 => {
+            load.file.truncate(random.between(16, length - 1) as usize);
+        }
+        "cut by a record" if n > 0 => load.file.truncate(load.file.len() - 17),
+        "a byte more" => load.file.push(random.next() as u8),
+        "a record more" => {
+            let more = random.between(1, 3);
+            load.file.extend(random_bytes(random, 17 * more));
+        }
+        "first count" => {
+            let count = [0, 1, 5, 7, 8, 256, 262, 1536, 65535][random.between(0, 8) as usize];
+            set_count(&mut load.file, count);
+        }
+        "a setting too low" => {
+            let i = random.between(0, 4);
+            let below = random.between(0, LIMITS[i as usize].0 - 1);
+            set_setting(&mut load.file, i, below);
+        }
+        "a setting too high" => {
+            let i = random.between(0, 5);
+            let (low, high) = LIMITS[i as usize];
+            let above = [high + 1, 256 * (1 + high / 256) + low, 65535];
+            let above = above[random.between(0, 2) as usize].max(high + 1);
+            set_setting(&mut load.file, i, above);
+        }
+        // p, B, N or S: the areas no longer fit
+        "other settings" => {
+            let i = [0, 2, 4, 5][random.between(0, 3) as usize];
+            let (low, high) = LIMITS[i as usize];
+            let other = random.between(low, high);
+            if other == settings.numbers()[i as usize] {
+                return false;
+            }
+            set_setting(&mut load.file, i, other);
+        }
+        "an area's length" => match random.between(0, 4) {
+            0 => resize(random, &mut load.areas.ledger),
+            1 => resize(random, &mut load.areas.true_counts),
+            2 => resize(random, &mut load.areas.clipped),
+            3 => resize(random, &mut load.areas.buckets),
+            _ => resize(random, &mut load.areas.side),
+        },
+        "length of work" => resize(random, &mut load.work),
+        "numbers for the settings" => resize(random, &mut load.settings),
+        "second count above N" => {
+            let above = random.between(settings.n + 1, 65535);
+            set_count(&mut load.file[14..], above);
+        }
+        "more records than N" if settings.n <= 100 => {
+            let above = settings.n + random.between(1, 3);
+            load.file = snapshot(settings, &random_list(random, above));
+        }
+        "second count too low" if n > 0 => {
+            let below = random.between(0, n as u64 - 1);
+            set_count(&mut load.file[14..], below);
+        }
+        "second count too high" if (n as u64) < settings.n => {
+            let above = random.between(n as u64 + 1, settings.n);
+            set_count(&mut load.file[14..], above);
+        }
+        "records swapped" if n > 1 => {
+            let (i, j) = (
+                random.between(1, n as u64 - 1),
+                random.between(0, n as u64 - 1),
+            );
+            let (i, j) = (i as usize, j as usize % i as usize);
+            let (before, after) = load.file.split_at_mut(16 + 17 * i);
+            before[16 + 17 * j..][..17].swap_with_slice(&mut after[..17]);
+        }
+        "equal keys" if n > 1 => {
+            let at = 16 + 17 * random.between(0, n as u64 - 2) as usize;
+            load.file.copy_within(at..at + 13, at + 17);
+        }
+        "side need above S" => {
+            let count = settings.n.min(2 * settings.m()).min(100);
+            let list = random_list(random, count);
+            if placing(card, &list).side_need() <= settings.s {
+                return false;
+            }
+            load.file = snapshot(settings, &list);
+        }
+        _ => return false,
+    }
+    true
+}
+
+fn set_setting(file: &mut [u8], i: u64, value: u64) {
+    set_count(&mut file[2 + 2 * i as usize..], value);
+}
+
+#[test]
+fn loads_with_one_fault() {
+    let mut random = Random::new(52);
+    let mut seen = Seen::default();
+    let mut faults = BTreeMap::new();
+    while seen.total() < LOADS_WITH_ONE_FAULT {
+        let card = small_card(&mut random);
+        let right = Load::new(&mut random, &card);
+        seen.note("load", right.compare("a right file"));
+        for (name, number) in FAULTS {
+            let mut load = right.clone();
+            if fault(&mut random, &card, &mut load, name) {
+                let answer = load.compare(name);
+                assert_eq!(answer, number, "{name}: {:?}", card.settings);
+                seen.note("load", answer);
+                *faults.entry(name).or_insert(0) += 1;
+            }
+        }
+    }
+    seen.report(
+        "loads with one fault",
+        &[("load", &[0, 1, 2, 8, 9, 12, 13])],
+    );
+    println!("{faults:?}");
+    assert_eq!(faults.len(), FAULTS.len());
+}
+
+// Some of the faults together, single bytes, and random files: the lowest refusal that applies is given.
+#[test]
+fn loads_of_altered_files() {
+    let mut random = Random::new(53);
+    let mut seen = Seen::default();
+    let mut together = BTreeMap::new();
+    while seen.total() < LOADS {
+        let card = small_card(&mut random);
+        let right = Load::new(&mut random, &card);
+        for _ in 0..20 {
+            let mut load = right.clone();
+            let mut made = Vec::new();
+            for _ in 0..random.between(0, 3) {
+                let (name, number) = FAULTS[random.between(0, FAULTS.len() as u64 - 1) as usize];
+                // a fault that needs what an earlier one has cut off is left out
+                if load.file.len() >= 16 && fault(&mut random, &card, &mut load, name) {
+                    made.push(number);
+                }
+            }
+            match random.between(0, 9) {
+                0 => alter_bytes(&mut random, &mut load.file),
+                1 => load.file = random_file(&mut random, &card),
+                _ => {}
+            }
+            let answer = load.compare("an altered file");
+            seen.note("load", answer);
+            if made.len() > 1 {
+                *together.entry(answer).or_insert(0) += 1;
+            }
+        }
+    }
+    seen.report("loads", &[("load", &[0, 1, 2, 8, 9, 12, 13])]);
+    println!("with faults together, by answer: {together:?}");
+}
+
+fn alter_bytes(random: &mut Random, file: &mut [u8]) {
+    if file.is_empty() {
+        return;
+    }
+    for _ in 0..random.between(1, 3) {
+        let most = match random.between(0, 1) {
+            0 => file.len().min(16),
+            _ => file.len(),
+        };
+        file[random.between(0, most as u64 - 1) as usize] = random.next() as u8;
+    }
+}
+
+// Random bytes after a head that is right, or right but for its second count, or random too.
+fn random_file(random: &mut Random, card: &Card) -> Vec<u8> {
+    let mut file = snapshot(&card.settings, &[]);
+    match random.between(0, 3) {
+        0 => {
+            let length = random.between(0, 80);
+            return random_bytes(random, length);
+        }
+        1 => {
+            let count = random_count(random, card.settings.n.min(30));
+            set_count(&mut file[14..], count);
+        }
+        _ => {}
+    }
+    let length = match random.between(0, 1) {
+        0 => 17 * random.between(0, 30),
+        _ => random.between(0, 100),
+    };
+    file.extend(random_bytes(random, length));
+    file
+}
+
+// The safe table saves and loads as the doors do, whatever the file.
+#[test]
+fn safe_table() {
+    let mut random = Random::new(54);
+    let mut seen = Seen::default();
+    while seen.total() < THROUGH_TABLE {
+        let card = small_card(&mut random);
+        let mut load = Load::new(&mut random, &card);
+        if random.between(0, 1) == 0 {
+            let (name, _) = FAULTS[random.between(0, FAULTS.len() as u64 - 1) as usize];
+            fault(&mut random, &card, &mut load, name);
+        }
+        if random.between(0, 4) == 0 {
+            alter_bytes(&mut random, &mut load.file);
+        }
+        // lent areas of their lengths under the file's own settings
+        let of_file = file_settings(&load.file);
+        if of_file.allowed() {
+            load.areas = random_areas(&mut random, &of_file);
+            load.work = random_work(&mut random, &of_file);
+        }
+        load.settings = vec![7; 6];
+        let by_paper = load.compare("a file for a table");
+        let table = Table::load(&load.file);
+        seen.note("load", by_paper);
+        assert_eq!(
+            table.as_ref().err().copied(),
+            Refusal::from_number(by_paper)
+        );
+        if let Ok(mut table) = table {
+            assert_eq!(table.settings().numbers(), of_file.numbers());
+            assert!(table.areas().ledger[..2] == load.file[14..16]);
+            assert!(table.save() == load.file);
+        }
+    }
+    seen.report("loads through tables", &[("load", &[0, 1, 8, 9, 12, 13])]);
+}
