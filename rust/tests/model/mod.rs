@@ -10,6 +10,7 @@ pub mod hash;
 pub mod layout;
 pub mod ledger;
 pub mod lookup;
+pub mod packet;
 pub mod placing;
 pub mod records;
 pub mod settings;

@@ -1,0 +1,150 @@
+//! The packet key's door against the model: every length up to 80 with every header length, and random packets.
+
+mod made;
+mod model;
+mod random;
+mod seen;
+
+use flow::{doors, packet_key, packet_key_into, Refusal};
+use made::random_bytes;
+use model::packet as paper;
+use random::Random;
+use seen::Seen;
+
+const PACKETS: u64 = 300_000;
+const MOST_BYTES: u64 = 80;
+const ALL: &[(&str, &[u32])] = &[("packet key", &[0, 3, 10, 11])];
+const _: () = assert!(PACKETS >= 200_000);
+
+// The door and the model on a buffer with any contents, which a refusal leaves.
+fn compare(random: &mut Random, seen: &mut Seen, packet: &[u8], buffer: usize) {
+    let before = random_bytes(random, buffer as u64);
+    let mut expected = before.clone();
+    let by_paper = paper::packet_key_into(packet, &mut expected);
+    let mut after = before.clone();
+    let answer = doors::packet_key(packet, &mut after);
+    assert_eq!(
+        (answer, &after),
+        (by_paper, &expected),
+        "{packet:?} into {buffer} bytes"
+    );
+    assert!(answer == 0 || after == before);
+    seen.note("packet key", answer);
+}
+
+#[test]
+fn every_length_and_header_length() {
+    let mut random = Random::new(61);
+    let mut seen = Seen::default();
+    for length in 0..=MOST_BYTES {
+        for words in 0..16 {
+            for version in [4, 4, 0, 5, 6, 12, 15] {
+                for protocol in [6, 17, 1, 0, 7, 16, 255] {
+                    let mut packet = random_bytes(&mut random, length);
+                    if let Some(first) = packet.get_mut(0) {
+                        *first = 16 * version + words;
+                    }
+                    if let Some(byte) = packet.get_mut(9) {
+                        *byte = protocol;
+                    }
+                    compare(&mut random, &mut seen, &packet, 13);
+                }
+            }
+        }
+    }
+    seen.report(
+        "packets of every length and header length",
+        &[("packet key", &[0, 10, 11])],
+    );
+}
+
+// Mostly of version 4, with a header and ports that may just fit.
+#[test]
+fn random_packets() {
+    let mut random = Random::new(62);
+    let mut seen = Seen::default();
+    let (mut with_options, mut without_ports) = (0, 0);
+    while seen.total() < PACKETS {
+        let words = random.between(0, 15);
+        let length = match random.between(0, 3) {
+            0 => random.between(0, MOST_BYTES),
+            1 => 4 * words + random.between(0, 5),
+            2 => random.between(20, 1500),
+            _ => random.between(60, MOST_BYTES),
+        };
+        let mut packet = random_bytes(&mut random, length);
+        if length > 9 && random.between(0, 9) != 0 {
+            packet[0] = (16 * 4 + words) as u8;
+            packet[9] =
+                [6, 17, 6, 17, 1, 0, 47, 255, random.next() as u8][random.between(0, 8) as usize];
+        }
+        let buffer = match random.between(0, 9) {
+            0 => random.between(0, 40) as usize,
+            _ => 13,
+        };
+        compare(&mut random, &mut seen, &packet, buffer);
+        if paper::packet_key(&packet).is_ok() {
+            with_options += u64::from(words > 5);
+            without_ports += u64::from(packet[9] != 6 && packet[9] != 17);
+        }
+    }
+    seen.report("random packets", ALL);
+    println!(
+        "{with_options} keys of packets with options, {without_ports} of protocols without ports"
+    );
+    assert!(with_options > 0 && without_ports > 0);
+}
+
+// The key is made of the bytes it is said to be made of: another byte anywhere else makes no difference.
+#[test]
+fn bytes_that_make_the_key() {
+    let mut random = Random::new(63);
+    let (mut alike, mut other) = (0, 0);
+    for _ in 0..2_000 {
+        let words = random.between(5, 15);
+        let header = 4 * words as usize;
+        let length = 4 * words + random.between(4, 30);
+        let mut packet = random_bytes(&mut random, length);
+        packet[0] = (16 * 4 + words) as u8;
+        packet[9] = [6, 17, 1][random.between(0, 2) as usize];
+        let key = packet_key(&packet).unwrap();
+        let ports = packet[9] != 1;
+        for at in (1..packet.len()).filter(|&at| at != 9) {
+            let mut altered = packet.clone();
+            altered[at] ^= random.between(1, 255) as u8;
+            let of_key = (12..20).contains(&at) || ports && (header..header + 4).contains(&at);
+            assert_eq!(packet_key(&altered).unwrap() != key, of_key, "byte {at}");
+            if of_key {
+                other += 1;
+            } else {
+                alike += 1;
+            }
+        }
+    }
+    println!("{other} bytes that altered the key, {alike} that did not");
+    assert!(other > 0 && alike > 0);
+}
+
+// The safe calls hand on what the door says.
+#[test]
+fn safe_calls() {
+    let mut random = Random::new(64);
+    let mut seen = Seen::default();
+    for _ in 0..20_000 {
+        let mut packet = random_bytes(&mut random, 24);
+        packet[0] = 0x45 + random.between(0, 2) as u8;
+        packet[9] = random.between(5, 7) as u8;
+        let by_paper = paper::packet_key(&packet);
+        assert_eq!(packet_key(&packet).map_err(Refusal::number), by_paper);
+        let length = random.between(12, 14) as usize;
+        let mut buffer = vec![7; length];
+        let answer = packet_key_into(&packet, &mut buffer).map_err(Refusal::number);
+        match by_paper {
+            _ if length != 13 => assert_eq!((answer, buffer), (Err(3), vec![7; length])),
+            Ok(key) => assert_eq!((answer, buffer), (Ok(()), key.to_vec())),
+            Err(number) => assert_eq!((answer, buffer), (Err(number), vec![7; 13])),
+        }
+        seen.note("packet key", answer.err().unwrap_or(0));
+    }
+    seen.report("packets through the safe calls", ALL);
+}
