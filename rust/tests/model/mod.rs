@@ -6,6 +6,7 @@
 
 pub mod calls;
 pub mod card;
+pub mod flowrun;
 pub mod hash;
 pub mod layout;
 pub mod ledger;

@@ -1,0 +1,252 @@
+//! The program flowrun against the model: its whole output, on the paper's sample, on random inputs, and on input in small pieces.
+
+mod made;
+mod model;
+mod random;
+mod seen;
+
+use made::{random_class, random_key};
+use model::card::Card;
+use model::flowrun::{output, settings};
+use model::records::{Key, Record};
+use random::Random;
+use seen::Seen;
+use std::io::Write;
+use std::path::Path;
+use std::process::{Command, Stdio};
+use std::thread;
+use std::time::Duration;
+
+const INPUTS: u64 = 200;
+const IN_PIECES: u64 = 20;
+
+// The output on an input that comes in pieces of these lengths, again and again, with a pause after each if there is one.
+fn run(input: &[u8], pieces: &[usize], pause: Option<Duration>) -> String {
+    let program = Path::new(env!("CARGO_MANIFEST_DIR")).join("../target/bin/flowrun");
+    assert!(
+        program.exists(),
+        "{} is not there: run `rt check flowrun` in the repository's root first",
+        program.display()
+    );
+    let mut child = Command::new(program)
+        .stdin(Stdio::piped())
+        .stdout(Stdio::piped())
+        .stderr(Stdio::piped())
+        .spawn()
+        .unwrap();
+    let mut pipe = child.stdin.take().unwrap();
+    let (input, pieces) = (input.to_vec(), pieces.to_vec());
+    let feeder = thread::spawn(move || {
+        let mut rest = &input[..];
+        for &length in pieces.iter().cycle() {
+            let (piece, more) = rest.split_at(length.min(rest.len()));
+            pipe.write_all(piece).unwrap();
+            rest = more;
+            if rest.is_empty() {
+                return;
+            }
+            if let Some(pause) = pause {
+                thread::sleep(pause);
+            }
+        }
+    });
+    let ended = child.wait_with_output().unwrap();
+    feeder.join().unwrap();
+    assert!(ended.status.success() && ended.stderr.is_empty());
+    String::from_utf8(ended.stdout).unwrap()
+}
+
+// The program's output, which is the model's: compared line by line first, so that a failure names its call.
+fn compared(input: &[u8], pieces: &[usize], pause: Option<Duration>) -> String {
+    // both at the same time
+    let (found, expected) = thread::scope(|scope| {
+        let found = scope.spawn(|| run(input, pieces, pause));
+        let expected = output(input);
+        (found.join().unwrap(), expected)
+    });
+    for (line, by_paper) in found.lines().zip(expected.lines()) {
+        assert_eq!(line, by_paper);
+    }
+    assert!(found == expected, "{} bytes of input", input.len());
+    found
+}
+
+fn compared_whole(input: &[u8]) -> String {
+    compared(input, &[65536], None)
+}
+
+fn call(letter: u8, key: &Key, class: u32) -> [u8; 18] {
+    let mut call = [letter; 18];
+    call[1..].copy_from_slice(&Record { key: *key, class }.bytes());
+    call
+}
+
+#[test]
+fn sample_of_the_paper() {
+    let key = [1; 13];
+    let calls = [
+        (b'S', 0),
+        (b'I', 7),
+        (b'I', 8),
+        (b'S', 0),
+        (b'D', 0),
+        (b'S', 0),
+    ];
+    let input: Vec<u8> = calls
+        .iter()
+        .flat_map(|&(letter, class)| call(letter, &key, class))
+        .collect();
+    let text = "call op answer class buckets compared\n\
+                1 S 100 0 0 0\n\
+                2 I 0 7 0 0\n\
+                3 I 6 0 0 0\n\
+                4 S 0 7 1 1\n\
+                5 D 0 0 0 0\n\
+                6 S 100 0 0 0\n";
+    assert_eq!(output(&input), text);
+    assert_eq!(compared_whole(&input), text);
+}
+
+#[test]
+fn empty_input() {
+    assert_eq!(
+        compared_whole(&[]),
+        "call op answer class buckets compared\n"
+    );
+}
+
+// A left-over of each length, by itself and after calls, whatever its first byte.
+#[test]
+fn left_overs() {
+    let mut random = Random::new(71);
+    for length in 1..18 {
+        for letter in [b'I', b'S', b'X', b'?', 0] {
+            let part = call(letter, &[1; 13], 7);
+            let alone = compared_whole(&part[..length]);
+            assert!(alone.ends_with("\n1 ? 14 0 0 0\n"));
+            let mut input = call(b'I', &random.bytes(), 1).to_vec();
+            input.extend(&part[..length]);
+            let after = compared_whole(&input);
+            assert!(after.ends_with("\n2 ? 14 0 0 0\n"));
+        }
+    }
+}
+
+// Two keys for each bucket that have it alone: all 128 are held with no need of the side store.
+fn tidy_keys(random: &mut Random) -> Vec<Key> {
+    let card = Card::new(settings());
+    let mut found = vec![0; card.settings.m() as usize];
+    let mut keys = Vec::new();
+    while (keys.len() as u64) < card.settings.n {
+        let key = random.bytes();
+        let numbers = card.numbers(&key);
+        let times = &mut found[numbers[0] as usize];
+        if numbers.len() == 1 && *times < card.settings.b {
+            *times += 1;
+            keys.push(key);
+        }
+    }
+    keys
+}
+
+// The keys of an input: so few that calls meet their flows again; so many tidy ones that the capacity is reached; or others, with which the
+// side store is exhausted long before.
+fn some_keys(random: &mut Random, tidy: &[Key]) -> Vec<Key> {
+    let (tidy_ones, others) = match random.between(0, 3) {
+        0 => (0, random.between(1, 200)),
+        1 => (128, random.between(0, 4)),
+        2 => (random.between(64, 128), random.between(1, 40)),
+        _ => (random.between(1, 20), random.between(1, 100)),
+    };
+    let mut keys = tidy[..tidy_ones as usize].to_vec();
+    keys.extend((0..others).map(|_| random_key(random)));
+    keys
+}
+
+// Calls with the chances of this input, a clear now and then, and at its end a left-over or none.
+fn random_input(random: &mut Random, tidy: &[Key], calls: u64) -> Vec<u8> {
+    let keys = some_keys(random, tidy);
+    let adds = [30, 50, 70, 85, 99][random.between(0, 4) as usize];
+    let clears = random.between(0, 2);
+    let mut input = Vec::new();
+    for _ in 0..calls {
+        let letter = match random.between(0, 999) {
+            way if way < clears => b'X',
+            way if way < 10 => random.next() as u8,
+            way if way < 250 => b'S',
+            way if way < 300 => b'C',
+            _ if random.between(0, 99) < adds => b'I',
+            _ => b'D',
+        };
+        let key = match random.between(0, 99) {
+            0 => random_key(random),
+            _ => keys[random.between(0, keys.len() as u64 - 1) as usize],
+        };
+        input.extend(call(letter, &key, random_class(random)));
+    }
+    let left_over = random.between(0, 17);
+    input.extend((0..left_over).map(|_| random.next() as u8));
+    input
+}
+
+fn note(seen: &mut Seen, text: &str) {
+    for line in text.lines().skip(1) {
+        let fields: Vec<&str> = line.split(' ').collect();
+        let kind = ["I", "C", "D", "S", "X", "?"]
+            .into_iter()
+            .find(|&letter| letter == fields[1])
+            .unwrap();
+        seen.note(kind, fields[2].parse().unwrap());
+    }
+}
+
+const ALL: &[(&str, &[u32])] = &[
+    ("I", &[0, 6, 8, 9]),
+    ("C", &[0, 7]),
+    ("D", &[0, 7, 9]),
+    ("S", &[0, 100]),
+    ("X", &[0]),
+    ("?", &[14]),
+];
+
+#[test]
+fn random_inputs() {
+    let mut random = Random::new(72);
+    let mut seen = Seen::default();
+    let tidy = tidy_keys(&mut random);
+    for _ in 0..INPUTS {
+        let calls = random.between(1_000, 20_000);
+        let input = random_input(&mut random, &tidy, calls);
+        note(&mut seen, &compared_whole(&input));
+    }
+    seen.report(&format!("calls in {INPUTS} inputs"), ALL);
+}
+
+// Input that arrives in small pieces: a byte, a call, a call and a byte, and random lengths.
+#[test]
+fn input_in_pieces() {
+    let mut random = Random::new(73);
+    let mut seen = Seen::default();
+    let tidy = tidy_keys(&mut random);
+    for i in 0..IN_PIECES {
+        let pieces: Vec<usize> = match i {
+            0 => vec![1],
+            1 => vec![18],
+            2 => vec![19],
+            3 => vec![17],
+            _ => (0..40).map(|_| random.between(1, 60) as usize).collect(),
+        };
+        let calls = random.between(20, 60);
+        let input = random_input(&mut random, &tidy, calls);
+        let pause = Some(Duration::from_micros(100));
+        note(&mut seen, &compared(&input, &pieces, pause));
+        // more calls than one buffer holds, with no pause
+        let calls = random.between(4_000, 8_000);
+        let input = random_input(&mut random, &tidy, calls);
+        compared(&input, &pieces, None);
+    }
+    seen.report(
+        "calls in pieces with pauses",
+        &[("I", &[0]), ("S", &[0, 100])],
+    );
+}
