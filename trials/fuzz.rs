@@ -1,0 +1,437 @@
+//! The fuzzer's target: bytes are taken as settings, areas and a list of calls of every door. Each answer and every area is compared with
+//! the model's. A difference aborts, which the fuzzer reports with the bytes that led there.
+
+#[path = "../rust/tests/lending/mod.rs"]
+mod lending;
+#[path = "../rust/tests/model/mod.rs"]
+mod model;
+#[path = "../rust/tests/seen/mod.rs"]
+mod seen;
+
+use flow::{doors, HashTable};
+use lending::{assert_areas, door, kind, lend};
+use model::calls::{perform, Call};
+use model::card::Card;
+use model::hash;
+use model::layout::Areas;
+use model::ledger::{list_of, valid};
+use model::lookup as paper;
+use model::packet::packet_key_into;
+use model::settings::{Settings as Model, LIMITS};
+use model::snapshot::{self, snapshot};
+use seen::Seen;
+use std::sync::Mutex;
+
+// A longer list would only make a run slow.
+const MOST_CALLS: usize = 48;
+
+/// Called by libFuzzer with each of its inputs.
+///
+/// # Safety
+/// `data` points to `size` bytes.
+#[no_mangle]
+pub unsafe extern "C" fn LLVMFuzzerTestOneInput(data: *const u8, size: usize) -> i32 {
+    let input = if size == 0 {
+        &[]
+    } else {
+        std::slice::from_raw_parts(data, size)
+    };
+    if std::panic::catch_unwind(|| run(input)).is_err() {
+        std::process::abort();
+    }
+    0
+}
+
+/// Called by libFuzzer once: what was answered is printed at the end.
+#[no_mangle]
+pub extern "C" fn LLVMFuzzerInitialize(_: *mut i32, _: *mut *mut *mut u8) -> i32 {
+    extern "C" {
+        fn atexit(f: extern "C" fn()) -> i32;
+    }
+    unsafe { atexit(report) }
+}
+
+static SEEN: Mutex<Option<Seen>> = Mutex::new(None);
+
+fn note(kind: &'static str, answer: u32) {
+    let mut seen = SEEN.lock().unwrap();
+    seen.get_or_insert_with(Seen::default).note(kind, answer);
+}
+
+extern "C" fn report() {
+    if let Ok(Some(seen)) = SEEN.lock().as_deref() {
+        seen.report("calls, by answer", &[]);
+    }
+}
+
+fn run(input: &[u8]) {
+    let mut bytes = Bytes(input);
+    let mut trial = Trial::start(&mut bytes);
+    for _ in 0..MOST_CALLS {
+        if bytes.0.is_empty() {
+            return;
+        }
+        trial.call(&mut bytes);
+    }
+}
+
+// The input as far as it is not taken; zeros after its end.
+struct Bytes<'a>(&'a [u8]);
+
+impl Bytes<'_> {
+    fn next(&mut self) -> u8 {
+        match self.0.split_first() {
+            None => 0,
+            Some((&byte, rest)) => {
+                self.0 = rest;
+                byte
+            }
+        }
+    }
+
+    fn number(&mut self, most: usize) -> usize {
+        let (high, low) = (self.next(), self.next());
+        (256 * usize::from(high) + usize::from(low)) % (most + 1)
+    }
+
+    fn take(&mut self, length: usize) -> Vec<u8> {
+        (0..length).map(|_| self.next()).collect()
+    }
+
+    // A setting: mostly small, now and then anywhere in its range, or out of it.
+    fn setting(&mut self, i: usize) -> u64 {
+        let (low, high) = LIMITS[i];
+        let small = [6, 4, 4, 15, 40, 9][i].min(high);
+        match self.next() {
+            255 => [u64::MAX, high + 1, low.wrapping_sub(1), (1 << 32) + low][self.number(3)],
+            254 => low + self.number((high - low) as usize) as u64,
+            byte => low + u64::from(byte) % (small - low + 1),
+        }
+    }
+
+    fn settings(&mut self) -> Model {
+        Model::of([0, 1, 2, 3, 4, 5].map(|i| self.setting(i)))
+    }
+
+    // One of a few keys, so that calls meet their flows again; or any; or one of a wrong length.
+    fn key(&mut self) -> Vec<u8> {
+        match self.next() {
+            255 => {
+                let length = self.number(30);
+                self.take(length)
+            }
+            254 => self.take(13),
+            byte => (0..13)
+                .map(|a| (byte % 64).wrapping_mul(2 * a + 1))
+                .collect(),
+        }
+    }
+
+    fn class(&mut self) -> u32 {
+        u32::from(self.next()) * 0x0101_0001
+    }
+}
+
+struct Trial {
+    card: Card,
+    areas: Areas,
+    hash_table: HashTable,
+}
+
+impl Trial {
+    // Areas of their lengths with a byte everywhere, or cleared.
+    fn start(bytes: &mut Bytes) -> Trial {
+        let settings = bytes.settings();
+        let lengths = match settings.allowed() {
+            true => settings.area_lengths().map(|length| length as usize),
+            false => [0, 1, 2, 3, 4, 5].map(|_| bytes.number(40)),
+        };
+        let byte = bytes.next();
+        let mut trial = Trial {
+            card: Card::new(settings),
+            areas: Areas {
+                ledger: vec![byte; lengths[0]],
+                true_counts: vec![u16::from(byte); lengths[1]],
+                clipped: vec![byte; lengths[2]],
+                buckets: vec![byte; lengths[3]],
+                side: vec![byte; lengths[4]],
+            },
+            hash_table: HashTable::new(),
+        };
+        if byte % 8 != 1 {
+            trial.update(bytes, &Call::Clear);
+        }
+        trial
+    }
+
+    fn call(&mut self, bytes: &mut Bytes) {
+        match bytes.next() % 32 {
+            0 => self.update(bytes, &Call::Clear),
+            1..=8 => {
+                let call = Call::Add(bytes.key(), bytes.class());
+                self.update(bytes, &call);
+            }
+            9 | 10 => {
+                let call = Call::Change(bytes.key(), bytes.class());
+                self.update(bytes, &call);
+            }
+            11..=14 => {
+                let call = Call::Remove(bytes.key());
+                self.update(bytes, &call);
+            }
+            15..=18 => self.search(bytes),
+            19 => self.tally(bytes),
+            20 | 21 => self.save(bytes),
+            22..=24 => self.load(bytes),
+            25 => packet(bytes),
+            26 => self.settings(bytes),
+            27 => self.hash(bytes),
+            28 => self.other_length(bytes),
+            _ => self.other_byte(bytes),
+        }
+    }
+
+    // A work area of its length with the next byte everywhere, or of another length.
+    fn work(&self, bytes: &mut Bytes) -> Vec<u16> {
+        let length = match self.card.settings.allowed() {
+            true => self.card.settings.area_lengths()[5] as usize,
+            false => 8,
+        };
+        match bytes.next() {
+            255 => vec![1; bytes.number(2 * length)],
+            byte => vec![u16::from(byte) * 257; length],
+        }
+    }
+
+    fn update(&mut self, bytes: &mut Bytes, call: &Call) {
+        let mut work = match call {
+            Call::Clear => Vec::new(),
+            _ => self.work(bytes),
+        };
+        let mut expected = self.areas.clone();
+        let by_paper = perform(&self.card, &mut expected, work.len(), call);
+        let settings = &self.card.settings;
+        let answer = door(settings, &mut self.areas, &mut work, call);
+        assert_eq!(answer, by_paper, "{settings:?}, {call:?}");
+        assert_areas(&self.areas, &expected, settings, call);
+        note(kind(call), answer);
+    }
+
+    fn search(&mut self, bytes: &mut Bytes) {
+        let key = bytes.key();
+        let numbers = self.card.settings.numbers();
+        let paper::Lookup {
+            clipped,
+            buckets,
+            side,
+        } = self.areas.lookup();
+        let table = self.hash_table.entries();
+        let by_paper = paper::search(&self.card, self.areas.lookup(), &key).door();
+        let whole = doors::search(numbers, clipped, buckets, side, &key);
+        let lent = doors::search_lent(table, numbers, clipped, buckets, side, &key);
+        assert_eq!((whole, lent), (by_paper, by_paper), "{numbers:?}, {key:?}");
+        note("search", (whole >> 32) as u32);
+    }
+
+    fn tally(&mut self, bytes: &mut Bytes) {
+        let Areas {
+            ledger,
+            clipped,
+            buckets,
+            side,
+            ..
+        } = &self.areas;
+        let length = match bytes.next() {
+            255 => bytes.number(8),
+            _ => 4,
+        };
+        let mut totals = vec![7; length];
+        let numbers = self.card.settings.numbers();
+        let answer = doors::tally(numbers, ledger, clipped, buckets, side, &mut totals);
+        let (by_paper, expected) = match paper::tally(&self.card, ledger, self.areas.lookup()) {
+            Err(1) => (1, vec![7; length]),
+            _ if length != 4 => (2, vec![7; length]),
+            Err(number) => (number, vec![7; 4]),
+            Ok(t) => (
+                0,
+                [t.in_buckets, t.in_side, t.marked_255, t.fill]
+                    .map(|total| total as u32)
+                    .to_vec(),
+            ),
+        };
+        assert_eq!((answer, totals), (by_paper, expected), "{numbers:?}");
+        note("tally", answer);
+    }
+
+    fn save(&mut self, bytes: &mut Bytes) {
+        let mut work = self.work(bytes);
+        let ledger = &self.areas.ledger;
+        let count = ledger.get(..2).map_or(0, model::records::count) as usize;
+        let length = match bytes.next() {
+            255 => bytes.number(100),
+            _ => 16 + 17 * count,
+        };
+        let mut target = vec![7; length];
+        let mut expected = target.clone();
+        let by_paper = snapshot::save(&self.card, ledger, work.len(), &mut expected);
+        let numbers = self.card.settings.numbers();
+        let answer = doors::save(numbers, ledger, &mut work, &mut target);
+        assert_eq!((answer, target), (by_paper, expected), "{numbers:?}");
+        note("save", answer);
+    }
+
+    // The snapshot of what the ledger holds, with some bytes altered, cut or extended; or any bytes. A file that loads becomes the table.
+    fn load(&mut self, bytes: &mut Bytes) {
+        let settings = self.card.settings;
+        let mut file = match bytes.next() % 4 {
+            0 => {
+                let length = bytes.number(80);
+                bytes.take(length)
+            }
+            _ if settings.allowed()
+                && self.areas.fit(&settings, None)
+                && valid(&settings, &self.areas.ledger) =>
+            {
+                snapshot(&settings, &list_of(&self.areas.ledger))
+            }
+            _ => snapshot(&settings, &[]),
+        };
+        for _ in 0..bytes.next() % 4 {
+            let at = bytes.number(file.len());
+            match bytes.next() {
+                0 => file.truncate(at),
+                1 => file.push(bytes.next()),
+                _ if at < file.len() => file[at] = bytes.next(),
+                _ => file.extend(bytes.take(17)),
+            }
+        }
+        let mut work = self.work(bytes);
+        let mut numbers = match bytes.next() {
+            255 => vec![7; bytes.number(10)],
+            _ => vec![7; 6],
+        };
+        let (mut expected, mut by_paper) = (self.areas.clone(), numbers.clone());
+        let number = snapshot::load(&file, &mut expected, work.len(), &mut by_paper);
+        let answer = doors::load(&file, lend(&mut self.areas), &mut work, &mut numbers);
+        assert_eq!((answer, &numbers), (number, &by_paper), "{file:?}");
+        assert_areas(&self.areas, &expected, &settings, &file);
+        note("load", answer);
+        if answer == 0 {
+            self.card = Card::new(Model::of(numbers.try_into().unwrap()));
+        }
+    }
+
+    // Other settings, whose areas are not made anew; and their verdict and lengths.
+    fn settings(&mut self, bytes: &mut Bytes) {
+        let settings = bytes.settings();
+        let numbers = settings.numbers();
+        let mut lengths = vec![7; bytes.number(1) + 5];
+        let (check, answer) = (
+            doors::settings_check(numbers),
+            doors::area_lengths(numbers, &mut lengths),
+        );
+        let expected = match (settings.allowed(), lengths.len()) {
+            (false, length) => (1, 1, vec![7; length]),
+            (true, 6) => (0, 0, settings.area_lengths().to_vec()),
+            (true, length) => (0, 2, vec![7; length]),
+        };
+        assert_eq!((check, answer, lengths), expected, "{numbers:?}");
+        note("area lengths", answer);
+        if bytes.next() % 4 == 0 {
+            self.card = Card::new(settings);
+        }
+    }
+
+    fn hash(&mut self, bytes: &mut Bytes) {
+        let key = bytes.key();
+        let settings = &self.card.settings;
+        let (mut h, mut hashes, mut numbers) = ([7, 7], [7; 4], [7; 5]);
+        let answers = [
+            doors::hash(&key, &mut h[..1]),
+            doors::hash_lent(self.hash_table.entries(), &key, &mut h[1..]),
+            doors::key_buckets(settings.numbers(), &key, &mut hashes, &mut numbers),
+        ];
+        note("key buckets", answers[2]);
+        let allowed = settings.allowed();
+        let key: [u8; 13] = match key.try_into() {
+            Ok(key) => key,
+            Err(_) => {
+                assert_eq!(answers, [3, 3, if allowed { 3 } else { 1 }]);
+                assert_eq!((h, hashes, numbers), ([7; 2], [7; 4], [7; 5]));
+                return;
+            }
+        };
+        let by_paper = hash::h(&hash::rows(), &key);
+        assert_eq!(answers, [0, 0, if allowed { 0 } else { 1 }]);
+        assert_eq!(h, [by_paper; 2]);
+        if allowed {
+            let by_j = [0, 1, 2, 3].map(|j| hash::hash_j(settings, by_paper, j));
+            assert_eq!(hashes.map(u64::from), by_j);
+            let mut expected = hash::bucket_numbers(settings, by_paper);
+            expected.insert(0, expected.len() as u64);
+            expected.resize(5, 0);
+            assert!(numbers.iter().map(|&b| u64::from(b)).eq(expected));
+        }
+    }
+
+    fn other_length(&mut self, bytes: &mut Bytes) {
+        let area = bytes.next() % 5;
+        let other = |length: usize, bytes: &mut Bytes| match bytes.next() % 4 {
+            0 => length + 1,
+            1 => length.saturating_sub(1),
+            _ => bytes.number(length + 20),
+        };
+        let Areas {
+            ledger,
+            true_counts,
+            clipped,
+            buckets,
+            side,
+        } = &mut self.areas;
+        match area {
+            0 => ledger.resize(other(ledger.len(), bytes), 0),
+            1 => true_counts.resize(other(true_counts.len(), bytes), 0),
+            2 => clipped.resize(other(clipped.len(), bytes), 0),
+            3 => buckets.resize(other(buckets.len(), bytes), 0),
+            _ => side.resize(other(side.len(), bytes), 0),
+        }
+    }
+
+    // Another byte somewhere, more often at the start of the area.
+    fn other_byte(&mut self, bytes: &mut Bytes) {
+        let Areas {
+            ledger,
+            clipped,
+            buckets,
+            side,
+            ..
+        } = &mut self.areas;
+        let area = [ledger, clipped, buckets, side][usize::from(bytes.next() % 4)].as_mut_slice();
+        if !area.is_empty() {
+            let most = match bytes.next() % 2 {
+                0 => area.len().min(40) - 1,
+                _ => area.len() - 1,
+            };
+            area[bytes.number(most)] = bytes.next();
+        }
+    }
+}
+
+fn packet(bytes: &mut Bytes) {
+    let length = bytes.number(80);
+    let mut packet = bytes.take(length);
+    // mostly of version 4, often with ports
+    if length >= 20 && bytes.next() % 8 != 0 {
+        packet[0] = 64 + packet[0] % 16;
+        packet[9] = [packet[9], 6, 17][bytes.number(2)];
+    }
+    let mut key = match bytes.next() {
+        255 => vec![7; bytes.number(20)],
+        _ => vec![7; 13],
+    };
+    let mut expected = key.clone();
+    let by_paper = packet_key_into(&packet, &mut expected);
+    let answer = doors::packet_key(&packet, &mut key);
+    assert_eq!((answer, key), (by_paper, expected), "{packet:?}");
+    note("packet key", answer);
+}
