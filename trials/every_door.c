@@ -1,0 +1,405 @@
+/* Every door with areas that malloc has made of exactly their lengths: as malloc leaves them where their contents are free, random bytes
+ * where they may be damaged, and of wrong lengths. Under valgrind (bin/memcheck) this shows a read or write outside an area, and an answer or
+ * an area afterwards that depends on contents said to be free. What is answered is compared with the model elsewhere; here only where it is
+ * plain. */
+#include "flow.h"
+#include <inttypes.h>
+#include <stdio.h>
+#include <stdlib.h>
+#include <string.h>
+
+enum { TABLES = 2000, CALLS = 60, PACKETS = 20000, MOST_ANSWER = 100 };
+
+/* splitmix64 */
+static uint64_t state = 91;
+
+static uint64_t next(void)
+{
+    uint64_t z = state += 0x9e3779b97f4a7c15;
+    z = (z ^ z >> 30) * 0xbf58476d1ce4e5b9;
+    z = (z ^ z >> 27) * 0x94d049bb133111eb;
+    return z ^ z >> 31;
+}
+
+static uint64_t between(uint64_t low, uint64_t high) { return low + next() % (high - low + 1); }
+
+static void fail(const char *what)
+{
+    fprintf(stderr, "every_door: %s\n", what);
+    exit(1);
+}
+
+/* How often each answer came. */
+static uint64_t answers[MOST_ANSWER + 1];
+
+static uint32_t note(uint32_t answer)
+{
+    if (answer > MOST_ANSWER) {
+        fail("an answer that is none");
+    }
+    answers[answer]++;
+    return answer;
+}
+
+/* An area of so many numbers of 1, 2, 4 or 8 bytes. */
+struct area {
+    void *at;
+    size_t length;
+    size_t size;
+};
+
+static struct area lend(size_t length, size_t size)
+{
+    struct area area = {malloc(length * size), length, size};
+    if (area.at == NULL) {
+        fail("no memory");
+    }
+    return area;
+}
+
+static struct area random_area(size_t length, size_t size)
+{
+    struct area area = lend(length, size);
+    for (size_t i = 0; i < length * size; i++) {
+        ((uint8_t *)area.at)[i] = (uint8_t)next();
+    }
+    return area;
+}
+
+/* The contents lie in new memory of another length; more of them are as malloc leaves them. */
+static void resize(struct area *area, size_t length)
+{
+    struct area other = lend(length, area->size);
+    memcpy(other.at, area->at, area->size * (length < area->length ? length : area->length));
+    free(area->at);
+    *area = other;
+}
+
+static void wrong_length(struct area *area)
+{
+    size_t n = area->length;
+    size_t other[] = {0, n - 1, n + 1, n + 17, 2 * n, between(0, 2 * n + 2)};
+    size_t length = other[between(0, 5)];
+    resize(area, length == n || length > 4 * n ? n + 1 : length);
+}
+
+/* valgrind speaks up where a byte that was never written decides on a branch. */
+static void look_at(const void *at, size_t bytes)
+{
+    static volatile unsigned zeros;
+    for (size_t i = 0; i < bytes; i++) {
+        if (((const uint8_t *)at)[i] == 0) {
+            zeros++;
+        }
+    }
+}
+
+/* A table: settings, and the five areas and work in the order of the doors. */
+static uint64_t settings[6];
+static struct area areas[6];
+static uint64_t table[3328];
+static const size_t sizes[6] = {1, 2, 1, 1, 1, 2};
+
+#define SETTINGS settings[0], settings[1], settings[2], settings[3], settings[4], settings[5]
+#define LENT(area) (area).at, (area).length
+#define LOOKUP LENT(areas[2]), LENT(areas[3]), LENT(areas[4])
+#define AREAS LENT(areas[0]), LENT(areas[1]), LOOKUP
+
+static void make_areas(void)
+{
+    uint64_t lengths[6];
+    if (flow_area_lengths(SETTINGS, lengths, 6) != 0) {
+        fail("settings in range are refused");
+    }
+    for (int i = 0; i < 6; i++) {
+        areas[i] = lend(lengths[i], sizes[i]);
+    }
+}
+
+static void free_areas(void)
+{
+    for (int i = 0; i < 6; i++) {
+        free(areas[i].at);
+    }
+}
+
+/* As malloc leaves it: all areas but the ledger, which an update reads. */
+static void forget_all_but_ledger(void)
+{
+    for (int i = 1; i < 6; i++) {
+        free(areas[i].at);
+        areas[i] = lend(areas[i].length, sizes[i]);
+    }
+}
+
+static void look_at_areas(void)
+{
+    for (int i = 0; i < 5; i++) {
+        look_at(areas[i].at, areas[i].length * areas[i].size);
+    }
+}
+
+/* One of a few keys, or any, or one of a wrong length. */
+static struct area some_key(void)
+{
+    struct area key = random_area(13, 1);
+    uint64_t way = between(0, 19);
+    if (way > 2) {
+        memset(key.at, (int)between(1, 30), 13);
+    }
+    if (way == 0) {
+        wrong_length(&key);
+    }
+    return key;
+}
+
+/* 0 when a table with a layout took the call, whose areas then are all written. */
+static uint32_t update(void)
+{
+    struct area key = some_key();
+    uint32_t class = (uint32_t)next();
+    uint32_t answer = 0;
+    switch (between(0, 5)) {
+    case 0:
+        answer = flow_change(SETTINGS, AREAS, LENT(areas[5]), LENT(key), class);
+        break;
+    case 1:
+        answer = flow_remove(SETTINGS, AREAS, LENT(areas[5]), LENT(key));
+        break;
+    default:
+        answer = flow_add(SETTINGS, AREAS, LENT(areas[5]), LENT(key), class);
+    }
+    free(key.at);
+    return note(answer);
+}
+
+static void search(void)
+{
+    struct area key = some_key();
+    uint64_t found = flow_search(SETTINGS, LOOKUP, LENT(key));
+    if (flow_search_lent(table, 3328, SETTINGS, LOOKUP, LENT(key)) != found) {
+        fail("the two searches differ");
+    }
+    note((uint32_t)(found >> 32));
+    free(key.at);
+}
+
+static void tally(void)
+{
+    struct area totals = lend(between(0, 9) == 0 ? 3 : 4, 4);
+    uint32_t answer = flow_tally(SETTINGS, LENT(areas[0]), LOOKUP, LENT(totals));
+    if (note(answer) == 0) {
+        look_at(totals.at, 16);
+    }
+    free(totals.at);
+}
+
+static void key_buckets(void)
+{
+    struct area key = some_key(), h = lend(1, 8), hashes = lend(4, 2), numbers = lend(5, 2);
+    if (note(flow_hash(LENT(key), LENT(h))) == 0) {
+        look_at(h.at, 8);
+    }
+    if (note(flow_hash_lent(table, 3328, LENT(key), LENT(h))) == 0) {
+        look_at(h.at, 8);
+    }
+    if (note(flow_key_buckets(SETTINGS, LENT(key), LENT(hashes), LENT(numbers))) == 0) {
+        look_at(hashes.at, 8);
+        look_at(numbers.at, 10);
+    }
+    free(key.at);
+    free(h.at);
+    free(hashes.at);
+    free(numbers.at);
+}
+
+/* Six numbers come back, whatever the file. */
+static uint32_t load(struct area file)
+{
+    struct area handed_back = lend(6, 8);
+    uint32_t answer = flow_load(LENT(file), AREAS, LENT(areas[5]), LENT(handed_back));
+    look_at(handed_back.at, 48);
+    free(handed_back.at);
+    return note(answer);
+}
+
+/* Cut, extended, or with other bytes. */
+static void alter(struct area *file)
+{
+    struct area longer;
+    switch (between(0, 3)) {
+    case 0:
+        resize(file, between(0, file->length - 1));
+        break;
+    case 1:
+        longer = random_area(file->length + between(1, 20), 1);
+        memcpy(longer.at, file->at, file->length);
+        free(file->at);
+        *file = longer;
+        break;
+    default:
+        for (uint64_t i = between(1, 3); i > 0; i--) {
+            ((uint8_t *)file->at)[between(0, file->length - 1)] = (uint8_t)next();
+        }
+    }
+}
+
+/* What is saved loads back as the same ledger; altered it may be refused. */
+static void save_and_load(void)
+{
+    const uint8_t *ledger = areas[0].at;
+    struct area file = lend(16 + 17 * (256 * (size_t)ledger[0] + ledger[1]), 1), before = lend(areas[0].length, 1);
+    memcpy(before.at, areas[0].at, before.length);
+    if (between(0, 9) == 0) {
+        wrong_length(&file);
+    }
+    if (note(flow_save(SETTINGS, LENT(areas[0]), LENT(areas[5]), LENT(file))) == 0) {
+        look_at(file.at, file.length);
+        struct area altered = lend(file.length, 1);
+        memcpy(altered.at, file.at, file.length);
+        alter(&altered);
+        load(altered);
+        free(altered.at);
+        forget_all_but_ledger();
+        memset(areas[0].at, 0xff, areas[0].length);
+        if (load(file) == 0 && memcmp(before.at, areas[0].at, before.length) != 0) {
+            fail("another ledger comes back");
+        }
+        look_at_areas();
+    }
+    free(file.at);
+    free(before.at);
+}
+
+/* Calls on a table: areas with a layout, or as malloc leaves them where an update does not read them. */
+static void calls_on_a_table(void)
+{
+    make_areas();
+    if (note(flow_clear(SETTINGS, AREAS)) != 0) {
+        fail("clear is refused");
+    }
+    look_at_areas();
+    for (int i = 0; i < CALLS; i++) {
+        switch (between(0, 9)) {
+        case 0:
+            search();
+            break;
+        case 1:
+            tally();
+            break;
+        case 2:
+            save_and_load();
+            break;
+        case 3:
+            key_buckets();
+            break;
+        default:
+            if (update() == 0) {
+                look_at_areas();
+            }
+        }
+    }
+    /* an accepted update repairs all from the ledger alone */
+    forget_all_but_ledger();
+    if (update() == 0) {
+        look_at_areas();
+    }
+    free_areas();
+}
+
+/* Random bytes after a head that may be right. */
+static void any_file(void)
+{
+    struct area file = random_area(between(0, 60), 1), handed_back = lend(5, 8);
+    if (file.length >= 16 && between(0, 2) != 0) {
+        uint8_t *head = file.at;
+        for (int i = 0; i < 8; i++) {
+            uint64_t number = i == 0 ? 6 : i == 7 ? between(0, 3) : settings[i - 1];
+            head[2 * i] = (uint8_t)(number >> 8);
+            head[2 * i + 1] = (uint8_t)number;
+        }
+    }
+    load(file);
+    note(flow_load(LENT(file), AREAS, LENT(areas[5]), LENT(handed_back)));
+    free(file.at);
+    free(handed_back.at);
+}
+
+/* Random bytes in the areas, some of them of wrong lengths, and now and then a setting out of range. */
+static void calls_on_any_areas(void)
+{
+    make_areas();
+    for (int i = 0; i < 6; i++) {
+        size_t length = areas[i].length;
+        free(areas[i].at);
+        areas[i] = random_area(length, sizes[i]);
+    }
+    ((uint8_t *)areas[0].at)[0] = 0;
+    ((uint8_t *)areas[4].at)[0] = 0;
+    if (between(0, 2) != 0) {
+        memset(areas[2].at, 0x11, areas[2].length);
+    }
+    if (between(0, 2) == 0) {
+        wrong_length(&areas[between(0, 5)]);
+    }
+    if (between(0, 4) == 0) {
+        settings[between(0, 5)] = between(0, 1) == 0 ? 100000 : UINT64_MAX;
+    }
+    for (int i = 0; i < CALLS / 4; i++) {
+        update();
+        search();
+        tally();
+        key_buckets();
+        any_file();
+        struct area target = lend(between(0, 60), 1);
+        note(flow_save(SETTINGS, LENT(areas[0]), LENT(areas[5]), LENT(target)));
+        free(target.at);
+    }
+    note(flow_clear(SETTINGS, AREAS));
+    free_areas();
+}
+
+static void packets(void)
+{
+    for (int i = 0; i < PACKETS; i++) {
+        struct area packet = random_area((size_t)i % 81, 1), key = lend(i % 7 == 0 ? between(0, 20) : 13, 1);
+        uint8_t *bytes = packet.at;
+        if (packet.length > 9 && i % 5 != 0) {
+            bytes[0] = (uint8_t)(0x40 + between(3, 15));
+            bytes[9] = (uint8_t[]){6, 17, 1}[between(0, 2)];
+        }
+        if (note(flow_packet_key(LENT(packet), LENT(key))) == 0) {
+            look_at(key.at, 13);
+        }
+        free(packet.at);
+        free(key.at);
+    }
+}
+
+int main(void)
+{
+    static const uint64_t most[6] = {6, 4, 4, 15, 24, 5}, least[6] = {4, 1, 1, 2, 1, 0};
+    if (flow_hash_table(table, 3328) != 0 || flow_hash_table(table, 3327) != 2) {
+        fail("the hash table");
+    }
+    for (int i = 0; i < TABLES; i++) {
+        for (int j = 0; j < 6; j++) {
+            settings[j] = between(least[j], most[j]);
+        }
+        if (flow_settings_check(SETTINGS) != 0) {
+            fail("settings in range are refused");
+        }
+        if (i % 2 == 0) {
+            calls_on_a_table();
+        } else {
+            calls_on_any_areas();
+        }
+    }
+    packets();
+    for (int i = 0; i <= MOST_ANSWER; i++) {
+        if (answers[i] > 0) {
+            printf("answer %d: %" PRIu64 "\n", i, answers[i]);
+        }
+    }
+    return 0;
+}
