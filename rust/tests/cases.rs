@@ -32,6 +32,16 @@ fn zero_key() {
 }
 
 #[test]
+fn table_gives_h() {
+    let rows = hash::rows();
+    let mut random = Random::new(7);
+    for _ in 0..10_000 {
+        let key: Key = random.bytes();
+        assert_eq!(hash::h_by_table(&key), hash::h(&rows, &key));
+    }
+}
+
+#[test]
 fn buckets_1_5_and_1_6() {
     let both = placed(1, 15, &[&[1, 5], &[1, 6]]);
     assert_eq!(both.choosers[5], [0]);

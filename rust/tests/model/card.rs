@@ -1,4 +1,4 @@
-//! Settings with the rows that they hash by: what placing, layout and search go by.
+//! Settings with the hash: what placing, layout and search go by.
 
 use super::hash;
 use super::records::Key;
@@ -6,20 +6,16 @@ use super::settings::Settings;
 
 pub struct Card {
     pub settings: Settings,
-    rows: Vec<u64>,
 }
 
 impl Card {
     pub fn new(settings: Settings) -> Card {
-        Card {
-            settings,
-            rows: hash::rows(),
-        }
+        Card { settings }
     }
 
     /// A key's bucket numbers.
     pub fn numbers(&self, key: &Key) -> Vec<u64> {
-        hash::bucket_numbers(&self.settings, hash::h(&self.rows, key))
+        hash::bucket_numbers(&self.settings, hash::h_by_table(key))
     }
 
     /// The bytes of one bucket: a mark, then B places.

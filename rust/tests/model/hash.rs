@@ -44,6 +44,18 @@ pub fn table_entry(rows: &[u64], a: usize, v: u8) -> u64 {
     h(rows, &key)
 }
 
+/// H with one read a byte.
+pub fn h_by_table(key: &[u8; KEY_BYTES]) -> u64 {
+    thread_local! {
+        static TABLE: Vec<u64> = {
+            let rows = rows();
+            let entries = (0..KEY_BYTES).flat_map(|a| (0..=255).map(move |v| (a, v)));
+            entries.map(|(a, v)| table_entry(&rows, a, v)).collect()
+        };
+    }
+    TABLE.with(|table| (0..KEY_BYTES).fold(0, |h, a| h ^ table[256 * a + usize::from(key[a])]))
+}
+
 /// Hash j of a key whose H is h.
 pub fn hash_j(settings: &Settings, h: u64, j: u32) -> u64 {
     (h / 2u64.pow(16 * j)) % settings.m()
