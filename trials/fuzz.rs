@@ -101,7 +101,7 @@ impl Bytes<'_> {
     // A setting: mostly small, now and then anywhere in its range, or out of it.
     fn setting(&mut self, i: usize) -> u64 {
         let (low, high) = LIMITS[i];
-        let small = [6, 4, 4, 15, 40, 9][i].min(high);
+        let small = [6, 4, 4, 15, 40, 9][i];
         match self.next() {
             255 => [u64::MAX, high + 1, low.wrapping_sub(1), (1 << 32) + low][self.number(3)],
             254 => low + self.number((high - low) as usize) as u64,
