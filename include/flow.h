@@ -11,8 +11,8 @@
  *   capacity     1 to 4096 flows held
  *   side_places  0 to 64 records in the side store
  *
- * A door answers 0, or the number of a refusal; where several apply, the lowest. A search that finds nothing answers 100. A refused call
- * alters no area but work.
+ * A door answers 0, or the number of a refusal; where several apply, the lowest (flow_load has its own order). A search that finds nothing
+ * answers 100. A refused call alters no area but work, and flow_load sets its settings to zeros.
  *   1  a setting is out of range
  *   2  a lent area is not of its length
  *   3  a key, or a buffer for a packet's key, is not of 13 bytes
@@ -21,10 +21,12 @@
  *      side count is above the side places
  *   6  the key to add is held
  *   7  the key to change or to remove is not held
- *   8  a flow is to be added, and the capacity is reached
+ *   8  a flow is to be added, and the capacity is reached; or a file has more records than its capacity
  *   9  after the call more flows would belong to the side store than it has places
  *  10  the packet's header is wrong: it has under 20 bytes, its version is not 4, or its header length is under 20 or beyond the packet
  *  11  the packet's protocol is 6 or 17, and under 4 bytes follow its header
+ *  12  a file is cut, overlong or does not start with the count 6; or the target of a save is not of the file's length
+ *  13  the keys of a file do not rise
  *
  * The areas that hold a table, with a record of 17 bytes: a key of 13, then its class in 4, high byte first:
  *   ledger          2 + 17 * capacity bytes: a two-byte count, high byte first, records in rising key order, zeros
@@ -150,6 +152,29 @@ uint32_t flow_remove(uint64_t p, uint64_t k, uint64_t room, uint64_t top, uint64
  *    header, options skipped, for protocols 6 and 17, and zeros for others.
  * 3: key is not of 13 bytes. 10: the packet's header is wrong. 11: its ports are missing. */
 uint32_t flow_packet_key(const uint8_t *packet, size_t packet_length, uint8_t *key, size_t key_length);
+
+/* Saves a table's flows as a file: its settings and its records. Lent: ledger, of its length under the settings, which is only read; work, of its
+ * length; target, of 16 + 17 * n bytes, where n is the ledger's count.
+ * 0: target holds the snapshot: the count 6, the six settings in their order, the count n, all in two bytes with the high byte first; then the
+ *    ledger's records.
+ * 1: a setting is out of range. 2: ledger or work is not of its length. 4: the ledger is damaged. 9: the side store does not suffice for its
+ *    flows, which on areas that hold a layout does not occur. 12: target is not of its length. */
+uint32_t flow_save(uint64_t p, uint64_t k, uint64_t room, uint64_t top, uint64_t capacity, uint64_t side_places,
+                   const uint8_t *ledger, size_t ledger_length, uint16_t *work, size_t work_length, uint8_t *target,
+                   size_t target_length);
+
+/* Loads a file that flow_save wrote. Lent: file, which is only read; the five areas and work, of their lengths under the file's settings, with
+ * any contents; settings, of 6 numbers. A caller that does not know the file's settings reads them from the
+ * file's head (two bytes each, from byte 2 on) and asks flow_area_lengths for the lengths.
+ * 0: every area holds the layout of the file's flows, and settings the file's six settings.
+ * 12: the file is shorter than 16 bytes or does not start with the count 6; or, after 1, 2 and 8, it is not of 16 + 17 * n bytes.
+ * 1: a setting of the file is out of range. 2: an area or work is not of its length, or settings not of 6 numbers. 8: the file has more
+ *    records than its capacity. 13: its keys do not rise. 9: the side store does not suffice for its flows.
+ * Refused, the areas are as they were and settings is zeros; a settings area of another length is left as it was. */
+uint32_t flow_load(const uint8_t *file, size_t file_length, uint8_t *ledger, size_t ledger_length, uint16_t *true_counts,
+                   size_t true_counts_length, uint8_t *clipped, size_t clipped_length, uint8_t *buckets, size_t buckets_length,
+                   uint8_t *side, size_t side_length, uint16_t *work, size_t work_length, uint64_t *settings,
+                   size_t settings_length);
 
 #ifdef __cplusplus
 }
