@@ -2,7 +2,7 @@
 use mathlib.Core.Path.{_≡_}
 use mathlib.Core.Bool.{Bool, cond, _&&_}
 use mathlib.Core.List.{List, [], _∷_, _++_, map}
-use Prim.Native.Nat.{ℕ, _-_, _^_}
+use Prim.Native.Nat.{ℕ, _-_, _*_, _^_}
 use lib.Dec.{eqb}
 use lib.ListN.{length, replicate}
 use Rattle.theory.specs.Lists.{upto}
@@ -54,7 +54,7 @@ area-lengths-of t lengths =
 
 -- 2 when the area is not of 3,328 numbers; else the table: for each of 13 byte positions an entry for each of 256 byte values
 unfoldable pub hash-table-of : List ℕ → Filled
-hash-table-of table = unless (eqb (length table) 3328) (refused 2 table) (filled (table-entries key-width))
+hash-table-of table = unless (eqb (length table) (256 * key-width)) (refused 2 table) (filled (table-entries key-width))
 
 -- 2 when the area is not of 1 number; 3 when the key is not of 13 bytes; else H of the key
 unfoldable pub hash-of : List ℕ → List ℕ → Filled
@@ -62,7 +62,7 @@ hash-of key h = unless (eqb (length h) 1) (refused 2 h) (unless (eqb (length key
 
 -- the same with a lent table: 2 also when the table is not of 3,328 numbers
 unfoldable pub hash-lent-of : List ℕ → List ℕ → List ℕ → Filled
-hash-lent-of table key h = unless (eqb (length table) 3328) (refused 2 h) (hash-of key h)
+hash-lent-of table key h = unless (eqb (length table) (256 * key-width)) (refused 2 h) (hash-of key h)
 
 -- what the door with a lent table promises of its number and of the area at exit
 pub record HashedLent (table key before : List ℕ) (number : ℕ) (after : List ℕ) : Type 0 where

@@ -79,7 +79,7 @@ fn write_lengths(s: Settings, lengths: &mut [u64])
 pub extern "C" fn flow_hash_table(table: &mut [u64]) -> u32
     ensures { λ r. ⌜ _≡_ {A = Filled} (record { number = r; area = now (table .exit) }) (hash-table-of (now (table .entry))) ⌝ }
 {
-    if table.len() != 3328 {
+    if table.len() != hash::TABLE_LENGTH {
         return 2;
     }
     hash::fill_table(&mut table[..]);
@@ -106,7 +106,7 @@ pub extern "C" fn flow_hash(key: &[u8], h: &mut [u64]) -> u32
 pub extern "C" fn flow_hash_lent(lent: &[u64], key: &[u8], h: &mut [u64]) -> u32
     ensures { λ r. ⌜ HashedLent (now (lent .entry)) (now (key .entry)) (now (h .entry)) r (now (h .exit)) ⌝ }
 {
-    if lent.len() != 3328 {
+    if lent.len() != hash::TABLE_LENGTH {
         return 2;
     }
     if h.len() != 1 {

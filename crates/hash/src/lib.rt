@@ -22,7 +22,10 @@ pub fn step(s: u64) -> u64
     b ^ (b << 17)
 }
 
-// The table of H: an entry for each of 13 byte positions and 256 byte values.
+// "an entry for each of 13 byte positions and 256 byte values"
+pub const TABLE_LENGTH: usize = 3328;
+
+// The table of H.
 // Today's compiler rebuilds a constant array on the stack at each read, so callers make the table once here and lend it.
 pub fn table() -> [u64; 3328]
     ensures { λ r. ⌜ TableRight 13 r ⌝ }

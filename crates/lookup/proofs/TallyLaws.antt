@@ -1,6 +1,6 @@
 -- Laws of tally: each loop over the buckets counts what the definition counts. Assumes nothing.
 use mathlib.Core.Path.{_≡_, refl, sym, _∙_}
-use mathlib.Core.Bool.{Bool, true, false, cond, not, _&&_, _||_, and-true, true≢false}
+use mathlib.Core.Bool.{Bool, true, false, cond, not, _&&_, _||_, and-true}
 use mathlib.Core.List.{List, [], _∷_, map}
 use Prim.Native.Nat.{ℕ, suc, _+_, _-_, _*_, _/_, _≤_, _<_}
 use native.Mathlib.Numerals.{add-one}
@@ -98,15 +98,6 @@ module _ (t : Settings) (ok : allowed t ≡ true) (buckets : List ℕ) where
 pub counter-in : (t : Settings) (ok : allowed t ≡ true) (clipped : List ℕ) (b m : ℕ) → b < m → m ≡ card-of t .buckets → length clipped ≡ clipped-length (card-of t) → b / 2 < length clipped
 unfolding clipped-length
 counter-in t ok clipped b m lt e size = let even = sound t ok .even in omega (arith, size, lt, e)
-
--- ---- a test and its opposite
-pub not-flip : (r t : Bool) → r ≡ not t → r ≡ false → t ≡ true
-not-flip r true e f = refl
-not-flip r false e f = absurd (true≢false (sym e ∙ f))
-
-pub not-flop : (r t : Bool) → r ≡ not t → r ≡ true → t ≡ false
-not-flop r true e f = absurd (true≢false (sym f ∙ e))
-not-flop r false e f = refl
 
 pub leb-not-ltb : (a b : ℕ) → leb a b ≡ not (ltb b a)
 leb-not-ltb a b = by-test (leb a b) (λ e. rw (e, le-ltb b a (leb-true a b e))) (λ e. rw (e, lt-ltb b a (leb-false a b e)))

@@ -32,6 +32,15 @@ pub or-right : (a b : Bool) → (a || b) ≡ false → b ≡ false
 or-right true b e = absurd (true≢false e)
 or-right false b e = e
 
+-- a test by its opposite
+pub negated-false : (r t : Bool) → r ≡ not t → r ≡ false → t ≡ true
+negated-false r true e f = refl
+negated-false r false e f = absurd (true≢false (sym e ∙ f))
+
+pub negated-true : (r t : Bool) → r ≡ not t → r ≡ true → t ≡ false
+negated-true r true e f = absurd (true≢false (sym f ∙ e))
+negated-true r false e f = refl
+
 -- two choices by one test, each under a function; and a fact by a test's two values
 pub either : {A B X : Type 0} (F : A → X) (H : B → X) (t : Bool) {a b : A} {a′ b′ : B} → (t ≡ true → F a ≡ H a′) → (t ≡ false → F b ≡ H b′) → F (cond t a b) ≡ H (cond t a′ b′)
 either F H true f g = f refl

@@ -1,6 +1,6 @@
 -- Laws of judging an edit: the spot of the key tells its refusals, its place and the list that it makes. Assumes nothing.
-use mathlib.Core.Path.{_≡_, refl, sym, _∙_, subst}
-use mathlib.Core.Bool.{Bool, true, false, cond, not, true≢false}
+use mathlib.Core.Path.{_≡_, refl, _∙_, subst}
+use mathlib.Core.Bool.{Bool, true, false, cond, not}
 use mathlib.Core.List.{List}
 use Prim.Native.Nat.{ℕ, _+_, _-_, _*_, _≤_, _<_}
 use native.Mathlib.Omega.{arith}
@@ -19,15 +19,6 @@ use Rattle.update.specs.declared.Edit.{Edit}
 use Rattle.update.specs.declared.Edit.the-variants.{Insert, Replace, Remove}
 use Rattle.update.specs.Editing.{call-of, edited, brings, leaves-out, by-list, Fits, judged-number}
 use Rattle.update.proofs.EditLaws.{refusal-is}
-
--- ---- a test and its opposite
-pub not-flip : (r t : Bool) → r ≡ not t → r ≡ false → t ≡ true
-not-flip r true e f = refl
-not-flip r false e f = absurd (true≢false (sym e ∙ f))
-
-pub not-flop : (r t : Bool) → r ≡ not t → r ≡ true → t ≡ false
-not-flop r true e f = absurd (true≢false (sym f ∙ e))
-not-flop r false e f = refl
 
 -- room for n records in a ledger area
 pub ledger-room : (c : Card) (a : List ℕ) → length a ≡ ledger-length c → (n : ℕ) → n ≤ c .capacity → 2 + n * (c .width + 4) ≤ length a

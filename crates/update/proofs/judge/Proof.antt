@@ -4,6 +4,7 @@ use Prim.Native.Nat.{ℕ, _≤_}
 use native.Mathlib.Omega.{arith}
 use borrow.Author.Tests.{not-true, not-false}
 use lib.ListN.{length}
+use Rattle.theory.proofs.ListLaws.{negated-false, negated-true}
 use Rattle.theory.specs.Settings.{card-of}
 use Rattle.theory.specs.Calls.{ledger-records, ledger-invalid}
 use Rattle.theory.proofs.SettingsLaws.{ranges}
@@ -15,7 +16,7 @@ use Rattle.ledger.proofs.SpotLaws.{search-room, search-rises, ledger-spot}
 use Rattle.ledger.proofs.EditLaws.{few, listed}
 use Rattle.update.specs.Editing.{by-list, Fits}
 use Rattle.update.proofs.EditLaws.{within}
-use Rattle.update.proofs.PlanLaws.{not-flip, not-flop, ledger-room, judged-4, judged-by-list, judged-9, judged-0, place-fits, makes, made-length, fits-capacity}
+use Rattle.update.proofs.PlanLaws.{ledger-room, judged-4, judged-by-list, judged-9, judged-0, place-fits, makes, made-length, fits-capacity}
 use borrow.Author.Needs.{needs}
 use Rattle.update.proofs.judge.Statement.{statement}
 use Rattle.update.proofs.judge.Tie as tie
@@ -28,7 +29,7 @@ refuse-requires c κs = search needs
 
 returns : tie.Need-returns
 returns c =
-    let bad = not-flip (c .before .before .valid .result) (ledger-invalid (card-of (paper (c .before .before .before .before .before .before .before .before .args .s))) (c .before .before .before .before .before .before .before .before .args .ledger .now)) (c .before .before .valid .ensures) (not-true _ (c .before .if1 .taken)) in
+    let bad = negated-false (c .before .before .valid .result) (ledger-invalid (card-of (paper (c .before .before .before .before .before .before .before .before .args .s))) (c .before .before .before .before .before .before .before .before .args .ledger .now)) (c .before .before .valid .ensures) (not-true _ (c .before .if1 .taken)) in
     (c .refuse .ensures ∙ sym (judged-4 (paper (c .before .before .before .before .before .before .before .before .args .s)) (c .before .before .before .before .before .before .before .before .args .edit) (c .before .before .before .before .before .before .before .before .args .key .now) (c .before .before .before .before .before .before .before .before .args .class) (c .before .before .before .before .before .before .before .before .args .ledger .now) bad), λ z. absurd (omega (arith, c .refuse .ensures, z)))
 
 count-at-requires : tie.Need-count-at-requires
@@ -44,7 +45,7 @@ part-find-spot-end : tie.Need-part-find-spot-end
 part-find-spot-end c = search needs
 
 find-spot-requires : tie.Need-find-spot-requires
-find-spot-requires c κs = (search-room (card-of (paper (c .before .before .before .before .before .before .before .before .before .args .s))) (c .before .before .before .before .before .before .before .before .before .args .ledger .now) (c .before .before .before .before .before .before .before .before .before .pre .3) (not-flop (c .before .before .before .valid .result) (ledger-invalid (card-of (paper (c .before .before .before .before .before .before .before .before .before .args .s))) (c .before .before .before .before .before .before .before .before .before .args .ledger .now)) (c .before .before .before .valid .ensures) (not-false _ (c .before .before .if1 .left))) (c .before .count-at .result) (c .before .count-at .ensures .0) (c .before .before .before .before .before .before .before .before .before .args .key .now) (c .before .before .before .before .before .before .before .before .before .pre .4), search-rises (card-of (paper (c .before .before .before .before .before .before .before .before .before .args .s))) (c .before .before .before .before .before .before .before .before .before .args .ledger .now) (c .before .before .before .before .before .before .before .before .before .pre .3) (not-flop (c .before .before .before .valid .result) (ledger-invalid (card-of (paper (c .before .before .before .before .before .before .before .before .before .args .s))) (c .before .before .before .before .before .before .before .before .before .args .ledger .now)) (c .before .before .before .valid .ensures) (not-false _ (c .before .before .if1 .left))) (c .before .count-at .result) (c .before .count-at .ensures .0) (c .before .before .before .before .before .before .before .before .before .args .key .now) (c .before .before .before .before .before .before .before .before .before .pre .4))
+find-spot-requires c κs = (search-room (card-of (paper (c .before .before .before .before .before .before .before .before .before .args .s))) (c .before .before .before .before .before .before .before .before .before .args .ledger .now) (c .before .before .before .before .before .before .before .before .before .pre .3) (negated-true (c .before .before .before .valid .result) (ledger-invalid (card-of (paper (c .before .before .before .before .before .before .before .before .before .args .s))) (c .before .before .before .before .before .before .before .before .before .args .ledger .now)) (c .before .before .before .valid .ensures) (not-false _ (c .before .before .if1 .left))) (c .before .count-at .result) (c .before .count-at .ensures .0) (c .before .before .before .before .before .before .before .before .before .args .key .now) (c .before .before .before .before .before .before .before .before .before .pre .4), search-rises (card-of (paper (c .before .before .before .before .before .before .before .before .before .args .s))) (c .before .before .before .before .before .before .before .before .before .args .ledger .now) (c .before .before .before .before .before .before .before .before .before .pre .3) (negated-true (c .before .before .before .valid .result) (ledger-invalid (card-of (paper (c .before .before .before .before .before .before .before .before .before .args .s))) (c .before .before .before .before .before .before .before .before .before .args .ledger .now)) (c .before .before .before .valid .ensures) (not-false _ (c .before .before .if1 .left))) (c .before .count-at .result) (c .before .count-at .ensures .0) (c .before .before .before .before .before .before .before .before .before .args .key .now) (c .before .before .before .before .before .before .before .before .before .pre .4))
 
 refusal-by-list-requires : tie.Need-refusal-by-list-requires
 refusal-by-list-requires c κs = search needs
@@ -55,18 +56,18 @@ refuse-requires-2 c κs = search needs
 returns-2 : tie.Need-returns-2
 returns-2 c =
     let some : by-list (paper (c .before .before .before .before .before .before .before .before .before .before .before .before .before .args .s)) (c .before .before .before .before .before .before .before .before .before .before .before .before .before .args .edit) (c .before .before .before .find-spot .result .held) (c .before .before .before .before .before .count-at .result) ≡ 0 → ⊥ = λ e. c .before .if2 .taken (c .before .before .refusal-by-list .ensures ∙ e) in (
-      c .refuse2 .ensures ∙ c .before .before .refusal-by-list .ensures ∙ sym (judged-by-list (paper (c .before .before .before .before .before .before .before .before .before .before .before .before .before .args .s)) (c .before .before .before .before .before .before .before .before .before .before .before .before .before .args .edit) (c .before .before .before .before .before .before .before .before .before .before .before .before .before .args .key .now) (c .before .before .before .before .before .before .before .before .before .before .before .before .before .args .class) (c .before .before .before .before .before .before .before .before .before .before .before .before .before .args .ledger .now) (not-flop (c .before .before .before .before .before .before .before .valid .result) (ledger-invalid (card-of (paper (c .before .before .before .before .before .before .before .before .before .before .before .before .before .args .s))) (c .before .before .before .before .before .before .before .before .before .before .before .before .before .args .ledger .now)) (c .before .before .before .before .before .before .before .valid .ensures) (not-false _ (c .before .before .before .before .before .before .if1 .left))) (c .before .before .before .before .before .before .before .before .before .before .before .before .before .pre .4) (c .before .before .before .find-spot .result) (ledger-spot (card-of (paper (c .before .before .before .before .before .before .before .before .before .before .before .before .before .args .s))) (c .before .before .before .before .before .before .before .before .before .before .before .before .before .args .ledger .now) (c .before .before .before .before .before .before .before .before .before .before .before .before .before .pre .3) (not-flop (c .before .before .before .before .before .before .before .valid .result) (ledger-invalid (card-of (paper (c .before .before .before .before .before .before .before .before .before .before .before .before .before .args .s))) (c .before .before .before .before .before .before .before .before .before .before .before .before .before .args .ledger .now)) (c .before .before .before .before .before .before .before .valid .ensures) (not-false _ (c .before .before .before .before .before .before .if1 .left))) (c .before .before .before .before .before .count-at .result) (c .before .before .before .before .before .count-at .ensures .0) (c .before .before .before .before .before .before .before .before .before .before .before .before .before .args .key .now) (c .before .before .before .before .before .before .before .before .before .before .before .before .before .pre .4) (c .before .before .before .find-spot .result) (c .before .before .before .find-spot .ensures)) (c .before .before .before .before .before .count-at .result) ((c .before .before .before .before .before .count-at .ensures .0) ∙ sym (listed (card-of (paper (c .before .before .before .before .before .before .before .before .before .before .before .before .before .args .s))) (c .before .before .before .before .before .before .before .before .before .before .before .before .before .args .ledger .now) (c .before .before .before .before .before .before .before .before .before .before .before .before .before .pre .3) (not-flop (c .before .before .before .before .before .before .before .valid .result) (ledger-invalid (card-of (paper (c .before .before .before .before .before .before .before .before .before .before .before .before .before .args .s))) (c .before .before .before .before .before .before .before .before .before .before .before .before .before .args .ledger .now)) (c .before .before .before .before .before .before .before .valid .ensures) (not-false _ (c .before .before .before .before .before .before .if1 .left))))) some),
+      c .refuse2 .ensures ∙ c .before .before .refusal-by-list .ensures ∙ sym (judged-by-list (paper (c .before .before .before .before .before .before .before .before .before .before .before .before .before .args .s)) (c .before .before .before .before .before .before .before .before .before .before .before .before .before .args .edit) (c .before .before .before .before .before .before .before .before .before .before .before .before .before .args .key .now) (c .before .before .before .before .before .before .before .before .before .before .before .before .before .args .class) (c .before .before .before .before .before .before .before .before .before .before .before .before .before .args .ledger .now) (negated-true (c .before .before .before .before .before .before .before .valid .result) (ledger-invalid (card-of (paper (c .before .before .before .before .before .before .before .before .before .before .before .before .before .args .s))) (c .before .before .before .before .before .before .before .before .before .before .before .before .before .args .ledger .now)) (c .before .before .before .before .before .before .before .valid .ensures) (not-false _ (c .before .before .before .before .before .before .if1 .left))) (c .before .before .before .before .before .before .before .before .before .before .before .before .before .pre .4) (c .before .before .before .find-spot .result) (ledger-spot (card-of (paper (c .before .before .before .before .before .before .before .before .before .before .before .before .before .args .s))) (c .before .before .before .before .before .before .before .before .before .before .before .before .before .args .ledger .now) (c .before .before .before .before .before .before .before .before .before .before .before .before .before .pre .3) (negated-true (c .before .before .before .before .before .before .before .valid .result) (ledger-invalid (card-of (paper (c .before .before .before .before .before .before .before .before .before .before .before .before .before .args .s))) (c .before .before .before .before .before .before .before .before .before .before .before .before .before .args .ledger .now)) (c .before .before .before .before .before .before .before .valid .ensures) (not-false _ (c .before .before .before .before .before .before .if1 .left))) (c .before .before .before .before .before .count-at .result) (c .before .before .before .before .before .count-at .ensures .0) (c .before .before .before .before .before .before .before .before .before .before .before .before .before .args .key .now) (c .before .before .before .before .before .before .before .before .before .before .before .before .before .pre .4) (c .before .before .before .find-spot .result) (c .before .before .before .find-spot .ensures)) (c .before .before .before .before .before .count-at .result) ((c .before .before .before .before .before .count-at .ensures .0) ∙ sym (listed (card-of (paper (c .before .before .before .before .before .before .before .before .before .before .before .before .before .args .s))) (c .before .before .before .before .before .before .before .before .before .before .before .before .before .args .ledger .now) (c .before .before .before .before .before .before .before .before .before .before .before .before .before .pre .3) (negated-true (c .before .before .before .before .before .before .before .valid .result) (ledger-invalid (card-of (paper (c .before .before .before .before .before .before .before .before .before .before .before .before .before .args .s))) (c .before .before .before .before .before .before .before .before .before .before .before .before .before .args .ledger .now)) (c .before .before .before .before .before .before .before .valid .ensures) (not-false _ (c .before .before .before .before .before .before .if1 .left))))) some),
       λ z. absurd (c .before .if2 .taken (sym (c .refuse2 .ensures) ∙ z)),
     )
 
 place-new-requires : tie.Need-place-new-requires
 place-new-requires c κs =
     let r = ranges (paper (c .before .before .before .before .before .before .before .before .before .before .before .before .before .args .s)) (c .before .before .before .before .before .before .before .before .before .before .before .before .before .pre .0 .ok) in
-    let many = few (card-of (paper (c .before .before .before .before .before .before .before .before .before .before .before .before .before .args .s))) (c .before .before .before .before .before .before .before .before .before .before .before .before .before .args .ledger .now) (c .before .before .before .before .before .before .before .before .before .before .before .before .before .pre .3) (not-flop (c .before .before .before .before .before .before .before .valid .result) (ledger-invalid (card-of (paper (c .before .before .before .before .before .before .before .before .before .before .before .before .before .args .s))) (c .before .before .before .before .before .before .before .before .before .before .before .before .before .args .ledger .now)) (c .before .before .before .before .before .before .before .valid .ensures) (not-false _ (c .before .before .before .before .before .before .if1 .left))) in (
+    let many = few (card-of (paper (c .before .before .before .before .before .before .before .before .before .before .before .before .before .args .s))) (c .before .before .before .before .before .before .before .before .before .before .before .before .before .args .ledger .now) (c .before .before .before .before .before .before .before .before .before .before .before .before .before .pre .3) (negated-true (c .before .before .before .before .before .before .before .valid .result) (ledger-invalid (card-of (paper (c .before .before .before .before .before .before .before .before .before .before .before .before .before .args .s))) (c .before .before .before .before .before .before .before .before .before .before .before .before .before .args .ledger .now)) (c .before .before .before .before .before .before .before .valid .ensures) (not-false _ (c .before .before .before .before .before .before .if1 .left))) in (
       c .before .before .before .before .before .before .before .before .before .before .before .before .before .pre .0,
       c .before .before .before .before .before .before .before .before .before .before .before .before .before .pre .1,
       c .before .before .before .before .before .before .before .before .before .before .before .before .before .pre .2,
-      place-fits (paper (c .before .before .before .before .before .before .before .before .before .before .before .before .before .args .s)) (c .before .before .before .before .before .before .before .before .before .before .before .before .before .args .key .now) (c .before .before .before .before .before .before .before .before .before .before .before .before .before .args .class) (ledger-records (card-of (paper (c .before .before .before .before .before .before .before .before .before .before .before .before .before .args .s))) (c .before .before .before .before .before .before .before .before .before .before .before .before .before .args .ledger .now)) (c .before .before .before .find-spot .result) (ledger-spot (card-of (paper (c .before .before .before .before .before .before .before .before .before .before .before .before .before .args .s))) (c .before .before .before .before .before .before .before .before .before .before .before .before .before .args .ledger .now) (c .before .before .before .before .before .before .before .before .before .before .before .before .before .pre .3) (not-flop (c .before .before .before .before .before .before .before .valid .result) (ledger-invalid (card-of (paper (c .before .before .before .before .before .before .before .before .before .before .before .before .before .args .s))) (c .before .before .before .before .before .before .before .before .before .before .before .before .before .args .ledger .now)) (c .before .before .before .before .before .before .before .valid .ensures) (not-false _ (c .before .before .before .before .before .before .if1 .left))) (c .before .before .before .before .before .count-at .result) (c .before .before .before .before .before .count-at .ensures .0) (c .before .before .before .before .before .before .before .before .before .before .before .before .before .args .key .now) (c .before .before .before .before .before .before .before .before .before .before .before .before .before .pre .4) (c .before .before .before .find-spot .result) (c .before .before .before .find-spot .ensures)) (c .before .before .before .before .before .count-at .result) ((c .before .before .before .before .before .count-at .ensures .0) ∙ sym (listed (card-of (paper (c .before .before .before .before .before .before .before .before .before .before .before .before .before .args .s))) (c .before .before .before .before .before .before .before .before .before .before .before .before .before .args .ledger .now) (c .before .before .before .before .before .before .before .before .before .before .before .before .before .pre .3) (not-flop (c .before .before .before .before .before .before .before .valid .result) (ledger-invalid (card-of (paper (c .before .before .before .before .before .before .before .before .before .before .before .before .before .args .s))) (c .before .before .before .before .before .before .before .before .before .before .before .before .before .args .ledger .now)) (c .before .before .before .before .before .before .before .valid .ensures) (not-false _ (c .before .before .before .before .before .before .if1 .left))))) (c .before .before .before .before .before .before .before .before .before .before .before .before .before .args .edit) (sym (c .before .before .refusal-by-list .ensures) ∙ c .before .if2 .left),
+      place-fits (paper (c .before .before .before .before .before .before .before .before .before .before .before .before .before .args .s)) (c .before .before .before .before .before .before .before .before .before .before .before .before .before .args .key .now) (c .before .before .before .before .before .before .before .before .before .before .before .before .before .args .class) (ledger-records (card-of (paper (c .before .before .before .before .before .before .before .before .before .before .before .before .before .args .s))) (c .before .before .before .before .before .before .before .before .before .before .before .before .before .args .ledger .now)) (c .before .before .before .find-spot .result) (ledger-spot (card-of (paper (c .before .before .before .before .before .before .before .before .before .before .before .before .before .args .s))) (c .before .before .before .before .before .before .before .before .before .before .before .before .before .args .ledger .now) (c .before .before .before .before .before .before .before .before .before .before .before .before .before .pre .3) (negated-true (c .before .before .before .before .before .before .before .valid .result) (ledger-invalid (card-of (paper (c .before .before .before .before .before .before .before .before .before .before .before .before .before .args .s))) (c .before .before .before .before .before .before .before .before .before .before .before .before .before .args .ledger .now)) (c .before .before .before .before .before .before .before .valid .ensures) (not-false _ (c .before .before .before .before .before .before .if1 .left))) (c .before .before .before .before .before .count-at .result) (c .before .before .before .before .before .count-at .ensures .0) (c .before .before .before .before .before .before .before .before .before .before .before .before .before .args .key .now) (c .before .before .before .before .before .before .before .before .before .before .before .before .before .pre .4) (c .before .before .before .find-spot .result) (c .before .before .before .find-spot .ensures)) (c .before .before .before .before .before .count-at .result) ((c .before .before .before .before .before .count-at .ensures .0) ∙ sym (listed (card-of (paper (c .before .before .before .before .before .before .before .before .before .before .before .before .before .args .s))) (c .before .before .before .before .before .before .before .before .before .before .before .before .before .args .ledger .now) (c .before .before .before .before .before .before .before .before .before .before .before .before .before .pre .3) (negated-true (c .before .before .before .before .before .before .before .valid .result) (ledger-invalid (card-of (paper (c .before .before .before .before .before .before .before .before .before .before .before .before .before .args .s))) (c .before .before .before .before .before .before .before .before .before .before .before .before .before .args .ledger .now)) (c .before .before .before .before .before .before .before .valid .ensures) (not-false _ (c .before .before .before .before .before .before .if1 .left))))) (c .before .before .before .before .before .before .before .before .before .before .before .before .before .args .edit) (sym (c .before .before .refusal-by-list .ensures) ∙ c .before .if2 .left),
       omega (arith, many, (c .before .before .before .before .before .count-at .ensures .0), capacity-is (paper (c .before .before .before .before .before .before .before .before .before .before .before .before .before .args .s))),
       ledger-room (card-of (paper (c .before .before .before .before .before .before .before .before .before .before .before .before .before .args .s))) (c .before .before .before .before .before .before .before .before .before .before .before .before .before .args .ledger .now) (c .before .before .before .before .before .before .before .before .before .before .before .before .before .pre .3) (c .before .before .before .before .before .count-at .result) (omega (arith, many, (c .before .before .before .before .before .count-at .ensures .0))),
       ap length (c .before .before .before .before .before .before .before .before .before .before .before .before .before .pre .5) ∙ length-record ((card-of (paper (c .before .before .before .before .before .before .before .before .before .before .before .before .before .args .s))) .width) (record { key = (c .before .before .before .before .before .before .before .before .before .before .before .before .before .args .key .now); class = c .before .before .before .before .before .before .before .before .before .before .before .before .before .args .class }) (record { wide = c .before .before .before .before .before .before .before .before .before .before .before .before .before .pre .4; small = c .before .before .before .before .before .before .before .before .before .before .before .before .before .fits .class .fits }),
@@ -81,7 +82,7 @@ same-length c = search needs
 returns-3 : tie.Need-returns-3
 returns-3 c =
     let made = rw (records-are (card-of (paper (c .before .before .before .before .before .before .before .before .before .before .before .before .before .before .before .before .before .before .before .args .s))) (c .before .before .before .before .before .before .before .before .before .before .before .before .before .before .before .before .before .before .before .args .ledger .now) (c .before .before .before .before .before .before .before .before .before .before .before .count-at .result) (c .before .before .before .before .before .before .before .before .before .before .before .count-at .ensures .0)) at ((c .before .before .before .before .before .place-new .ensures (record { key = (c .before .before .before .before .before .before .before .before .before .before .before .before .before .before .before .before .before .before .before .args .key .now); class = c .before .before .before .before .before .before .before .before .before .before .before .before .before .before .before .before .before .before .before .args .class }) (sym (c .before .before .before .before .before .before .before .before .before .before .before .before .before .before .before .before .before .before .before .pre .5)) (record { wide = c .before .before .before .before .before .before .before .before .before .before .before .before .before .before .before .before .before .before .before .pre .4; small = c .before .before .before .before .before .before .before .before .before .before .before .before .before .before .before .before .before .before .before .fits .class .fits })) .0) in (
-      c .refuse3 .ensures ∙ sym (judged-9 (paper (c .before .before .before .before .before .before .before .before .before .before .before .before .before .before .before .before .before .before .before .args .s)) (c .before .before .before .before .before .before .before .before .before .before .before .before .before .before .before .before .before .before .before .args .edit) (c .before .before .before .before .before .before .before .before .before .before .before .before .before .before .before .before .before .before .before .args .key .now) (c .before .before .before .before .before .before .before .before .before .before .before .before .before .before .before .before .before .before .before .args .class) (c .before .before .before .before .before .before .before .before .before .before .before .before .before .before .before .before .before .before .before .args .ledger .now) (not-flop (c .before .before .before .before .before .before .before .before .before .before .before .before .before .valid .result) (ledger-invalid (card-of (paper (c .before .before .before .before .before .before .before .before .before .before .before .before .before .before .before .before .before .before .before .args .s))) (c .before .before .before .before .before .before .before .before .before .before .before .before .before .before .before .before .before .before .before .args .ledger .now)) (c .before .before .before .before .before .before .before .before .before .before .before .before .before .valid .ensures) (not-false _ (c .before .before .before .before .before .before .before .before .before .before .before .before .if1 .left))) (c .before .before .before .before .before .before .before .before .before .before .before .before .before .before .before .before .before .before .before .pre .4) (c .before .before .before .before .before .before .before .before .before .find-spot .result) (ledger-spot (card-of (paper (c .before .before .before .before .before .before .before .before .before .before .before .before .before .before .before .before .before .before .before .args .s))) (c .before .before .before .before .before .before .before .before .before .before .before .before .before .before .before .before .before .before .before .args .ledger .now) (c .before .before .before .before .before .before .before .before .before .before .before .before .before .before .before .before .before .before .before .pre .3) (not-flop (c .before .before .before .before .before .before .before .before .before .before .before .before .before .valid .result) (ledger-invalid (card-of (paper (c .before .before .before .before .before .before .before .before .before .before .before .before .before .before .before .before .before .before .before .args .s))) (c .before .before .before .before .before .before .before .before .before .before .before .before .before .before .before .before .before .before .before .args .ledger .now)) (c .before .before .before .before .before .before .before .before .before .before .before .before .before .valid .ensures) (not-false _ (c .before .before .before .before .before .before .before .before .before .before .before .before .if1 .left))) (c .before .before .before .before .before .before .before .before .before .before .before .count-at .result) (c .before .before .before .before .before .before .before .before .before .before .before .count-at .ensures .0) (c .before .before .before .before .before .before .before .before .before .before .before .before .before .before .before .before .before .before .before .args .key .now) (c .before .before .before .before .before .before .before .before .before .before .before .before .before .before .before .before .before .before .before .pre .4) (c .before .before .before .before .before .before .before .before .before .find-spot .result) (c .before .before .before .before .before .before .before .before .before .find-spot .ensures)) (c .before .before .before .before .before .before .before .before .before .before .before .count-at .result) ((c .before .before .before .before .before .before .before .before .before .before .before .count-at .ensures .0) ∙ sym (listed (card-of (paper (c .before .before .before .before .before .before .before .before .before .before .before .before .before .before .before .before .before .before .before .args .s))) (c .before .before .before .before .before .before .before .before .before .before .before .before .before .before .before .before .before .before .before .args .ledger .now) (c .before .before .before .before .before .before .before .before .before .before .before .before .before .before .before .before .before .before .before .pre .3) (not-flop (c .before .before .before .before .before .before .before .before .before .before .before .before .before .valid .result) (ledger-invalid (card-of (paper (c .before .before .before .before .before .before .before .before .before .before .before .before .before .before .before .before .before .before .before .args .s))) (c .before .before .before .before .before .before .before .before .before .before .before .before .before .before .before .before .before .before .before .args .ledger .now)) (c .before .before .before .before .before .before .before .before .before .before .before .before .before .valid .ensures) (not-false _ (c .before .before .before .before .before .before .before .before .before .before .before .before .if1 .left))))) (sym (c .before .before .before .before .before .before .before .before .refusal-by-list .ensures) ∙ c .before .before .before .before .before .before .before .if2 .left) (c .before .before .before .before .before .place-new .result) made (omega (arith, c .before .if3 .taken, side-places-are (paper (c .before .before .before .before .before .before .before .before .before .before .before .before .before .before .before .before .before .before .before .args .s))))),
+      c .refuse3 .ensures ∙ sym (judged-9 (paper (c .before .before .before .before .before .before .before .before .before .before .before .before .before .before .before .before .before .before .before .args .s)) (c .before .before .before .before .before .before .before .before .before .before .before .before .before .before .before .before .before .before .before .args .edit) (c .before .before .before .before .before .before .before .before .before .before .before .before .before .before .before .before .before .before .before .args .key .now) (c .before .before .before .before .before .before .before .before .before .before .before .before .before .before .before .before .before .before .before .args .class) (c .before .before .before .before .before .before .before .before .before .before .before .before .before .before .before .before .before .before .before .args .ledger .now) (negated-true (c .before .before .before .before .before .before .before .before .before .before .before .before .before .valid .result) (ledger-invalid (card-of (paper (c .before .before .before .before .before .before .before .before .before .before .before .before .before .before .before .before .before .before .before .args .s))) (c .before .before .before .before .before .before .before .before .before .before .before .before .before .before .before .before .before .before .before .args .ledger .now)) (c .before .before .before .before .before .before .before .before .before .before .before .before .before .valid .ensures) (not-false _ (c .before .before .before .before .before .before .before .before .before .before .before .before .if1 .left))) (c .before .before .before .before .before .before .before .before .before .before .before .before .before .before .before .before .before .before .before .pre .4) (c .before .before .before .before .before .before .before .before .before .find-spot .result) (ledger-spot (card-of (paper (c .before .before .before .before .before .before .before .before .before .before .before .before .before .before .before .before .before .before .before .args .s))) (c .before .before .before .before .before .before .before .before .before .before .before .before .before .before .before .before .before .before .before .args .ledger .now) (c .before .before .before .before .before .before .before .before .before .before .before .before .before .before .before .before .before .before .before .pre .3) (negated-true (c .before .before .before .before .before .before .before .before .before .before .before .before .before .valid .result) (ledger-invalid (card-of (paper (c .before .before .before .before .before .before .before .before .before .before .before .before .before .before .before .before .before .before .before .args .s))) (c .before .before .before .before .before .before .before .before .before .before .before .before .before .before .before .before .before .before .before .args .ledger .now)) (c .before .before .before .before .before .before .before .before .before .before .before .before .before .valid .ensures) (not-false _ (c .before .before .before .before .before .before .before .before .before .before .before .before .if1 .left))) (c .before .before .before .before .before .before .before .before .before .before .before .count-at .result) (c .before .before .before .before .before .before .before .before .before .before .before .count-at .ensures .0) (c .before .before .before .before .before .before .before .before .before .before .before .before .before .before .before .before .before .before .before .args .key .now) (c .before .before .before .before .before .before .before .before .before .before .before .before .before .before .before .before .before .before .before .pre .4) (c .before .before .before .before .before .before .before .before .before .find-spot .result) (c .before .before .before .before .before .before .before .before .before .find-spot .ensures)) (c .before .before .before .before .before .before .before .before .before .before .before .count-at .result) ((c .before .before .before .before .before .before .before .before .before .before .before .count-at .ensures .0) ∙ sym (listed (card-of (paper (c .before .before .before .before .before .before .before .before .before .before .before .before .before .before .before .before .before .before .before .args .s))) (c .before .before .before .before .before .before .before .before .before .before .before .before .before .before .before .before .before .before .before .args .ledger .now) (c .before .before .before .before .before .before .before .before .before .before .before .before .before .before .before .before .before .before .before .pre .3) (negated-true (c .before .before .before .before .before .before .before .before .before .before .before .before .before .valid .result) (ledger-invalid (card-of (paper (c .before .before .before .before .before .before .before .before .before .before .before .before .before .before .before .before .before .before .before .args .s))) (c .before .before .before .before .before .before .before .before .before .before .before .before .before .before .before .before .before .before .before .args .ledger .now)) (c .before .before .before .before .before .before .before .before .before .before .before .before .before .valid .ensures) (not-false _ (c .before .before .before .before .before .before .before .before .before .before .before .before .if1 .left))))) (sym (c .before .before .before .before .before .before .before .before .refusal-by-list .ensures) ∙ c .before .before .before .before .before .before .before .if2 .left) (c .before .before .before .before .before .place-new .result) made (omega (arith, c .before .if3 .taken, side-places-are (paper (c .before .before .before .before .before .before .before .before .before .before .before .before .before .before .before .before .before .before .before .args .s))))),
       λ z. absurd (omega (arith, c .refuse3 .ensures, z)),
     )
 
@@ -89,7 +90,7 @@ left-out-requires : tie.Need-left-out-requires
 left-out-requires c κs = search needs
 
 sub-t22 : tie.Need-sub-t22
-sub-t22 c = omega (arith, within (c .before .before .before .before .before .before .before .before .before .before .before .before .before .before .before .before .before .before .before .args .edit) (c .before .before .before .before .before .before .before .before .before .find-spot .result .at) (c .before .before .before .before .before .before .before .before .before .before .before .count-at .result) (place-fits (paper (c .before .before .before .before .before .before .before .before .before .before .before .before .before .before .before .before .before .before .before .args .s)) (c .before .before .before .before .before .before .before .before .before .before .before .before .before .before .before .before .before .before .before .args .key .now) (c .before .before .before .before .before .before .before .before .before .before .before .before .before .before .before .before .before .before .before .args .class) (ledger-records (card-of (paper (c .before .before .before .before .before .before .before .before .before .before .before .before .before .before .before .before .before .before .before .args .s))) (c .before .before .before .before .before .before .before .before .before .before .before .before .before .before .before .before .before .before .before .args .ledger .now)) (c .before .before .before .before .before .before .before .before .before .find-spot .result) (ledger-spot (card-of (paper (c .before .before .before .before .before .before .before .before .before .before .before .before .before .before .before .before .before .before .before .args .s))) (c .before .before .before .before .before .before .before .before .before .before .before .before .before .before .before .before .before .before .before .args .ledger .now) (c .before .before .before .before .before .before .before .before .before .before .before .before .before .before .before .before .before .before .before .pre .3) (not-flop (c .before .before .before .before .before .before .before .before .before .before .before .before .before .valid .result) (ledger-invalid (card-of (paper (c .before .before .before .before .before .before .before .before .before .before .before .before .before .before .before .before .before .before .before .args .s))) (c .before .before .before .before .before .before .before .before .before .before .before .before .before .before .before .before .before .before .before .args .ledger .now)) (c .before .before .before .before .before .before .before .before .before .before .before .before .before .valid .ensures) (not-false _ (c .before .before .before .before .before .before .before .before .before .before .before .before .if1 .left))) (c .before .before .before .before .before .before .before .before .before .before .before .count-at .result) (c .before .before .before .before .before .before .before .before .before .before .before .count-at .ensures .0) (c .before .before .before .before .before .before .before .before .before .before .before .before .before .before .before .before .before .before .before .args .key .now) (c .before .before .before .before .before .before .before .before .before .before .before .before .before .before .before .before .before .before .before .pre .4) (c .before .before .before .before .before .before .before .before .before .find-spot .result) (c .before .before .before .before .before .before .before .before .before .find-spot .ensures)) (c .before .before .before .before .before .before .before .before .before .before .before .count-at .result) ((c .before .before .before .before .before .before .before .before .before .before .before .count-at .ensures .0) ∙ sym (listed (card-of (paper (c .before .before .before .before .before .before .before .before .before .before .before .before .before .before .before .before .before .before .before .args .s))) (c .before .before .before .before .before .before .before .before .before .before .before .before .before .before .before .before .before .before .before .args .ledger .now) (c .before .before .before .before .before .before .before .before .before .before .before .before .before .before .before .before .before .before .before .pre .3) (not-flop (c .before .before .before .before .before .before .before .before .before .before .before .before .before .valid .result) (ledger-invalid (card-of (paper (c .before .before .before .before .before .before .before .before .before .before .before .before .before .before .before .before .before .before .before .args .s))) (c .before .before .before .before .before .before .before .before .before .before .before .before .before .before .before .before .before .before .before .args .ledger .now)) (c .before .before .before .before .before .before .before .before .before .before .before .before .before .valid .ensures) (not-false _ (c .before .before .before .before .before .before .before .before .before .before .before .before .if1 .left))))) (c .before .before .before .before .before .before .before .before .before .before .before .before .before .before .before .before .before .before .before .args .edit) (sym (c .before .before .before .before .before .before .before .before .refusal-by-list .ensures) ∙ c .before .before .before .before .before .before .before .if2 .left)), c .left-out .ensures .0)
+sub-t22 c = omega (arith, within (c .before .before .before .before .before .before .before .before .before .before .before .before .before .before .before .before .before .before .before .args .edit) (c .before .before .before .before .before .before .before .before .before .find-spot .result .at) (c .before .before .before .before .before .before .before .before .before .before .before .count-at .result) (place-fits (paper (c .before .before .before .before .before .before .before .before .before .before .before .before .before .before .before .before .before .before .before .args .s)) (c .before .before .before .before .before .before .before .before .before .before .before .before .before .before .before .before .before .before .before .args .key .now) (c .before .before .before .before .before .before .before .before .before .before .before .before .before .before .before .before .before .before .before .args .class) (ledger-records (card-of (paper (c .before .before .before .before .before .before .before .before .before .before .before .before .before .before .before .before .before .before .before .args .s))) (c .before .before .before .before .before .before .before .before .before .before .before .before .before .before .before .before .before .before .before .args .ledger .now)) (c .before .before .before .before .before .before .before .before .before .find-spot .result) (ledger-spot (card-of (paper (c .before .before .before .before .before .before .before .before .before .before .before .before .before .before .before .before .before .before .before .args .s))) (c .before .before .before .before .before .before .before .before .before .before .before .before .before .before .before .before .before .before .before .args .ledger .now) (c .before .before .before .before .before .before .before .before .before .before .before .before .before .before .before .before .before .before .before .pre .3) (negated-true (c .before .before .before .before .before .before .before .before .before .before .before .before .before .valid .result) (ledger-invalid (card-of (paper (c .before .before .before .before .before .before .before .before .before .before .before .before .before .before .before .before .before .before .before .args .s))) (c .before .before .before .before .before .before .before .before .before .before .before .before .before .before .before .before .before .before .before .args .ledger .now)) (c .before .before .before .before .before .before .before .before .before .before .before .before .before .valid .ensures) (not-false _ (c .before .before .before .before .before .before .before .before .before .before .before .before .if1 .left))) (c .before .before .before .before .before .before .before .before .before .before .before .count-at .result) (c .before .before .before .before .before .before .before .before .before .before .before .count-at .ensures .0) (c .before .before .before .before .before .before .before .before .before .before .before .before .before .before .before .before .before .before .before .args .key .now) (c .before .before .before .before .before .before .before .before .before .before .before .before .before .before .before .before .before .before .before .pre .4) (c .before .before .before .before .before .before .before .before .before .find-spot .result) (c .before .before .before .before .before .before .before .before .before .find-spot .ensures)) (c .before .before .before .before .before .before .before .before .before .before .before .count-at .result) ((c .before .before .before .before .before .before .before .before .before .before .before .count-at .ensures .0) ∙ sym (listed (card-of (paper (c .before .before .before .before .before .before .before .before .before .before .before .before .before .before .before .before .before .before .before .args .s))) (c .before .before .before .before .before .before .before .before .before .before .before .before .before .before .before .before .before .before .before .args .ledger .now) (c .before .before .before .before .before .before .before .before .before .before .before .before .before .before .before .before .before .before .before .pre .3) (negated-true (c .before .before .before .before .before .before .before .before .before .before .before .before .before .valid .result) (ledger-invalid (card-of (paper (c .before .before .before .before .before .before .before .before .before .before .before .before .before .before .before .before .before .before .before .args .s))) (c .before .before .before .before .before .before .before .before .before .before .before .before .before .before .before .before .before .before .before .args .ledger .now)) (c .before .before .before .before .before .before .before .before .before .before .before .before .before .valid .ensures) (not-false _ (c .before .before .before .before .before .before .before .before .before .before .before .before .if1 .left))))) (c .before .before .before .before .before .before .before .before .before .before .before .before .before .before .before .before .before .before .before .args .edit) (sym (c .before .before .before .before .before .before .before .before .refusal-by-list .ensures) ∙ c .before .before .before .before .before .before .before .if2 .left)), c .left-out .ensures .0)
 
 brought-requires : tie.Need-brought-requires
 brought-requires c κs = search needs
@@ -104,16 +105,16 @@ returns-4 : tie.Need-returns-4
 returns-4 c =
     let made = rw (records-are (card-of (paper (c .before .before .before .before .before .before .before .before .before .before .before .before .before .before .before .before .before .before .before .before .args .s))) (c .before .before .before .before .before .before .before .before .before .before .before .before .before .before .before .before .before .before .before .before .args .ledger .now) (c .before .before .before .before .before .before .before .before .before .before .before .before .count-at .result) (c .before .before .before .before .before .before .before .before .before .before .before .before .count-at .ensures .0)) at ((c .before .before .before .before .before .before .place-new .ensures (record { key = (c .before .before .before .before .before .before .before .before .before .before .before .before .before .before .before .before .before .before .before .before .args .key .now); class = c .before .before .before .before .before .before .before .before .before .before .before .before .before .before .before .before .before .before .before .before .args .class }) (sym (c .before .before .before .before .before .before .before .before .before .before .before .before .before .before .before .before .before .before .before .before .pre .5)) (record { wide = c .before .before .before .before .before .before .before .before .before .before .before .before .before .before .before .before .before .before .before .before .pre .4; small = c .before .before .before .before .before .before .before .before .before .before .before .before .before .before .before .before .before .before .before .before .fits .class .fits })) .0) in
     let worked = rw (records-are (card-of (paper (c .before .before .before .before .before .before .before .before .before .before .before .before .before .before .before .before .before .before .before .before .args .s))) (c .before .before .before .before .before .before .before .before .before .before .before .before .before .before .before .before .before .before .before .before .args .ledger .now) (c .before .before .before .before .before .before .before .before .before .before .before .before .count-at .result) (c .before .before .before .before .before .before .before .before .before .before .before .before .count-at .ensures .0)) at ((c .before .before .before .before .before .before .place-new .ensures (record { key = (c .before .before .before .before .before .before .before .before .before .before .before .before .before .before .before .before .before .before .before .before .args .key .now); class = c .before .before .before .before .before .before .before .before .before .before .before .before .before .before .before .before .before .before .before .before .args .class }) (sym (c .before .before .before .before .before .before .before .before .before .before .before .before .before .before .before .before .before .before .before .before .pre .5)) (record { wide = c .before .before .before .before .before .before .before .before .before .before .before .before .before .before .before .before .before .before .before .before .pre .4; small = c .before .before .before .before .before .before .before .before .before .before .before .before .before .before .before .before .before .before .before .before .fits .class .fits })) .1) in
-    let is = makes (paper (c .before .before .before .before .before .before .before .before .before .before .before .before .before .before .before .before .before .before .before .before .args .s)) (c .before .before .before .before .before .before .before .before .before .before .before .before .before .before .before .before .before .before .before .before .args .key .now) (c .before .before .before .before .before .before .before .before .before .before .before .before .before .before .before .before .before .before .before .before .args .class) (ledger-records (card-of (paper (c .before .before .before .before .before .before .before .before .before .before .before .before .before .before .before .before .before .before .before .before .args .s))) (c .before .before .before .before .before .before .before .before .before .before .before .before .before .before .before .before .before .before .before .before .args .ledger .now)) (c .before .before .before .before .before .before .before .before .before .before .find-spot .result) (ledger-spot (card-of (paper (c .before .before .before .before .before .before .before .before .before .before .before .before .before .before .before .before .before .before .before .before .args .s))) (c .before .before .before .before .before .before .before .before .before .before .before .before .before .before .before .before .before .before .before .before .args .ledger .now) (c .before .before .before .before .before .before .before .before .before .before .before .before .before .before .before .before .before .before .before .before .pre .3) (not-flop (c .before .before .before .before .before .before .before .before .before .before .before .before .before .before .valid .result) (ledger-invalid (card-of (paper (c .before .before .before .before .before .before .before .before .before .before .before .before .before .before .before .before .before .before .before .before .args .s))) (c .before .before .before .before .before .before .before .before .before .before .before .before .before .before .before .before .before .before .before .before .args .ledger .now)) (c .before .before .before .before .before .before .before .before .before .before .before .before .before .before .valid .ensures) (not-false _ (c .before .before .before .before .before .before .before .before .before .before .before .before .before .if1 .left))) (c .before .before .before .before .before .before .before .before .before .before .before .before .count-at .result) (c .before .before .before .before .before .before .before .before .before .before .before .before .count-at .ensures .0) (c .before .before .before .before .before .before .before .before .before .before .before .before .before .before .before .before .before .before .before .before .args .key .now) (c .before .before .before .before .before .before .before .before .before .before .before .before .before .before .before .before .before .before .before .before .pre .4) (c .before .before .before .before .before .before .before .before .before .before .find-spot .result) (c .before .before .before .before .before .before .before .before .before .before .find-spot .ensures)) (c .before .before .before .before .before .before .before .before .before .before .before .before .count-at .result) ((c .before .before .before .before .before .before .before .before .before .before .before .before .count-at .ensures .0) ∙ sym (listed (card-of (paper (c .before .before .before .before .before .before .before .before .before .before .before .before .before .before .before .before .before .before .before .before .args .s))) (c .before .before .before .before .before .before .before .before .before .before .before .before .before .before .before .before .before .before .before .before .args .ledger .now) (c .before .before .before .before .before .before .before .before .before .before .before .before .before .before .before .before .before .before .before .before .pre .3) (not-flop (c .before .before .before .before .before .before .before .before .before .before .before .before .before .before .valid .result) (ledger-invalid (card-of (paper (c .before .before .before .before .before .before .before .before .before .before .before .before .before .before .before .before .before .before .before .before .args .s))) (c .before .before .before .before .before .before .before .before .before .before .before .before .before .before .before .before .before .before .before .before .args .ledger .now)) (c .before .before .before .before .before .before .before .before .before .before .before .before .before .before .valid .ensures) (not-false _ (c .before .before .before .before .before .before .before .before .before .before .before .before .before .if1 .left))))) (c .before .before .before .before .before .before .before .before .before .before .before .before .before .before .before .before .before .before .before .before .args .edit) (sym (c .before .before .before .before .before .before .before .before .before .refusal-by-list .ensures) ∙ c .before .before .before .before .before .before .before .before .if2 .left) in
-    let many = few (card-of (paper (c .before .before .before .before .before .before .before .before .before .before .before .before .before .before .before .before .before .before .before .before .args .s))) (c .before .before .before .before .before .before .before .before .before .before .before .before .before .before .before .before .before .before .before .before .args .ledger .now) (c .before .before .before .before .before .before .before .before .before .before .before .before .before .before .before .before .before .before .before .before .pre .3) (not-flop (c .before .before .before .before .before .before .before .before .before .before .before .before .before .before .valid .result) (ledger-invalid (card-of (paper (c .before .before .before .before .before .before .before .before .before .before .before .before .before .before .before .before .before .before .before .before .args .s))) (c .before .before .before .before .before .before .before .before .before .before .before .before .before .before .before .before .before .before .before .before .args .ledger .now)) (c .before .before .before .before .before .before .before .before .before .before .before .before .before .before .valid .ensures) (not-false _ (c .before .before .before .before .before .before .before .before .before .before .before .before .before .if1 .left))) in
-    let long = made-length (paper (c .before .before .before .before .before .before .before .before .before .before .before .before .before .before .before .before .before .before .before .before .args .s)) (c .before .before .before .before .before .before .before .before .before .before .before .before .before .before .before .before .before .before .before .before .args .key .now) (c .before .before .before .before .before .before .before .before .before .before .before .before .before .before .before .before .before .before .before .before .args .class) (ledger-records (card-of (paper (c .before .before .before .before .before .before .before .before .before .before .before .before .before .before .before .before .before .before .before .before .args .s))) (c .before .before .before .before .before .before .before .before .before .before .before .before .before .before .before .before .before .before .before .before .args .ledger .now)) (c .before .before .before .before .before .before .before .before .before .before .find-spot .result) (ledger-spot (card-of (paper (c .before .before .before .before .before .before .before .before .before .before .before .before .before .before .before .before .before .before .before .before .args .s))) (c .before .before .before .before .before .before .before .before .before .before .before .before .before .before .before .before .before .before .before .before .args .ledger .now) (c .before .before .before .before .before .before .before .before .before .before .before .before .before .before .before .before .before .before .before .before .pre .3) (not-flop (c .before .before .before .before .before .before .before .before .before .before .before .before .before .before .valid .result) (ledger-invalid (card-of (paper (c .before .before .before .before .before .before .before .before .before .before .before .before .before .before .before .before .before .before .before .before .args .s))) (c .before .before .before .before .before .before .before .before .before .before .before .before .before .before .before .before .before .before .before .before .args .ledger .now)) (c .before .before .before .before .before .before .before .before .before .before .before .before .before .before .valid .ensures) (not-false _ (c .before .before .before .before .before .before .before .before .before .before .before .before .before .if1 .left))) (c .before .before .before .before .before .before .before .before .before .before .before .before .count-at .result) (c .before .before .before .before .before .before .before .before .before .before .before .before .count-at .ensures .0) (c .before .before .before .before .before .before .before .before .before .before .before .before .before .before .before .before .before .before .before .before .args .key .now) (c .before .before .before .before .before .before .before .before .before .before .before .before .before .before .before .before .before .before .before .before .pre .4) (c .before .before .before .before .before .before .before .before .before .before .find-spot .result) (c .before .before .before .before .before .before .before .before .before .before .find-spot .ensures)) (c .before .before .before .before .before .before .before .before .before .before .before .before .count-at .result) ((c .before .before .before .before .before .before .before .before .before .before .before .before .count-at .ensures .0) ∙ sym (listed (card-of (paper (c .before .before .before .before .before .before .before .before .before .before .before .before .before .before .before .before .before .before .before .before .args .s))) (c .before .before .before .before .before .before .before .before .before .before .before .before .before .before .before .before .before .before .before .before .args .ledger .now) (c .before .before .before .before .before .before .before .before .before .before .before .before .before .before .before .before .before .before .before .before .pre .3) (not-flop (c .before .before .before .before .before .before .before .before .before .before .before .before .before .before .valid .result) (ledger-invalid (card-of (paper (c .before .before .before .before .before .before .before .before .before .before .before .before .before .before .before .before .before .before .before .before .args .s))) (c .before .before .before .before .before .before .before .before .before .before .before .before .before .before .before .before .before .before .before .before .args .ledger .now)) (c .before .before .before .before .before .before .before .before .before .before .before .before .before .before .valid .ensures) (not-false _ (c .before .before .before .before .before .before .before .before .before .before .before .before .before .if1 .left))))) (c .before .before .before .before .before .before .before .before .before .before .before .before .before .before .before .before .before .before .before .before .args .edit) (sym (c .before .before .before .before .before .before .before .before .before .refusal-by-list .ensures) ∙ c .before .before .before .before .before .before .before .before .if2 .left) in
-    let room = fits-capacity (paper (c .before .before .before .before .before .before .before .before .before .before .before .before .before .before .before .before .before .before .before .before .args .s)) (c .before .before .before .before .before .before .before .before .before .before .before .before .before .before .before .before .before .before .before .before .args .key .now) (c .before .before .before .before .before .before .before .before .before .before .before .before .before .before .before .before .before .before .before .before .args .class) (ledger-records (card-of (paper (c .before .before .before .before .before .before .before .before .before .before .before .before .before .before .before .before .before .before .before .before .args .s))) (c .before .before .before .before .before .before .before .before .before .before .before .before .before .before .before .before .before .before .before .before .args .ledger .now)) (c .before .before .before .before .before .before .before .before .before .before .find-spot .result) (ledger-spot (card-of (paper (c .before .before .before .before .before .before .before .before .before .before .before .before .before .before .before .before .before .before .before .before .args .s))) (c .before .before .before .before .before .before .before .before .before .before .before .before .before .before .before .before .before .before .before .before .args .ledger .now) (c .before .before .before .before .before .before .before .before .before .before .before .before .before .before .before .before .before .before .before .before .pre .3) (not-flop (c .before .before .before .before .before .before .before .before .before .before .before .before .before .before .valid .result) (ledger-invalid (card-of (paper (c .before .before .before .before .before .before .before .before .before .before .before .before .before .before .before .before .before .before .before .before .args .s))) (c .before .before .before .before .before .before .before .before .before .before .before .before .before .before .before .before .before .before .before .before .args .ledger .now)) (c .before .before .before .before .before .before .before .before .before .before .before .before .before .before .valid .ensures) (not-false _ (c .before .before .before .before .before .before .before .before .before .before .before .before .before .if1 .left))) (c .before .before .before .before .before .before .before .before .before .before .before .before .count-at .result) (c .before .before .before .before .before .before .before .before .before .before .before .before .count-at .ensures .0) (c .before .before .before .before .before .before .before .before .before .before .before .before .before .before .before .before .before .before .before .before .args .key .now) (c .before .before .before .before .before .before .before .before .before .before .before .before .before .before .before .before .before .before .before .before .pre .4) (c .before .before .before .before .before .before .before .before .before .before .find-spot .result) (c .before .before .before .before .before .before .before .before .before .before .find-spot .ensures)) (c .before .before .before .before .before .before .before .before .before .before .before .before .count-at .result) ((c .before .before .before .before .before .before .before .before .before .before .before .before .count-at .ensures .0) ∙ sym (listed (card-of (paper (c .before .before .before .before .before .before .before .before .before .before .before .before .before .before .before .before .before .before .before .before .args .s))) (c .before .before .before .before .before .before .before .before .before .before .before .before .before .before .before .before .before .before .before .before .args .ledger .now) (c .before .before .before .before .before .before .before .before .before .before .before .before .before .before .before .before .before .before .before .before .pre .3) (not-flop (c .before .before .before .before .before .before .before .before .before .before .before .before .before .before .valid .result) (ledger-invalid (card-of (paper (c .before .before .before .before .before .before .before .before .before .before .before .before .before .before .before .before .before .before .before .before .args .s))) (c .before .before .before .before .before .before .before .before .before .before .before .before .before .before .before .before .before .before .before .before .args .ledger .now)) (c .before .before .before .before .before .before .before .before .before .before .before .before .before .before .valid .ensures) (not-false _ (c .before .before .before .before .before .before .before .before .before .before .before .before .before .if1 .left))))) (c .before .before .before .before .before .before .before .before .before .before .before .before .before .before .before .before .before .before .before .before .args .edit) (sym (c .before .before .before .before .before .before .before .before .before .refusal-by-list .ensures) ∙ c .before .before .before .before .before .before .before .before .if2 .left) (omega (arith, many, (c .before .before .before .before .before .before .before .before .before .before .before .before .count-at .ensures .0), capacity-is (paper (c .before .before .before .before .before .before .before .before .before .before .before .before .before .before .before .before .before .before .before .before .args .s)))) in
+    let is = makes (paper (c .before .before .before .before .before .before .before .before .before .before .before .before .before .before .before .before .before .before .before .before .args .s)) (c .before .before .before .before .before .before .before .before .before .before .before .before .before .before .before .before .before .before .before .before .args .key .now) (c .before .before .before .before .before .before .before .before .before .before .before .before .before .before .before .before .before .before .before .before .args .class) (ledger-records (card-of (paper (c .before .before .before .before .before .before .before .before .before .before .before .before .before .before .before .before .before .before .before .before .args .s))) (c .before .before .before .before .before .before .before .before .before .before .before .before .before .before .before .before .before .before .before .before .args .ledger .now)) (c .before .before .before .before .before .before .before .before .before .before .find-spot .result) (ledger-spot (card-of (paper (c .before .before .before .before .before .before .before .before .before .before .before .before .before .before .before .before .before .before .before .before .args .s))) (c .before .before .before .before .before .before .before .before .before .before .before .before .before .before .before .before .before .before .before .before .args .ledger .now) (c .before .before .before .before .before .before .before .before .before .before .before .before .before .before .before .before .before .before .before .before .pre .3) (negated-true (c .before .before .before .before .before .before .before .before .before .before .before .before .before .before .valid .result) (ledger-invalid (card-of (paper (c .before .before .before .before .before .before .before .before .before .before .before .before .before .before .before .before .before .before .before .before .args .s))) (c .before .before .before .before .before .before .before .before .before .before .before .before .before .before .before .before .before .before .before .before .args .ledger .now)) (c .before .before .before .before .before .before .before .before .before .before .before .before .before .before .valid .ensures) (not-false _ (c .before .before .before .before .before .before .before .before .before .before .before .before .before .if1 .left))) (c .before .before .before .before .before .before .before .before .before .before .before .before .count-at .result) (c .before .before .before .before .before .before .before .before .before .before .before .before .count-at .ensures .0) (c .before .before .before .before .before .before .before .before .before .before .before .before .before .before .before .before .before .before .before .before .args .key .now) (c .before .before .before .before .before .before .before .before .before .before .before .before .before .before .before .before .before .before .before .before .pre .4) (c .before .before .before .before .before .before .before .before .before .before .find-spot .result) (c .before .before .before .before .before .before .before .before .before .before .find-spot .ensures)) (c .before .before .before .before .before .before .before .before .before .before .before .before .count-at .result) ((c .before .before .before .before .before .before .before .before .before .before .before .before .count-at .ensures .0) ∙ sym (listed (card-of (paper (c .before .before .before .before .before .before .before .before .before .before .before .before .before .before .before .before .before .before .before .before .args .s))) (c .before .before .before .before .before .before .before .before .before .before .before .before .before .before .before .before .before .before .before .before .args .ledger .now) (c .before .before .before .before .before .before .before .before .before .before .before .before .before .before .before .before .before .before .before .before .pre .3) (negated-true (c .before .before .before .before .before .before .before .before .before .before .before .before .before .before .valid .result) (ledger-invalid (card-of (paper (c .before .before .before .before .before .before .before .before .before .before .before .before .before .before .before .before .before .before .before .before .args .s))) (c .before .before .before .before .before .before .before .before .before .before .before .before .before .before .before .before .before .before .before .before .args .ledger .now)) (c .before .before .before .before .before .before .before .before .before .before .before .before .before .before .valid .ensures) (not-false _ (c .before .before .before .before .before .before .before .before .before .before .before .before .before .if1 .left))))) (c .before .before .before .before .before .before .before .before .before .before .before .before .before .before .before .before .before .before .before .before .args .edit) (sym (c .before .before .before .before .before .before .before .before .before .refusal-by-list .ensures) ∙ c .before .before .before .before .before .before .before .before .if2 .left) in
+    let many = few (card-of (paper (c .before .before .before .before .before .before .before .before .before .before .before .before .before .before .before .before .before .before .before .before .args .s))) (c .before .before .before .before .before .before .before .before .before .before .before .before .before .before .before .before .before .before .before .before .args .ledger .now) (c .before .before .before .before .before .before .before .before .before .before .before .before .before .before .before .before .before .before .before .before .pre .3) (negated-true (c .before .before .before .before .before .before .before .before .before .before .before .before .before .before .valid .result) (ledger-invalid (card-of (paper (c .before .before .before .before .before .before .before .before .before .before .before .before .before .before .before .before .before .before .before .before .args .s))) (c .before .before .before .before .before .before .before .before .before .before .before .before .before .before .before .before .before .before .before .before .args .ledger .now)) (c .before .before .before .before .before .before .before .before .before .before .before .before .before .before .valid .ensures) (not-false _ (c .before .before .before .before .before .before .before .before .before .before .before .before .before .if1 .left))) in
+    let long = made-length (paper (c .before .before .before .before .before .before .before .before .before .before .before .before .before .before .before .before .before .before .before .before .args .s)) (c .before .before .before .before .before .before .before .before .before .before .before .before .before .before .before .before .before .before .before .before .args .key .now) (c .before .before .before .before .before .before .before .before .before .before .before .before .before .before .before .before .before .before .before .before .args .class) (ledger-records (card-of (paper (c .before .before .before .before .before .before .before .before .before .before .before .before .before .before .before .before .before .before .before .before .args .s))) (c .before .before .before .before .before .before .before .before .before .before .before .before .before .before .before .before .before .before .before .before .args .ledger .now)) (c .before .before .before .before .before .before .before .before .before .before .find-spot .result) (ledger-spot (card-of (paper (c .before .before .before .before .before .before .before .before .before .before .before .before .before .before .before .before .before .before .before .before .args .s))) (c .before .before .before .before .before .before .before .before .before .before .before .before .before .before .before .before .before .before .before .before .args .ledger .now) (c .before .before .before .before .before .before .before .before .before .before .before .before .before .before .before .before .before .before .before .before .pre .3) (negated-true (c .before .before .before .before .before .before .before .before .before .before .before .before .before .before .valid .result) (ledger-invalid (card-of (paper (c .before .before .before .before .before .before .before .before .before .before .before .before .before .before .before .before .before .before .before .before .args .s))) (c .before .before .before .before .before .before .before .before .before .before .before .before .before .before .before .before .before .before .before .before .args .ledger .now)) (c .before .before .before .before .before .before .before .before .before .before .before .before .before .before .valid .ensures) (not-false _ (c .before .before .before .before .before .before .before .before .before .before .before .before .before .if1 .left))) (c .before .before .before .before .before .before .before .before .before .before .before .before .count-at .result) (c .before .before .before .before .before .before .before .before .before .before .before .before .count-at .ensures .0) (c .before .before .before .before .before .before .before .before .before .before .before .before .before .before .before .before .before .before .before .before .args .key .now) (c .before .before .before .before .before .before .before .before .before .before .before .before .before .before .before .before .before .before .before .before .pre .4) (c .before .before .before .before .before .before .before .before .before .before .find-spot .result) (c .before .before .before .before .before .before .before .before .before .before .find-spot .ensures)) (c .before .before .before .before .before .before .before .before .before .before .before .before .count-at .result) ((c .before .before .before .before .before .before .before .before .before .before .before .before .count-at .ensures .0) ∙ sym (listed (card-of (paper (c .before .before .before .before .before .before .before .before .before .before .before .before .before .before .before .before .before .before .before .before .args .s))) (c .before .before .before .before .before .before .before .before .before .before .before .before .before .before .before .before .before .before .before .before .args .ledger .now) (c .before .before .before .before .before .before .before .before .before .before .before .before .before .before .before .before .before .before .before .before .pre .3) (negated-true (c .before .before .before .before .before .before .before .before .before .before .before .before .before .before .valid .result) (ledger-invalid (card-of (paper (c .before .before .before .before .before .before .before .before .before .before .before .before .before .before .before .before .before .before .before .before .args .s))) (c .before .before .before .before .before .before .before .before .before .before .before .before .before .before .before .before .before .before .before .before .args .ledger .now)) (c .before .before .before .before .before .before .before .before .before .before .before .before .before .before .valid .ensures) (not-false _ (c .before .before .before .before .before .before .before .before .before .before .before .before .before .if1 .left))))) (c .before .before .before .before .before .before .before .before .before .before .before .before .before .before .before .before .before .before .before .before .args .edit) (sym (c .before .before .before .before .before .before .before .before .before .refusal-by-list .ensures) ∙ c .before .before .before .before .before .before .before .before .if2 .left) in
+    let room = fits-capacity (paper (c .before .before .before .before .before .before .before .before .before .before .before .before .before .before .before .before .before .before .before .before .args .s)) (c .before .before .before .before .before .before .before .before .before .before .before .before .before .before .before .before .before .before .before .before .args .key .now) (c .before .before .before .before .before .before .before .before .before .before .before .before .before .before .before .before .before .before .before .before .args .class) (ledger-records (card-of (paper (c .before .before .before .before .before .before .before .before .before .before .before .before .before .before .before .before .before .before .before .before .args .s))) (c .before .before .before .before .before .before .before .before .before .before .before .before .before .before .before .before .before .before .before .before .args .ledger .now)) (c .before .before .before .before .before .before .before .before .before .before .find-spot .result) (ledger-spot (card-of (paper (c .before .before .before .before .before .before .before .before .before .before .before .before .before .before .before .before .before .before .before .before .args .s))) (c .before .before .before .before .before .before .before .before .before .before .before .before .before .before .before .before .before .before .before .before .args .ledger .now) (c .before .before .before .before .before .before .before .before .before .before .before .before .before .before .before .before .before .before .before .before .pre .3) (negated-true (c .before .before .before .before .before .before .before .before .before .before .before .before .before .before .valid .result) (ledger-invalid (card-of (paper (c .before .before .before .before .before .before .before .before .before .before .before .before .before .before .before .before .before .before .before .before .args .s))) (c .before .before .before .before .before .before .before .before .before .before .before .before .before .before .before .before .before .before .before .before .args .ledger .now)) (c .before .before .before .before .before .before .before .before .before .before .before .before .before .before .valid .ensures) (not-false _ (c .before .before .before .before .before .before .before .before .before .before .before .before .before .if1 .left))) (c .before .before .before .before .before .before .before .before .before .before .before .before .count-at .result) (c .before .before .before .before .before .before .before .before .before .before .before .before .count-at .ensures .0) (c .before .before .before .before .before .before .before .before .before .before .before .before .before .before .before .before .before .before .before .before .args .key .now) (c .before .before .before .before .before .before .before .before .before .before .before .before .before .before .before .before .before .before .before .before .pre .4) (c .before .before .before .before .before .before .before .before .before .before .find-spot .result) (c .before .before .before .before .before .before .before .before .before .before .find-spot .ensures)) (c .before .before .before .before .before .before .before .before .before .before .before .before .count-at .result) ((c .before .before .before .before .before .before .before .before .before .before .before .before .count-at .ensures .0) ∙ sym (listed (card-of (paper (c .before .before .before .before .before .before .before .before .before .before .before .before .before .before .before .before .before .before .before .before .args .s))) (c .before .before .before .before .before .before .before .before .before .before .before .before .before .before .before .before .before .before .before .before .args .ledger .now) (c .before .before .before .before .before .before .before .before .before .before .before .before .before .before .before .before .before .before .before .before .pre .3) (negated-true (c .before .before .before .before .before .before .before .before .before .before .before .before .before .before .valid .result) (ledger-invalid (card-of (paper (c .before .before .before .before .before .before .before .before .before .before .before .before .before .before .before .before .before .before .before .before .args .s))) (c .before .before .before .before .before .before .before .before .before .before .before .before .before .before .before .before .before .before .before .before .args .ledger .now)) (c .before .before .before .before .before .before .before .before .before .before .before .before .before .before .valid .ensures) (not-false _ (c .before .before .before .before .before .before .before .before .before .before .before .before .before .if1 .left))))) (c .before .before .before .before .before .before .before .before .before .before .before .before .before .before .before .before .before .before .before .before .args .edit) (sym (c .before .before .before .before .before .before .before .before .before .refusal-by-list .ensures) ∙ c .before .before .before .before .before .before .before .before .if2 .left) (omega (arith, many, (c .before .before .before .before .before .before .before .before .before .before .before .before .count-at .ensures .0), capacity-is (paper (c .before .before .before .before .before .before .before .before .before .before .before .before .before .before .before .before .before .before .before .before .args .s)))) in
     let enough : c .before .before .before .before .before .before .place-new .result ≤ (card-of (paper (c .before .before .before .before .before .before .before .before .before .before .before .before .before .before .before .before .before .before .before .before .args .s))) .side-places = omega (arith, c .before .before .if3 .left, side-places-are (paper (c .before .before .before .before .before .before .before .before .before .before .before .before .before .before .before .before .before .before .before .before .args .s))) in (
-      sym (judged-0 (paper (c .before .before .before .before .before .before .before .before .before .before .before .before .before .before .before .before .before .before .before .before .args .s)) (c .before .before .before .before .before .before .before .before .before .before .before .before .before .before .before .before .before .before .before .before .args .edit) (c .before .before .before .before .before .before .before .before .before .before .before .before .before .before .before .before .before .before .before .before .args .key .now) (c .before .before .before .before .before .before .before .before .before .before .before .before .before .before .before .before .before .before .before .before .args .class) (c .before .before .before .before .before .before .before .before .before .before .before .before .before .before .before .before .before .before .before .before .args .ledger .now) (not-flop (c .before .before .before .before .before .before .before .before .before .before .before .before .before .before .valid .result) (ledger-invalid (card-of (paper (c .before .before .before .before .before .before .before .before .before .before .before .before .before .before .before .before .before .before .before .before .args .s))) (c .before .before .before .before .before .before .before .before .before .before .before .before .before .before .before .before .before .before .before .before .args .ledger .now)) (c .before .before .before .before .before .before .before .before .before .before .before .before .before .before .valid .ensures) (not-false _ (c .before .before .before .before .before .before .before .before .before .before .before .before .before .if1 .left))) (c .before .before .before .before .before .before .before .before .before .before .before .before .before .before .before .before .before .before .before .before .pre .4) (c .before .before .before .before .before .before .before .before .before .before .find-spot .result) (ledger-spot (card-of (paper (c .before .before .before .before .before .before .before .before .before .before .before .before .before .before .before .before .before .before .before .before .args .s))) (c .before .before .before .before .before .before .before .before .before .before .before .before .before .before .before .before .before .before .before .before .args .ledger .now) (c .before .before .before .before .before .before .before .before .before .before .before .before .before .before .before .before .before .before .before .before .pre .3) (not-flop (c .before .before .before .before .before .before .before .before .before .before .before .before .before .before .valid .result) (ledger-invalid (card-of (paper (c .before .before .before .before .before .before .before .before .before .before .before .before .before .before .before .before .before .before .before .before .args .s))) (c .before .before .before .before .before .before .before .before .before .before .before .before .before .before .before .before .before .before .before .before .args .ledger .now)) (c .before .before .before .before .before .before .before .before .before .before .before .before .before .before .valid .ensures) (not-false _ (c .before .before .before .before .before .before .before .before .before .before .before .before .before .if1 .left))) (c .before .before .before .before .before .before .before .before .before .before .before .before .count-at .result) (c .before .before .before .before .before .before .before .before .before .before .before .before .count-at .ensures .0) (c .before .before .before .before .before .before .before .before .before .before .before .before .before .before .before .before .before .before .before .before .args .key .now) (c .before .before .before .before .before .before .before .before .before .before .before .before .before .before .before .before .before .before .before .before .pre .4) (c .before .before .before .before .before .before .before .before .before .before .find-spot .result) (c .before .before .before .before .before .before .before .before .before .before .find-spot .ensures)) (c .before .before .before .before .before .before .before .before .before .before .before .before .count-at .result) ((c .before .before .before .before .before .before .before .before .before .before .before .before .count-at .ensures .0) ∙ sym (listed (card-of (paper (c .before .before .before .before .before .before .before .before .before .before .before .before .before .before .before .before .before .before .before .before .args .s))) (c .before .before .before .before .before .before .before .before .before .before .before .before .before .before .before .before .before .before .before .before .args .ledger .now) (c .before .before .before .before .before .before .before .before .before .before .before .before .before .before .before .before .before .before .before .before .pre .3) (not-flop (c .before .before .before .before .before .before .before .before .before .before .before .before .before .before .valid .result) (ledger-invalid (card-of (paper (c .before .before .before .before .before .before .before .before .before .before .before .before .before .before .before .before .before .before .before .before .args .s))) (c .before .before .before .before .before .before .before .before .before .before .before .before .before .before .before .before .before .before .before .before .args .ledger .now)) (c .before .before .before .before .before .before .before .before .before .before .before .before .before .before .valid .ensures) (not-false _ (c .before .before .before .before .before .before .before .before .before .before .before .before .before .if1 .left))))) (sym (c .before .before .before .before .before .before .before .before .before .refusal-by-list .ensures) ∙ c .before .before .before .before .before .before .before .before .if2 .left) (c .before .before .before .before .before .before .place-new .result) made enough),
+      sym (judged-0 (paper (c .before .before .before .before .before .before .before .before .before .before .before .before .before .before .before .before .before .before .before .before .args .s)) (c .before .before .before .before .before .before .before .before .before .before .before .before .before .before .before .before .before .before .before .before .args .edit) (c .before .before .before .before .before .before .before .before .before .before .before .before .before .before .before .before .before .before .before .before .args .key .now) (c .before .before .before .before .before .before .before .before .before .before .before .before .before .before .before .before .before .before .before .before .args .class) (c .before .before .before .before .before .before .before .before .before .before .before .before .before .before .before .before .before .before .before .before .args .ledger .now) (negated-true (c .before .before .before .before .before .before .before .before .before .before .before .before .before .before .valid .result) (ledger-invalid (card-of (paper (c .before .before .before .before .before .before .before .before .before .before .before .before .before .before .before .before .before .before .before .before .args .s))) (c .before .before .before .before .before .before .before .before .before .before .before .before .before .before .before .before .before .before .before .before .args .ledger .now)) (c .before .before .before .before .before .before .before .before .before .before .before .before .before .before .valid .ensures) (not-false _ (c .before .before .before .before .before .before .before .before .before .before .before .before .before .if1 .left))) (c .before .before .before .before .before .before .before .before .before .before .before .before .before .before .before .before .before .before .before .before .pre .4) (c .before .before .before .before .before .before .before .before .before .before .find-spot .result) (ledger-spot (card-of (paper (c .before .before .before .before .before .before .before .before .before .before .before .before .before .before .before .before .before .before .before .before .args .s))) (c .before .before .before .before .before .before .before .before .before .before .before .before .before .before .before .before .before .before .before .before .args .ledger .now) (c .before .before .before .before .before .before .before .before .before .before .before .before .before .before .before .before .before .before .before .before .pre .3) (negated-true (c .before .before .before .before .before .before .before .before .before .before .before .before .before .before .valid .result) (ledger-invalid (card-of (paper (c .before .before .before .before .before .before .before .before .before .before .before .before .before .before .before .before .before .before .before .before .args .s))) (c .before .before .before .before .before .before .before .before .before .before .before .before .before .before .before .before .before .before .before .before .args .ledger .now)) (c .before .before .before .before .before .before .before .before .before .before .before .before .before .before .valid .ensures) (not-false _ (c .before .before .before .before .before .before .before .before .before .before .before .before .before .if1 .left))) (c .before .before .before .before .before .before .before .before .before .before .before .before .count-at .result) (c .before .before .before .before .before .before .before .before .before .before .before .before .count-at .ensures .0) (c .before .before .before .before .before .before .before .before .before .before .before .before .before .before .before .before .before .before .before .before .args .key .now) (c .before .before .before .before .before .before .before .before .before .before .before .before .before .before .before .before .before .before .before .before .pre .4) (c .before .before .before .before .before .before .before .before .before .before .find-spot .result) (c .before .before .before .before .before .before .before .before .before .before .find-spot .ensures)) (c .before .before .before .before .before .before .before .before .before .before .before .before .count-at .result) ((c .before .before .before .before .before .before .before .before .before .before .before .before .count-at .ensures .0) ∙ sym (listed (card-of (paper (c .before .before .before .before .before .before .before .before .before .before .before .before .before .before .before .before .before .before .before .before .args .s))) (c .before .before .before .before .before .before .before .before .before .before .before .before .before .before .before .before .before .before .before .before .args .ledger .now) (c .before .before .before .before .before .before .before .before .before .before .before .before .before .before .before .before .before .before .before .before .pre .3) (negated-true (c .before .before .before .before .before .before .before .before .before .before .before .before .before .before .valid .result) (ledger-invalid (card-of (paper (c .before .before .before .before .before .before .before .before .before .before .before .before .before .before .before .before .before .before .before .before .args .s))) (c .before .before .before .before .before .before .before .before .before .before .before .before .before .before .before .before .before .before .before .before .args .ledger .now)) (c .before .before .before .before .before .before .before .before .before .before .before .before .before .before .valid .ensures) (not-false _ (c .before .before .before .before .before .before .before .before .before .before .before .before .before .if1 .left))))) (sym (c .before .before .before .before .before .before .before .before .before .refusal-by-list .ensures) ∙ c .before .before .before .before .before .before .before .before .if2 .left) (c .before .before .before .before .before .before .place-new .result) made enough),
       λ z. record {
-        valid = (not-flop (c .before .before .before .before .before .before .before .before .before .before .before .before .before .before .valid .result) (ledger-invalid (card-of (paper (c .before .before .before .before .before .before .before .before .before .before .before .before .before .before .before .before .before .before .before .before .args .s))) (c .before .before .before .before .before .before .before .before .before .before .before .before .before .before .before .before .before .before .before .before .args .ledger .now)) (c .before .before .before .before .before .before .before .before .before .before .before .before .before .before .valid .ensures) (not-false _ (c .before .before .before .before .before .before .before .before .before .before .before .before .before .if1 .left)));
-        place = subst (λ (n : ℕ). Fits (c .before .before .before .before .before .before .before .before .before .before .before .before .before .before .before .before .before .before .before .before .args .edit) (c .before .before .before .before .before .before .before .before .before .before .find-spot .result .at) n) ((c .before .before .before .before .before .before .before .before .before .before .before .before .count-at .ensures .0) ∙ sym (listed (card-of (paper (c .before .before .before .before .before .before .before .before .before .before .before .before .before .before .before .before .before .before .before .before .args .s))) (c .before .before .before .before .before .before .before .before .before .before .before .before .before .before .before .before .before .before .before .before .args .ledger .now) (c .before .before .before .before .before .before .before .before .before .before .before .before .before .before .before .before .before .before .before .before .pre .3) (not-flop (c .before .before .before .before .before .before .before .before .before .before .before .before .before .before .valid .result) (ledger-invalid (card-of (paper (c .before .before .before .before .before .before .before .before .before .before .before .before .before .before .before .before .before .before .before .before .args .s))) (c .before .before .before .before .before .before .before .before .before .before .before .before .before .before .before .before .before .before .before .before .args .ledger .now)) (c .before .before .before .before .before .before .before .before .before .before .before .before .before .before .valid .ensures) (not-false _ (c .before .before .before .before .before .before .before .before .before .before .before .before .before .if1 .left))))) (place-fits (paper (c .before .before .before .before .before .before .before .before .before .before .before .before .before .before .before .before .before .before .before .before .args .s)) (c .before .before .before .before .before .before .before .before .before .before .before .before .before .before .before .before .before .before .before .before .args .key .now) (c .before .before .before .before .before .before .before .before .before .before .before .before .before .before .before .before .before .before .before .before .args .class) (ledger-records (card-of (paper (c .before .before .before .before .before .before .before .before .before .before .before .before .before .before .before .before .before .before .before .before .args .s))) (c .before .before .before .before .before .before .before .before .before .before .before .before .before .before .before .before .before .before .before .before .args .ledger .now)) (c .before .before .before .before .before .before .before .before .before .before .find-spot .result) (ledger-spot (card-of (paper (c .before .before .before .before .before .before .before .before .before .before .before .before .before .before .before .before .before .before .before .before .args .s))) (c .before .before .before .before .before .before .before .before .before .before .before .before .before .before .before .before .before .before .before .before .args .ledger .now) (c .before .before .before .before .before .before .before .before .before .before .before .before .before .before .before .before .before .before .before .before .pre .3) (not-flop (c .before .before .before .before .before .before .before .before .before .before .before .before .before .before .valid .result) (ledger-invalid (card-of (paper (c .before .before .before .before .before .before .before .before .before .before .before .before .before .before .before .before .before .before .before .before .args .s))) (c .before .before .before .before .before .before .before .before .before .before .before .before .before .before .before .before .before .before .before .before .args .ledger .now)) (c .before .before .before .before .before .before .before .before .before .before .before .before .before .before .valid .ensures) (not-false _ (c .before .before .before .before .before .before .before .before .before .before .before .before .before .if1 .left))) (c .before .before .before .before .before .before .before .before .before .before .before .before .count-at .result) (c .before .before .before .before .before .before .before .before .before .before .before .before .count-at .ensures .0) (c .before .before .before .before .before .before .before .before .before .before .before .before .before .before .before .before .before .before .before .before .args .key .now) (c .before .before .before .before .before .before .before .before .before .before .before .before .before .before .before .before .before .before .before .before .pre .4) (c .before .before .before .before .before .before .before .before .before .before .find-spot .result) (c .before .before .before .before .before .before .before .before .before .before .find-spot .ensures)) (c .before .before .before .before .before .before .before .before .before .before .before .before .count-at .result) ((c .before .before .before .before .before .before .before .before .before .before .before .before .count-at .ensures .0) ∙ sym (listed (card-of (paper (c .before .before .before .before .before .before .before .before .before .before .before .before .before .before .before .before .before .before .before .before .args .s))) (c .before .before .before .before .before .before .before .before .before .before .before .before .before .before .before .before .before .before .before .before .args .ledger .now) (c .before .before .before .before .before .before .before .before .before .before .before .before .before .before .before .before .before .before .before .before .pre .3) (not-flop (c .before .before .before .before .before .before .before .before .before .before .before .before .before .before .valid .result) (ledger-invalid (card-of (paper (c .before .before .before .before .before .before .before .before .before .before .before .before .before .before .before .before .before .before .before .before .args .s))) (c .before .before .before .before .before .before .before .before .before .before .before .before .before .before .before .before .before .before .before .before .args .ledger .now)) (c .before .before .before .before .before .before .before .before .before .before .before .before .before .before .valid .ensures) (not-false _ (c .before .before .before .before .before .before .before .before .before .before .before .before .before .if1 .left))))) (c .before .before .before .before .before .before .before .before .before .before .before .before .before .before .before .before .before .before .before .before .args .edit) (sym (c .before .before .before .before .before .before .before .before .before .refusal-by-list .ensures) ∙ c .before .before .before .before .before .before .before .before .if2 .left));
-        room = rw long (omega (arith, room, capacity-is (paper (c .before .before .before .before .before .before .before .before .before .before .before .before .before .before .before .before .before .before .before .before .args .s)), within (c .before .before .before .before .before .before .before .before .before .before .before .before .before .before .before .before .before .before .before .before .args .edit) (c .before .before .before .before .before .before .before .before .before .before .find-spot .result .at) (c .before .before .before .before .before .before .before .before .before .before .before .before .count-at .result) (place-fits (paper (c .before .before .before .before .before .before .before .before .before .before .before .before .before .before .before .before .before .before .before .before .args .s)) (c .before .before .before .before .before .before .before .before .before .before .before .before .before .before .before .before .before .before .before .before .args .key .now) (c .before .before .before .before .before .before .before .before .before .before .before .before .before .before .before .before .before .before .before .before .args .class) (ledger-records (card-of (paper (c .before .before .before .before .before .before .before .before .before .before .before .before .before .before .before .before .before .before .before .before .args .s))) (c .before .before .before .before .before .before .before .before .before .before .before .before .before .before .before .before .before .before .before .before .args .ledger .now)) (c .before .before .before .before .before .before .before .before .before .before .find-spot .result) (ledger-spot (card-of (paper (c .before .before .before .before .before .before .before .before .before .before .before .before .before .before .before .before .before .before .before .before .args .s))) (c .before .before .before .before .before .before .before .before .before .before .before .before .before .before .before .before .before .before .before .before .args .ledger .now) (c .before .before .before .before .before .before .before .before .before .before .before .before .before .before .before .before .before .before .before .before .pre .3) (not-flop (c .before .before .before .before .before .before .before .before .before .before .before .before .before .before .valid .result) (ledger-invalid (card-of (paper (c .before .before .before .before .before .before .before .before .before .before .before .before .before .before .before .before .before .before .before .before .args .s))) (c .before .before .before .before .before .before .before .before .before .before .before .before .before .before .before .before .before .before .before .before .args .ledger .now)) (c .before .before .before .before .before .before .before .before .before .before .before .before .before .before .valid .ensures) (not-false _ (c .before .before .before .before .before .before .before .before .before .before .before .before .before .if1 .left))) (c .before .before .before .before .before .before .before .before .before .before .before .before .count-at .result) (c .before .before .before .before .before .before .before .before .before .before .before .before .count-at .ensures .0) (c .before .before .before .before .before .before .before .before .before .before .before .before .before .before .before .before .before .before .before .before .args .key .now) (c .before .before .before .before .before .before .before .before .before .before .before .before .before .before .before .before .before .before .before .before .pre .4) (c .before .before .before .before .before .before .before .before .before .before .find-spot .result) (c .before .before .before .before .before .before .before .before .before .before .find-spot .ensures)) (c .before .before .before .before .before .before .before .before .before .before .before .before .count-at .result) ((c .before .before .before .before .before .before .before .before .before .before .before .before .count-at .ensures .0) ∙ sym (listed (card-of (paper (c .before .before .before .before .before .before .before .before .before .before .before .before .before .before .before .before .before .before .before .before .args .s))) (c .before .before .before .before .before .before .before .before .before .before .before .before .before .before .before .before .before .before .before .before .args .ledger .now) (c .before .before .before .before .before .before .before .before .before .before .before .before .before .before .before .before .before .before .before .before .pre .3) (not-flop (c .before .before .before .before .before .before .before .before .before .before .before .before .before .before .valid .result) (ledger-invalid (card-of (paper (c .before .before .before .before .before .before .before .before .before .before .before .before .before .before .before .before .before .before .before .before .args .s))) (c .before .before .before .before .before .before .before .before .before .before .before .before .before .before .before .before .before .before .before .before .args .ledger .now)) (c .before .before .before .before .before .before .before .before .before .before .before .before .before .before .valid .ensures) (not-false _ (c .before .before .before .before .before .before .before .before .before .before .before .before .before .if1 .left))))) (c .before .before .before .before .before .before .before .before .before .before .before .before .before .before .before .before .before .before .before .before .args .edit) (sym (c .before .before .before .before .before .before .before .before .before .refusal-by-list .ensures) ∙ c .before .before .before .before .before .before .before .before .if2 .left)) .1));
+        valid = (negated-true (c .before .before .before .before .before .before .before .before .before .before .before .before .before .before .valid .result) (ledger-invalid (card-of (paper (c .before .before .before .before .before .before .before .before .before .before .before .before .before .before .before .before .before .before .before .before .args .s))) (c .before .before .before .before .before .before .before .before .before .before .before .before .before .before .before .before .before .before .before .before .args .ledger .now)) (c .before .before .before .before .before .before .before .before .before .before .before .before .before .before .valid .ensures) (not-false _ (c .before .before .before .before .before .before .before .before .before .before .before .before .before .if1 .left)));
+        place = subst (λ (n : ℕ). Fits (c .before .before .before .before .before .before .before .before .before .before .before .before .before .before .before .before .before .before .before .before .args .edit) (c .before .before .before .before .before .before .before .before .before .before .find-spot .result .at) n) ((c .before .before .before .before .before .before .before .before .before .before .before .before .count-at .ensures .0) ∙ sym (listed (card-of (paper (c .before .before .before .before .before .before .before .before .before .before .before .before .before .before .before .before .before .before .before .before .args .s))) (c .before .before .before .before .before .before .before .before .before .before .before .before .before .before .before .before .before .before .before .before .args .ledger .now) (c .before .before .before .before .before .before .before .before .before .before .before .before .before .before .before .before .before .before .before .before .pre .3) (negated-true (c .before .before .before .before .before .before .before .before .before .before .before .before .before .before .valid .result) (ledger-invalid (card-of (paper (c .before .before .before .before .before .before .before .before .before .before .before .before .before .before .before .before .before .before .before .before .args .s))) (c .before .before .before .before .before .before .before .before .before .before .before .before .before .before .before .before .before .before .before .before .args .ledger .now)) (c .before .before .before .before .before .before .before .before .before .before .before .before .before .before .valid .ensures) (not-false _ (c .before .before .before .before .before .before .before .before .before .before .before .before .before .if1 .left))))) (place-fits (paper (c .before .before .before .before .before .before .before .before .before .before .before .before .before .before .before .before .before .before .before .before .args .s)) (c .before .before .before .before .before .before .before .before .before .before .before .before .before .before .before .before .before .before .before .before .args .key .now) (c .before .before .before .before .before .before .before .before .before .before .before .before .before .before .before .before .before .before .before .before .args .class) (ledger-records (card-of (paper (c .before .before .before .before .before .before .before .before .before .before .before .before .before .before .before .before .before .before .before .before .args .s))) (c .before .before .before .before .before .before .before .before .before .before .before .before .before .before .before .before .before .before .before .before .args .ledger .now)) (c .before .before .before .before .before .before .before .before .before .before .find-spot .result) (ledger-spot (card-of (paper (c .before .before .before .before .before .before .before .before .before .before .before .before .before .before .before .before .before .before .before .before .args .s))) (c .before .before .before .before .before .before .before .before .before .before .before .before .before .before .before .before .before .before .before .before .args .ledger .now) (c .before .before .before .before .before .before .before .before .before .before .before .before .before .before .before .before .before .before .before .before .pre .3) (negated-true (c .before .before .before .before .before .before .before .before .before .before .before .before .before .before .valid .result) (ledger-invalid (card-of (paper (c .before .before .before .before .before .before .before .before .before .before .before .before .before .before .before .before .before .before .before .before .args .s))) (c .before .before .before .before .before .before .before .before .before .before .before .before .before .before .before .before .before .before .before .before .args .ledger .now)) (c .before .before .before .before .before .before .before .before .before .before .before .before .before .before .valid .ensures) (not-false _ (c .before .before .before .before .before .before .before .before .before .before .before .before .before .if1 .left))) (c .before .before .before .before .before .before .before .before .before .before .before .before .count-at .result) (c .before .before .before .before .before .before .before .before .before .before .before .before .count-at .ensures .0) (c .before .before .before .before .before .before .before .before .before .before .before .before .before .before .before .before .before .before .before .before .args .key .now) (c .before .before .before .before .before .before .before .before .before .before .before .before .before .before .before .before .before .before .before .before .pre .4) (c .before .before .before .before .before .before .before .before .before .before .find-spot .result) (c .before .before .before .before .before .before .before .before .before .before .find-spot .ensures)) (c .before .before .before .before .before .before .before .before .before .before .before .before .count-at .result) ((c .before .before .before .before .before .before .before .before .before .before .before .before .count-at .ensures .0) ∙ sym (listed (card-of (paper (c .before .before .before .before .before .before .before .before .before .before .before .before .before .before .before .before .before .before .before .before .args .s))) (c .before .before .before .before .before .before .before .before .before .before .before .before .before .before .before .before .before .before .before .before .args .ledger .now) (c .before .before .before .before .before .before .before .before .before .before .before .before .before .before .before .before .before .before .before .before .pre .3) (negated-true (c .before .before .before .before .before .before .before .before .before .before .before .before .before .before .valid .result) (ledger-invalid (card-of (paper (c .before .before .before .before .before .before .before .before .before .before .before .before .before .before .before .before .before .before .before .before .args .s))) (c .before .before .before .before .before .before .before .before .before .before .before .before .before .before .before .before .before .before .before .before .args .ledger .now)) (c .before .before .before .before .before .before .before .before .before .before .before .before .before .before .valid .ensures) (not-false _ (c .before .before .before .before .before .before .before .before .before .before .before .before .before .if1 .left))))) (c .before .before .before .before .before .before .before .before .before .before .before .before .before .before .before .before .before .before .before .before .args .edit) (sym (c .before .before .before .before .before .before .before .before .before .refusal-by-list .ensures) ∙ c .before .before .before .before .before .before .before .before .if2 .left));
+        room = rw long (omega (arith, room, capacity-is (paper (c .before .before .before .before .before .before .before .before .before .before .before .before .before .before .before .before .before .before .before .before .args .s)), within (c .before .before .before .before .before .before .before .before .before .before .before .before .before .before .before .before .before .before .before .before .args .edit) (c .before .before .before .before .before .before .before .before .before .before .find-spot .result .at) (c .before .before .before .before .before .before .before .before .before .before .before .before .count-at .result) (place-fits (paper (c .before .before .before .before .before .before .before .before .before .before .before .before .before .before .before .before .before .before .before .before .args .s)) (c .before .before .before .before .before .before .before .before .before .before .before .before .before .before .before .before .before .before .before .before .args .key .now) (c .before .before .before .before .before .before .before .before .before .before .before .before .before .before .before .before .before .before .before .before .args .class) (ledger-records (card-of (paper (c .before .before .before .before .before .before .before .before .before .before .before .before .before .before .before .before .before .before .before .before .args .s))) (c .before .before .before .before .before .before .before .before .before .before .before .before .before .before .before .before .before .before .before .before .args .ledger .now)) (c .before .before .before .before .before .before .before .before .before .before .find-spot .result) (ledger-spot (card-of (paper (c .before .before .before .before .before .before .before .before .before .before .before .before .before .before .before .before .before .before .before .before .args .s))) (c .before .before .before .before .before .before .before .before .before .before .before .before .before .before .before .before .before .before .before .before .args .ledger .now) (c .before .before .before .before .before .before .before .before .before .before .before .before .before .before .before .before .before .before .before .before .pre .3) (negated-true (c .before .before .before .before .before .before .before .before .before .before .before .before .before .before .valid .result) (ledger-invalid (card-of (paper (c .before .before .before .before .before .before .before .before .before .before .before .before .before .before .before .before .before .before .before .before .args .s))) (c .before .before .before .before .before .before .before .before .before .before .before .before .before .before .before .before .before .before .before .before .args .ledger .now)) (c .before .before .before .before .before .before .before .before .before .before .before .before .before .before .valid .ensures) (not-false _ (c .before .before .before .before .before .before .before .before .before .before .before .before .before .if1 .left))) (c .before .before .before .before .before .before .before .before .before .before .before .before .count-at .result) (c .before .before .before .before .before .before .before .before .before .before .before .before .count-at .ensures .0) (c .before .before .before .before .before .before .before .before .before .before .before .before .before .before .before .before .before .before .before .before .args .key .now) (c .before .before .before .before .before .before .before .before .before .before .before .before .before .before .before .before .before .before .before .before .pre .4) (c .before .before .before .before .before .before .before .before .before .before .find-spot .result) (c .before .before .before .before .before .before .before .before .before .before .find-spot .ensures)) (c .before .before .before .before .before .before .before .before .before .before .before .before .count-at .result) ((c .before .before .before .before .before .before .before .before .before .before .before .before .count-at .ensures .0) ∙ sym (listed (card-of (paper (c .before .before .before .before .before .before .before .before .before .before .before .before .before .before .before .before .before .before .before .before .args .s))) (c .before .before .before .before .before .before .before .before .before .before .before .before .before .before .before .before .before .before .before .before .args .ledger .now) (c .before .before .before .before .before .before .before .before .before .before .before .before .before .before .before .before .before .before .before .before .pre .3) (negated-true (c .before .before .before .before .before .before .before .before .before .before .before .before .before .before .valid .result) (ledger-invalid (card-of (paper (c .before .before .before .before .before .before .before .before .before .before .before .before .before .before .before .before .before .before .before .before .args .s))) (c .before .before .before .before .before .before .before .before .before .before .before .before .before .before .before .before .before .before .before .before .args .ledger .now)) (c .before .before .before .before .before .before .before .before .before .before .before .before .before .before .valid .ensures) (not-false _ (c .before .before .before .before .before .before .before .before .before .before .before .before .before .if1 .left))))) (c .before .before .before .before .before .before .before .before .before .before .before .before .before .before .before .before .before .before .before .before .args .edit) (sym (c .before .before .before .before .before .before .before .before .before .refusal-by-list .ensures) ∙ c .before .before .before .before .before .before .before .before .if2 .left)) .1));
         list = is;
         count = rw (long, c .before .left-out .ensures .0, c .brought .ensures .0);
         worked = rw is worked;
