@@ -10,6 +10,7 @@ use lib.ListN.{length, take, drop, set, length-append, length-drop}
 use lib.Seq.{length-take-le, take-at, drop-at, drop-cons, set-at, drop-drop}
 use Rattle.theory.specs.Flowrun.{decimal}
 use Rattle.theory.proofs.FlowrunLaws.{decimal-digit, decimal-more, decimal-length}
+use Rattle.io.specs.Counts.{Counts}
 use Rattle.io.specs.Digits.{digits, Fewest}
 use Rattle.ledger.proofs.PartLaws.{back, tail-is, tail-back}
 use Rattle.text.specs.Writing.{Writes, Appends}
@@ -75,20 +76,25 @@ pub appends-then : (t u a b c : List ℕ) (n m k : ℕ) → Appends t a n b m �
 appends-then t u a b c n m k f g empty earlier w =
     subst (λ (x : List ℕ). Writes x empty c k) (append-assoc earlier t u) (g empty (earlier ++ t) (f empty earlier w))
 
--- a number of 64 bits is written: ds starts with its k digits, which are copied to the front
-module _ (to ds copied : List ℕ) (n k after : ℕ) (fits : n < 18446744073709551616) (room : 21 ≤ length to) (few : Fewest 10 1 n k) (size : k ≡ length (take k ds)) (is : take k ds ≡ digits 10 k n) where
+-- a number of 64 bits: ds starts with its k digits, which are copied to the front
+module _ (n k : ℕ) (ds : List ℕ) (fits : n < 18446744073709551616) (spelled : Counts k ds × (Fewest 10 1 n k × (take k ds ≡ digits 10 k n))) where
   digits-are : take k ds ≡ decimal n
-  digits-are = is ∙ fewest-decimal k n few
+  digits-are = spelled .1 .1 ∙ fewest-decimal k n (spelled .1 .0)
+
+  length-is : k ≡ length (decimal n)
+  length-is = spelled .0 .1 ∙ ap length digits-are
 
   pub few-digits : k ≤ 20
-  few-digits = let most : length (decimal n) ≤ 20 = decimal-length 19 n (omega arith) in omega (arith, most, size ∙ ap length digits-are)
+  few-digits = let most : length (decimal n) ≤ 20 = decimal-length 19 n (omega arith) in omega (arith, most, length-is)
 
-  pub front-length : length (take k to) ≡ k
-  front-length = length-take-le k to (omega (arith, few-digits))
+  module _ (to : List ℕ) (room : 21 ≤ length to) where
+    pub front-length : length (take k to) ≡ k
+    front-length = length-take-le k to (omega (arith, few-digits))
 
-  pub decimal-written : copied ≡ take k ds → Writes (decimal n ++ (after ∷ [])) to (set (copied ++ drop k to) k after) (k + 1) × (k + 1 ≤ 21)
-  decimal-written e =
-      rw (e, digits-are) (byte-after (decimal n) to k after (sym (size ∙ ap length digits-are)) (omega (arith, few-digits)), omega (arith, few-digits))
+    module _ (copied : List ℕ) (same : copied ≡ take k ds) where
+      pub decimal-inside : k < length (copied ++ drop k to)
+      decimal-inside = rw (same, length-append, length-drop) (omega (arith, few-digits, spelled .0 .1))
 
-  pub decimal-inside : copied ≡ take k ds → k < length (copied ++ drop k to)
-  decimal-inside e = rw (e, length-append, length-drop) (omega (arith, few-digits, size))
+      pub decimal-written : (after : ℕ) → Writes (decimal n ++ (after ∷ [])) to (set (copied ++ drop k to) k after) (k + 1) × (k + 1 ≤ 21)
+      decimal-written after =
+          rw (same, digits-are) (byte-after (decimal n) to k after (sym length-is) (omega (arith, few-digits)), omega (arith, few-digits))

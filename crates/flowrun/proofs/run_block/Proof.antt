@@ -8,76 +8,62 @@ use borrow.Author.Needs.{needs}
 use Rattle.flowrun.proofs.run_block.Statement.{statement}
 use Rattle.flowrun.proofs.run_block.Tie as tie
 
--- src/main.rt:18:32
 slice-aggregate-read-full : tie.Need-slice-aggregate-read-full
 slice-aggregate-read-full c = search needs
 
--- src/main.rt:18:9
 read-full-requires : tie.Need-read-full-requires
 read-full-requires c κs = search needs
 
--- src/main.rt:19:20
 large-buffer-requires : tie.Need-large-buffer-requires
 large-buffer-requires c κs = search needs
 
--- src/main.rt:22:9
 array-share-prefix-input : tie.Need-array-share-prefix-input
 array-share-prefix-input c = search needs
 
--- src/main.rt:22:9
 slice-aggregate-run-calls : tie.Need-slice-aggregate-run-calls
 slice-aggregate-run-calls c = search needs
 
--- src/main.rt:29:9
 slice-aggregate-run-calls-2 : tie.Need-slice-aggregate-run-calls-2
 slice-aggregate-run-calls-2 c = search needs
 
--- src/main.rt:20:9
 run-calls-requires : tie.Need-run-calls-requires
 unfolding call-count
 run-calls-requires c κs =
-    let few : length (take (c .before .before .before .before .before .before .before .before .before .before .read-full .result) (c .before .before .before .before .before .before .before .before .before .before .read-full .last .1 .0)) ≤ 9216 =
-    let same : length (c .before .before .before .before .before .before .before .before .before .before .read-full .last .1 .0) ≡ 9216 = search needs in
-    omega (arith, same, c .before .before .before .before .before .before .before .before .before .before .read-full .ensures .0, c .before .before .before .before .before .before .before .before .before .before .read-full .ensures .1) in
-    (omega (arith, c .before .before .before .before .before .before .before .before .large-buffer .ensures), omega (arith, c .before .before .before .before .before .before .before .before .before .before .before .before .before .before .before .before .before .before .pre))
+    let start = c .before .before .before .before .before .before .before .before .before .before .before .before .before .before .before .before .before .before in
+    let read-full = c .before .before .before .before .before .before .before .before .before .before .read-full in
+    let large-buffer = c .before .before .before .before .before .before .before .before .large-buffer in
+    let few : length (take (read-full .result) (read-full .last .1 .0)) ≤ 9216 =
+    let same : length (read-full .last .1 .0) ≡ 9216 = search needs in
+    omega (arith, same, read-full .ensures .0, read-full .ensures .1) in
+    (omega (arith, large-buffer .ensures), omega (arith, start .pre))
 
--- src/main.rt:31:22
 array-share-prefix-text : tie.Need-array-share-prefix-text
 array-share-prefix-text c = search needs
 
--- src/main.rt:31:22
 slice-aggregate-write-all : tie.Need-slice-aggregate-write-all
 slice-aggregate-write-all c = search needs
 
--- src/main.rt:31:5
 write-all-requires : tie.Need-write-all-requires
 write-all-requires c κs = search needs
 
--- src/main.rt:6:1
 same-length : tie.Need-same-length
 same-length c = search needs
 
--- src/main.rt:6:1
 same-length-2 : tie.Need-same-length-2
 same-length-2 c = search needs
 
--- src/main.rt:6:1
 same-length-3 : tie.Need-same-length-3
 same-length-3 c = search needs
 
--- src/main.rt:6:1
 same-length-4 : tie.Need-same-length-4
 same-length-4 c = search needs
 
--- src/main.rt:6:1
 same-length-5 : tie.Need-same-length-5
 same-length-5 c = search needs
 
--- src/main.rt:6:1
 same-length-6 : tie.Need-same-length-6
 same-length-6 c = search needs
 
--- src/main.rt:6:1
 returns : tie.Need-returns
 returns c = search needs
 

@@ -4,32 +4,26 @@ use Rattle.lines.proofs.LineLaws.{no-call}
 use Rattle.lines.proofs.read_letter.Statement.{statement}
 use Rattle.lines.proofs.read_letter.Tie as tie
 
--- src/lib.rt:39:1
 returns : tie.Need-returns
 unfolding letter-call
 returns c = λ key class. rw (c .match .keys1)
 
--- src/lib.rt:39:1
 returns-2 : tie.Need-returns-2
 unfolding letter-call
 returns-2 c = λ key class. rw (c .match .keys2)
 
--- src/lib.rt:39:1
 returns-3 : tie.Need-returns-3
 unfolding letter-call
 returns-3 c = λ key class. rw (c .match .keys3)
 
--- src/lib.rt:39:1
 returns-4 : tie.Need-returns-4
 unfolding letter-call
 returns-4 c = λ key class. rw (c .match .keys4)
 
--- src/lib.rt:39:1
 returns-5 : tie.Need-returns-5
 unfolding letter-call
 returns-5 c = λ key class. rw (c .match .keys5)
 
--- src/lib.rt:39:1
 returns-6 : tie.Need-returns-6
 returns-6 c =
     let x = c .match .rest in

@@ -4,12 +4,10 @@ use Rattle.theory.specs.Flowrun as flowrun
 use Rattle.lines.proofs.written.Statement.{statement}
 use Rattle.lines.proofs.written.Tie as tie
 
--- src/lib.rt:53:1
 returns : tie.Need-returns
 unfolding flowrun.written
 returns c = rw (c .if1 .taken)
 
--- src/lib.rt:53:1
 returns-2 : tie.Need-returns-2
 unfolding flowrun.written
 returns-2 c = rw (ne-eqb (c .before .args .x .number) 0 (c .if1 .left))

@@ -6,37 +6,32 @@ use Rattle.text.proofs.TextLaws.{append-lent}
 use Rattle.text.proofs.append_letter.Statement.{statement}
 use Rattle.text.proofs.append_letter.Tie as tie
 
--- src/lib.rt:43:23
 sub-write-letter : tie.Need-sub-write-letter
 sub-write-letter c = search needs
 
--- src/lib.rt:43:23
 part-write-letter-start : tie.Need-part-write-letter-start
 part-write-letter-start c = search needs
 
--- src/lib.rt:43:23
 part-write-letter-end : tie.Need-part-write-letter-end
 part-write-letter-end c = search needs
 
--- src/lib.rt:43:10
 write-letter-requires : tie.Need-write-letter-requires
 write-letter-requires c κs = search needs
 
--- src/lib.rt:43:5
 add-result : tie.Need-add-result
 add-result c = search needs
 
--- src/lib.rt:39:1
 same-length : tie.Need-same-length
 same-length c = search needs
 
--- src/lib.rt:39:1
 returns : tie.Need-returns
-returns c = (
-  append-lent (c .before .before .before .before .before .args .letter ∷ c .before .before .before .before .before .args .after ∷ []) (c .before .before .before .before .before .args .to .now) (c .before .before .write-letter .last .0) (c .before .before .before .before .before .args .at) (c .before .before .write-letter .result) (omega (arith, c .before .before .before .before .before .pre)) (c .before .before .write-letter .ensures .0),
-  omega arith,
-  omega (arith, c .before .before .write-letter .ensures .1),
-)
+returns c =
+    let start = c .before .before .before .before .before in
+    let write-letter = c .before .before .write-letter in (
+      append-lent (start .args .letter ∷ start .args .after ∷ []) (start .args .to .now) (write-letter .last .0) (start .args .at) (write-letter .result) (omega (arith, start .pre)) (write-letter .ensures .0),
+      omega arith,
+      omega (arith, write-letter .ensures .1),
+    )
 
 pub append-letter-spec : {M : Type 1} → statement M
 append-letter-spec =

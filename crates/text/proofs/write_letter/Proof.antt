@@ -6,19 +6,15 @@ use Rattle.text.proofs.TextLaws.{two-bytes}
 use Rattle.text.proofs.write_letter.Statement.{statement}
 use Rattle.text.proofs.write_letter.Tie as tie
 
--- src/lib.rt:26:5
 slice-write-to : tie.Need-slice-write-to
 slice-write-to c = search needs
 
--- src/lib.rt:27:5
 slice-write-to-2 : tie.Need-slice-write-to-2
 slice-write-to-2 c = search needs
 
--- src/lib.rt:22:1
 same-length : tie.Need-same-length
 same-length c = search needs
 
--- src/lib.rt:22:1
 returns : tie.Need-returns
 returns c = ((refl, two-bytes (c .args .to .now) (c .args .letter) (c .args .after) (c .pre)), omega arith)
 

@@ -5,53 +5,48 @@ use borrow.Author.Needs.{needs}
 use Rattle.card.proofs.snapshots.flow_load.Statement.{statement}
 use Rattle.card.proofs.snapshots.flow_load.Tie as tie
 
--- src/snapshots.rt:82:9
 refuse-settings-area-requires : tie.Need-refuse-settings-area-requires
 refuse-settings-area-requires c κs = search needs
 
--- src/snapshots.rt:82:9
 returns : tie.Need-returns
-returns c = settings-area-wrong (c .before .before .before .before .before .before .before .before .before .before .args .file .now) (length (c .before .before .before .before .before .before .before .before .before .before .args .work .now)) _ (c .before .before .before .before .before .before .before .before .before .before .args .settings .now) (c .before .if1 .taken) _ (c .refuse-settings-area .ensures _ _)
+returns c =
+    let start = c .before .before .before .before .before .before .before .before .before .before in
+    settings-area-wrong (start .args .file .now) (length (start .args .work .now)) _ (start .args .settings .now) (c .before .if1 .taken) _ (c .refuse-settings-area .ensures _ _)
 
--- src/snapshots.rt:84:9
 load-requires : tie.Need-load-requires
 load-requires c κs = search needs
 
--- src/snapshots.rt:94:5
 write-settings-requires : tie.Need-write-settings-requires
 write-settings-requires c κs = search needs
 
--- src/snapshots.rt:67:1
 same-length : tie.Need-same-length
 same-length c = search needs
 
--- src/snapshots.rt:67:1
 same-length-2 : tie.Need-same-length-2
 same-length-2 c = search needs
 
--- src/snapshots.rt:67:1
 same-length-3 : tie.Need-same-length-3
 same-length-3 c = search needs
 
--- src/snapshots.rt:67:1
 same-length-4 : tie.Need-same-length-4
 same-length-4 c = search needs
 
--- src/snapshots.rt:67:1
 same-length-5 : tie.Need-same-length-5
 same-length-5 c = search needs
 
--- src/snapshots.rt:67:1
 same-length-6 : tie.Need-same-length-6
 same-length-6 c = search needs
 
--- src/snapshots.rt:67:1
 same-length-7 : tie.Need-same-length-7
 same-length-7 c = search needs
 
--- src/snapshots.rt:67:1
 returns-2 : tie.Need-returns-2
-returns-2 c = loaded-into (c .before .before .before .before .before .before .before .before .before .before .before .before .before .before .before .before .before .before .before .before .before .before .before .before .before .before .before .before .before .before .before .before .before .args .file .now) (length (c .before .before .before .before .before .before .before .before .before .before .before .before .before .before .before .before .before .before .before .before .before .before .before .before .before .before .before .before .before .before .before .before .before .args .work .now)) _ (c .before .before .before .before .before .before .before .before .before .before .before .before .before .before .before .before .before .before .before .before .before .before .before .before .before .before .before .before .before .before .before .before .before .args .settings .now) (c .before .before .before .before .before .before .before .before .before .before .before .before .before .before .before .before .before .before .before .before .before .before .before .before .if1 .left) _ (c .before .before .before .before .before .before .before .before .before .before .before .before .before .before .before .before .before .load .ensures) _ (c .before .before .write-settings .ensures)
+returns-2 c =
+    let start = c .before .before .before .before .before .before .before .before .before .before .before .before .before .before .before .before .before .before .before .before .before .before .before .before .before .before .before .before .before .before .before .before .before in
+    let if1 = c .before .before .before .before .before .before .before .before .before .before .before .before .before .before .before .before .before .before .before .before .before .before .before .before .if1 in
+    let load = c .before .before .before .before .before .before .before .before .before .before .before .before .before .before .before .before .before .load in
+    let write-settings = c .before .before .write-settings in
+    loaded-into (start .args .file .now) (length (start .args .work .now)) _ (start .args .settings .now) (if1 .left) _ (load .ensures) _ (write-settings .ensures)
 
 pub flow-load-spec : {M : Type 1} → statement M
 flow-load-spec =

@@ -4,15 +4,12 @@ use borrow.Author.Needs.{needs}
 use Rattle.card.proofs.snapshots.refuse_settings_area.Statement.{statement}
 use Rattle.card.proofs.snapshots.refuse_settings_area.Tie as tie
 
--- src/snapshots.rt:46:8
 settings-refused-requires : tie.Need-settings-refused-requires
 settings-refused-requires c κs = search needs
 
--- src/snapshots.rt:43:1
 returns : tie.Need-returns
 returns c = λ w a. rw (load-answers-1 _ w a, ← c .before .settings-refused .ensures, c .if1 .taken)
 
--- src/snapshots.rt:43:1
 returns-2 : tie.Need-returns-2
 returns-2 c = λ w a. rw (load-answers-1 _ w a, ← c .before .settings-refused .ensures, c .if1 .left)
 

@@ -6,35 +6,27 @@ use borrow.Author.Needs.{needs}
 use Rattle.card.proofs.snapshots.write_settings.Statement.{statement}
 use Rattle.card.proofs.snapshots.write_settings.Tie as tie
 
--- src/snapshots.rt:58:5
 slice-write-to : tie.Need-slice-write-to
 slice-write-to c = search needs
 
--- src/snapshots.rt:59:5
 slice-write-to-2 : tie.Need-slice-write-to-2
 slice-write-to-2 c = search needs
 
--- src/snapshots.rt:60:5
 slice-write-to-3 : tie.Need-slice-write-to-3
 slice-write-to-3 c = search needs
 
--- src/snapshots.rt:61:5
 slice-write-to-4 : tie.Need-slice-write-to-4
 slice-write-to-4 c = search needs
 
--- src/snapshots.rt:62:5
 slice-write-to-5 : tie.Need-slice-write-to-5
 slice-write-to-5 c = simp length-set (omega arith)
 
--- src/snapshots.rt:63:5
 slice-write-to-6 : tie.Need-slice-write-to-6
 slice-write-to-6 c = simp length-set (omega arith)
 
--- src/snapshots.rt:54:1
 same-length : tie.Need-same-length
 same-length c = search needs
 
--- src/snapshots.rt:54:1
 returns : tie.Need-returns
 returns c =
     six-stored (c .args .to .now) (c .args .s .p) (c .args .s .k) (c .args .s .room) (c .args .s .top) (c .args .s .capacity) (c .args .s .«side_places») (c .pre)
