@@ -77,7 +77,10 @@ same-length-5 : tie.Need-same-length-5
 same-length-5 c = search needs
 
 returns : tie.Need-returns
-returns c = performed _ _ _ _ _ (c .before .before .before .before .before .before .before .before .before .before .before .before .before .before .before .before .before .enum-told .given .1) _ _ _ _ (c .answer-only .ensures) _ (cleared _ _ _ _ (c .before .before .before .before .before .before .before .before .before .before .before .clear .ensures))
+returns c =
+    let enum-told = c .before .before .before .before .before .before .before .before .before .before .before .before .before .before .before .before .before .enum-told in
+    let clear = c .before .before .before .before .before .before .before .before .before .before .before .clear in
+    performed _ _ _ _ _ (enum-told .given .1) _ _ _ _ (c .answer-only .ensures) _ (cleared _ _ _ _ (clear .ensures))
 
 same-length-6 : tie.Need-same-length-6
 same-length-6 c = search needs
@@ -98,7 +101,10 @@ same-length-11 : tie.Need-same-length-11
 same-length-11 c = search needs
 
 returns-2 : tie.Need-returns-2
-returns-2 c = performed _ _ _ _ _ (c .before .before .before .before .before .before .before .before .before .before .before .before .before .before .before .before .before .before .before .before .enum-told2 .given .1) _ _ _ _ (c .answer-only2 .ensures) _ (c .before .before .before .before .before .before .before .before .before .before .before .before .before .update .ensures)
+returns-2 c =
+    let enum-told2 = c .before .before .before .before .before .before .before .before .before .before .before .before .before .before .before .before .before .before .before .before .enum-told2 in
+    let update = c .before .before .before .before .before .before .before .before .before .before .before .before .before .update in
+    performed _ _ _ _ _ (enum-told2 .given .1) _ _ _ _ (c .answer-only2 .ensures) _ (update .ensures)
 
 same-length-12 : tie.Need-same-length-12
 same-length-12 c = search needs
@@ -119,7 +125,10 @@ same-length-17 : tie.Need-same-length-17
 same-length-17 c = search needs
 
 returns-3 : tie.Need-returns-3
-returns-3 c = performed _ _ _ _ _ (c .before .before .before .before .before .before .before .before .before .before .before .before .before .before .before .before .before .before .before .before .enum-told3 .given .1) _ _ _ _ (c .answer-only3 .ensures) _ (c .before .before .before .before .before .before .before .before .before .before .before .before .before .update2 .ensures)
+returns-3 c =
+    let enum-told3 = c .before .before .before .before .before .before .before .before .before .before .before .before .before .before .before .before .before .before .before .before .enum-told3 in
+    let update2 = c .before .before .before .before .before .before .before .before .before .before .before .before .before .update2 in
+    performed _ _ _ _ _ (enum-told3 .given .1) _ _ _ _ (c .answer-only3 .ensures) _ (update2 .ensures)
 
 same-length-18 : tie.Need-same-length-18
 same-length-18 c = search needs
@@ -140,7 +149,10 @@ same-length-23 : tie.Need-same-length-23
 same-length-23 c = search needs
 
 returns-4 : tie.Need-returns-4
-returns-4 c = performed _ _ _ _ _ (c .before .before .before .before .before .before .before .before .before .before .before .before .before .before .before .before .before .before .before .before .enum-told4 .given .1) _ _ _ _ (c .answer-only4 .ensures) _ (c .before .before .before .before .before .before .before .before .before .before .before .before .before .update3 .ensures)
+returns-4 c =
+    let enum-told4 = c .before .before .before .before .before .before .before .before .before .before .before .before .before .before .before .before .before .before .before .before .enum-told4 in
+    let update3 = c .before .before .before .before .before .before .before .before .before .before .before .before .before .update3 in
+    performed _ _ _ _ _ (enum-told4 .given .1) _ _ _ _ (c .answer-only4 .ensures) _ (update3 .ensures)
 
 same-length-24 : tie.Need-same-length-24
 same-length-24 c = search needs
@@ -152,7 +164,10 @@ same-length-26 : tie.Need-same-length-26
 same-length-26 c = search needs
 
 returns-5 : tie.Need-returns-5
-returns-5 c = performed _ _ _ _ _ (c .before .before .before .before .enum-told5 .given .1) _ _ _ _ refl _ (searched _ _ _ (c .before .before .before .before .before .before .before .before .before .before .before .before .before .args .key .now) (answer-of (c .search .result)) (c .search .ensures))
+returns-5 c =
+    let start = c .before .before .before .before .before .before .before .before .before .before .before .before .before in
+    let enum-told5 = c .before .before .before .before .enum-told5 in
+    performed _ _ _ _ _ (enum-told5 .given .1) _ _ _ _ refl _ (searched _ _ _ (start .args .key .now) (answer-of (c .search .result)) (c .search .ensures))
 
 same-length-27 : tie.Need-same-length-27
 same-length-27 c = search needs

@@ -15,7 +15,11 @@ asked c = record { p = c .args .p; k = c .args .k; room = c .args .room; top = c
 
 -- past their test they are allowed, and the code goes on with them
 told : (c : tie.After-known-told) → (allowed (asked (c .before .before .before .before .before)) ≡ true) × (paper (c .before .checked .given .0 .0) ≡ asked (c .before .before .before .before .before))
-told c = allowed-arm (asked (c .before .before .before .before .before)) (c .before .before .before .new .result) (c .before .before .before .new .ensures) (c .before .checked .given .0 .0) (c .before .checked .given .1)
+told c =
+    let before = c .before .before .before .before .before in
+    let new = c .before .before .before .new in
+    let checked = c .before .checked in
+    allowed-arm (asked (before)) (new .result) (new .ensures) (checked .given .0 .0) (checked .given .1)
 
 -- so what the settings' methods and limits require holds
 told-code : (c : tie.After-known-told) → allowed (paper (c .before .checked .given .0 .0)) ≡ true

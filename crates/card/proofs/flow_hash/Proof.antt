@@ -26,8 +26,10 @@ same-length c = search needs
 
 returns-3 : tie.Need-returns-3
 returns-3 c =
-    let start = c .before .before .before .before .before in
-    rw (one-stored (start .args .h .now) (c .h-rows .result) (c .before .before .if1 .left), c .h-rows .ensures) (hash-0 (start .args .key .now) (start .args .h .now) (c .before .before .if1 .left) (c .before .if2 .left))
+    let before = c .before .before .before .before .before in
+    let if1 = c .before .before .if1 in
+    let start = before in
+    rw (one-stored (start .args .h .now) (c .h-rows .result) (if1 .left), c .h-rows .ensures) (hash-0 (start .args .key .now) (start .args .h .now) (if1 .left) (c .before .if2 .left))
 
 pub flow-hash-spec : {M : Type 1} → statement M
 flow-hash-spec =

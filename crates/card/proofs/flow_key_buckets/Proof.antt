@@ -23,7 +23,11 @@ asked c = record { p = c .args .p; k = c .args .k; room = c .args .room; top = c
 
 -- past their test they are allowed, and the code goes on with them
 told : (c : tie.After-known-told) → (allowed (asked (c .before .before .before .before .before .before .before)) ≡ true) × (paper (c .before .checked .given .0 .0) ≡ asked (c .before .before .before .before .before .before .before))
-told c = allowed-arm (asked (c .before .before .before .before .before .before .before)) (c .before .before .before .new .result) (c .before .before .before .new .ensures) (c .before .checked .given .0 .0) (c .before .checked .given .1)
+told c =
+    let before = c .before .before .before .before .before .before .before in
+    let new = c .before .before .before .new in
+    let checked = c .before .checked in
+    allowed-arm (asked (before)) (new .result) (new .ensures) (checked .given .0 .0) (checked .given .1)
 
 -- so what the settings' methods and limits require holds
 told-code : (c : tie.After-known-told) → allowed (paper (c .before .checked .given .0 .0)) ≡ true
@@ -82,12 +86,17 @@ same-length-2 c = search needs
 
 returns-5 : tie.Need-returns-5
 returns-5 c =
-    let start = c .before .before .before .before .before .before .before .before .before .before .before .before .before .before .before .before .before .before .before .before in
+    let before = c .before .before .before .before .before .before .before .before .before .before .before .before .before .before .before .before .before .before .before .before in
+    let h-rows = c .before .before .before .before .before .before .before .before .before .h-rows in
+    let write-hashes = c .before .before .before .before .before .before .before .write-hashes in
+    let numbers-of = c .before .before .before .before .numbers-of in
+    let write-numbers = c .before .before .write-numbers in
+    let start = before in
     let told-here = told (c .before .before .before .before .before .before .before .before .before .before .before .before .before) in
     let at-test = c .before .before .before .before .before .before .before .before .before .before in
     key-buckets-written (asked start) (start .args .key .now) (start .args .hashes .now) (start .args .numbers .now) (told-here .0) (at-test .before .before .if1 .left) (at-test .before .before .before .before .checked .given .0 .0)
-    (c .before .before .before .before .before .before .before .before .before .h-rows .result) (c .before .before .before .before .numbers-of .result) (told-here .1) (at-test .before .if2 .left) (at-test .if3 .left) (c .before .before .before .before .before .before .before .before .before .h-rows .ensures)
-    (c .before .before .before .before .before .before .before .write-hashes .ensures) (c .before .before .before .before .numbers-of .ensures) (c .before .before .write-numbers .ensures)
+    (h-rows .result) (numbers-of .result) (told-here .1) (at-test .before .if2 .left) (at-test .if3 .left) (h-rows .ensures)
+    (write-hashes .ensures) (numbers-of .ensures) (write-numbers .ensures)
 
 pub flow-key-buckets-spec : {M : Type 1} → statement M
 flow-key-buckets-spec =

@@ -35,8 +35,12 @@ same-length c = search needs
 returns : tie.Need-returns
 unfolding first-hashes
 returns c =
-    rw (← c .before .before .before .hash-at .ensures, ← c .before .before .hash-at2 .ensures, ← c .before .hash-at3 .ensures, ← c .hash-at4 .ensures)
-    (four-stored (c .before .before .before .before .before .args .hashes .now) (c .before .before .before .hash-at .result) (c .before .before .hash-at2 .result) (c .before .hash-at3 .result) (c .hash-at4 .result) (c .before .before .before .before .before .pre .1))
+    let start = c .before .before .before .before .before in
+    let hash-at = c .before .before .before .hash-at in
+    let hash-at2 = c .before .before .hash-at2 in
+    let hash-at3 = c .before .hash-at3 in
+    rw (← hash-at .ensures, ← hash-at2 .ensures, ← hash-at3 .ensures, ← c .hash-at4 .ensures)
+    (four-stored (start .args .hashes .now) (hash-at .result) (hash-at2 .result) (hash-at3 .result) (c .hash-at4 .result) (start .pre .1))
 
 pub write-hashes-spec : {M : Type 1} → statement M
 write-hashes-spec =

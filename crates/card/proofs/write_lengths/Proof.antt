@@ -49,8 +49,14 @@ same-length c = search needs
 returns : tie.Need-returns
 unfolding lengths-of
 returns c =
-    rw (← c .before .before .before .before .before .ledger-length .ensures, ← c .before .before .before .before .true-length .ensures, ← c .before .before .before .clipped-length .ensures, ← c .before .before .buckets-length .ensures, ← c .before .side-length .ensures, ← c .work-length .ensures)
-    (six-stored (c .before .before .before .before .before .before .before .args .lengths .now) (c .before .before .before .before .before .ledger-length .result) (c .before .before .before .before .true-length .result) (c .before .before .before .clipped-length .result) (c .before .before .buckets-length .result) (c .before .side-length .result) (c .work-length .result) (c .before .before .before .before .before .before .before .pre .1))
+    let start = c .before .before .before .before .before .before .before in
+    let ledger-length = c .before .before .before .before .before .ledger-length in
+    let true-length = c .before .before .before .before .true-length in
+    let clipped-length = c .before .before .before .clipped-length in
+    let buckets-length = c .before .before .buckets-length in
+    let side-length = c .before .side-length in
+    rw (← ledger-length .ensures, ← true-length .ensures, ← clipped-length .ensures, ← buckets-length .ensures, ← side-length .ensures, ← c .work-length .ensures)
+    (six-stored (start .args .lengths .now) (ledger-length .result) (true-length .result) (clipped-length .result) (buckets-length .result) (side-length .result) (c .work-length .result) (start .pre .1))
 
 pub write-lengths-spec : {M : Type 1} → statement M
 write-lengths-spec =

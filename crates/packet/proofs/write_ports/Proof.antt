@@ -16,7 +16,12 @@ same-length : tie.Need-same-length
 same-length c = search needs
 
 returns : tie.Need-returns
-returns c = rw (c .before .before .zero-fill .ensures, c .before .before .before .before .before .before .before .before .pre .1) (no-ports (c .before .before .before .before .before .before .before .before .args .packet .now) (sym (c .before .before .before .before .before .has-ports .ensures) ∙ not-true _ (c .before .before .before .before .if1 .taken)))
+returns c =
+    let start = c .before .before .before .before .before .before .before .before in
+    let has-ports = c .before .before .before .before .before .has-ports in
+    let if1 = c .before .before .before .before .if1 in
+    let zero-fill = c .before .before .zero-fill in
+    rw (zero-fill .ensures, start .pre .1) (no-ports (start .args .packet .now) (sym (has-ports .ensures) ∙ not-true _ (if1 .taken)))
 
 header-length-requires : tie.Need-header-length-requires
 header-length-requires c κs = search needs
@@ -32,15 +37,24 @@ part-read-ports-end c = search needs
 
 read-ports-requires : tie.Need-read-ports-requires
 read-ports-requires c κs =
-    (ports-fit (c .before .before .before .before .before .before .before .args .packet .now) (c .before .before .before .before .before .before .before .pre .0) (sym (c .before .before .before .before .has-ports .ensures) ∙ not-false _ (c .before .before .before .if1 .left)) (c .before .before .header-length .result) (c .before .before .header-length .ensures), c .before .before .before .before .before .before .before .pre .1)
+    let start = c .before .before .before .before .before .before .before in
+    let has-ports = c .before .before .before .before .has-ports in
+    let if1 = c .before .before .before .if1 in
+    let header-length = c .before .before .header-length in
+    (ports-fit (start .args .packet .now) (start .pre .0) (sym (has-ports .ensures) ∙ not-false _ (if1 .left)) (header-length .result) (header-length .ensures), start .pre .1)
 
 same-length-2 : tie.Need-same-length-2
 same-length-2 c = search needs
 
 returns-2 : tie.Need-returns-2
 returns-2 c =
-    c .before .before .read-ports .ensures
-    ∙ ports-lent (c .before .before .before .before .before .before .before .before .before .before .args .packet .now) (c .before .before .before .before .before .before .before .before .before .before .pre .0) (sym (c .before .before .before .before .before .before .before .has-ports .ensures) ∙ not-false _ (c .before .before .before .before .before .before .if1 .left)) (c .before .before .before .before .before .header-length .result) (c .before .before .before .before .before .header-length .ensures)
+    let start = c .before .before .before .before .before .before .before .before .before .before in
+    let has-ports = c .before .before .before .before .before .before .before .has-ports in
+    let if1 = c .before .before .before .before .before .before .if1 in
+    let header-length = c .before .before .before .before .before .header-length in
+    let read-ports = c .before .before .read-ports in
+    read-ports .ensures
+    ∙ ports-lent (start .args .packet .now) (start .pre .0) (sym (has-ports .ensures) ∙ not-false _ (if1 .left)) (header-length .result) (header-length .ensures)
 
 pub write-ports-spec : {M : Type 1} → statement M
 write-ports-spec =

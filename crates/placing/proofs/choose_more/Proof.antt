@@ -29,10 +29,14 @@ abbrev μ-loop : tie.MeasureT-loop
 -- the record at hand lies within the area
 room : (c : tie.In-loop Inv-loop μ-loop) → (c .before .loop .at + c .before .before .before .width .result ≤ length (c .before .before .before .before .before .before .before .args .area .now)) × (c .before .loop .at + c .before .before .record-size .result ≤ length (c .before .before .before .before .before .before .before .args .area .now))
 room c =
-    let args = c .before .before .before .before .before .before .before .args in
+    let start = c .before .before .before .before .before .before .before in
+    let width = c .before .before .before .width in
+    let record-size = c .before .before .record-size in
+    let loop = c .before .loop in
+    let args = start .args in
     let s = card-of (paper (args .s)) in
-    record-within s (c .before .before .before .width .result) (c .before .before .record-size .result) (c .before .loop .at) (c .before .loop .i) (c .before .before .before .width .ensures) (c .before .before .record-size .ensures) (c .before .loop .inv .1) (args .n)
-    (length (args .area .now)) (c .before .before .before .before .before .before .before .pre .3) (c .loop-test .taken)
+    record-within s (width .result) (record-size .result) (loop .at) (loop .i) (width .ensures) (record-size .ensures) (loop .inv .1) (args .n)
+    (length (args .area .now)) (start .pre .3) (c .loop-test .taken)
 
 width-requires : tie.Need-width-requires Inv-loop μ-loop
 width-requires c κs = search needs
@@ -117,7 +121,12 @@ loop-less c = omega arith
 
 loop-again : tie.Need-loop-again Inv-loop μ-loop
 loop-again c =
-    let args = c .before .before .before .before .before .before .before .before .before .before .before .before .before .before .args in
+    let start = c .before .before .before .before .before .before .before .before .before .before .before .before .before .before in
+    let width = c .before .before .before .before .before .before .before .before .before .before .width in
+    let record-size = c .before .before .before .before .before .before .before .before .before .record-size in
+    let choose = c .before .before .before .before .choose in
+    let add-choice = c .before .before .add-choice in
+    let args = start .args in
     let loop = c .before .before .before .before .before .before .before .before .loop in
     let s = card-of (paper (args .s)) in
     let m = args .m in
@@ -125,17 +134,17 @@ loop-again c =
     let work = loop .work in
     let area = args .area .now in
     let at = loop .at in
-    let choice = c .before .before .before .before .choose .result in
-    let e = c .before .before .before .before .choose .ensures in
-    let ys = c .before .before .add-choice .last .0 in
+    let choice = choose .result in
+    let e = choose .ensures in
+    let ys = add-choice .last .0 in
     let few : m ≤ length work = omega arith in
-    let long : length ys ≡ length work - m = c .before .before .add-choice .kept .0 ∙ length-tail m work few in
-    let key = key-lent at (c .before .before .before .before .before .before .before .before .before .before .width .result) (s .width) area (c .before .before .before .before .before .before .before .before .before .before .width .ensures) in
+    let long : length ys ≡ length work - m = add-choice .kept .0 ∙ length-tail m work few in
+    let key = key-lent at (width .result) (s .width) area (width .ensures) in
     let new =
     choose-more s (nth (take m old)) (s .width) (loop .i) at area (drop m old) (drop m work) ys (choice .«all_top») (choice .bucket) (loop .inv .1)
-    (e .0 ∙ rw (loop .inv .3, key)) (e .1 ∙ rw (loop .inv .3, key)) (loop .inv .4) (λ b. rw (tail-is m work few) at (c .before .before .add-choice .ensures b)) in (
+    (e .0 ∙ rw (loop .inv .3, key)) (e .1 ∙ rw (loop .inv .3, key)) (loop .inv .4) (λ b. rw (tail-is m work few) at (add-choice .ensures b)) in (
       omega arith,
-      next-at s (c .before .before .before .before .before .before .before .before .before .before .width .result) (c .before .before .before .before .before .before .before .before .before .record-size .result) (loop .at) (loop .i) (c .before .before .before .before .before .before .before .before .before .before .width .ensures) (c .before .before .before .before .before .before .before .before .before .record-size .ensures) (loop .inv .1),
+      next-at s (width .result) (record-size .result) (loop .at) (loop .i) (width .ensures) (record-size .ensures) (loop .inv .1),
       back-length m work few ys long ∙ loop .inv .2,
       back-take m work few ys ∙ loop .inv .3,
       λ b. ap (λ (z : List ℕ). nth z b) (back-drop m work few ys) ∙ new b,

@@ -28,10 +28,14 @@ abbrev μ-loop : tie.MeasureT-loop
 -- the record at hand lies within the area
 room : (c : tie.In-loop Inv-loop μ-loop) → (c .before .loop .at + c .before .before .before .width .result ≤ length (c .before .before .before .before .before .before .before .args .area .now)) × (c .before .loop .at + c .before .before .record-size .result ≤ length (c .before .before .before .before .before .before .before .args .area .now))
 room c =
-    let args = c .before .before .before .before .before .before .before .args in
+    let start = c .before .before .before .before .before .before .before in
+    let width = c .before .before .before .width in
+    let record-size = c .before .before .record-size in
+    let loop = c .before .loop in
+    let args = start .args in
     let s = card-of (paper (args .s)) in
-    record-within s (c .before .before .before .width .result) (c .before .before .record-size .result) (c .before .loop .at) (c .before .loop .i) (c .before .before .before .width .ensures) (c .before .before .record-size .ensures) (c .before .loop .inv .1) (args .n)
-    (length (args .area .now)) (c .before .before .before .before .before .before .before .pre .2) (c .loop-test .taken)
+    record-within s (width .result) (record-size .result) (loop .at) (loop .i) (width .ensures) (record-size .ensures) (loop .inv .1) (args .n)
+    (length (args .area .now)) (start .pre .2) (c .loop-test .taken)
 
 width-requires : tie.Need-width-requires Inv-loop μ-loop
 width-requires c κs = search needs
@@ -59,9 +63,12 @@ part-numbers-end c = omega (arith, room c .0)
 
 numbers-requires : tie.Need-numbers-requires Inv-loop μ-loop
 numbers-requires c κs =
-    let args = c .before .before .before .before .before .before .before .before .args in
+    let start = c .before .before .before .before .before .before .before .before in
+    let width = c .before .before .before .before .width in
+    let loop = c .before .before .loop in
+    let args = start .args in
     let w = card-of (paper (args .s)) .width in
-    (c .before .before .before .before .before .before .before .before .pre .0, key-length (c .before .before .loop .at) (c .before .before .before .before .width .result) w (args .area .now) (c .before .before .before .before .width .ensures) (omega (arith, room (c .before) .0)))
+    (start .pre .0, key-length (loop .at) (width .result) w (args .area .now) (width .ensures) (omega (arith, room (c .before) .0)))
 
 raise-all-requires : tie.Need-raise-all-requires Inv-loop μ-loop
 raise-all-requires c κs =
@@ -85,17 +92,22 @@ loop-less c = omega arith
 
 loop-again : tie.Need-loop-again Inv-loop μ-loop
 loop-again c =
-    let args = c .before .before .before .before .before .before .before .before .before .before .before .before .before .args in
+    let start = c .before .before .before .before .before .before .before .before .before .before .before .before .before in
+    let width = c .before .before .before .before .before .before .before .before .before .width in
+    let record-size = c .before .before .before .before .before .before .before .before .record-size in
+    let numbers = c .before .before .before .before .numbers in
+    let raise-all = c .before .before .raise-all in
+    let args = start .args in
     let loop = c .before .before .before .before .before .before .before .loop in
     let s = card-of (paper (args .s)) in
     let area = args .area .now in
     let at = loop .at in
-    let key = c .before .before .before .before .numbers .ensures .is ∙ ap (s .numbers) (key-lent at (c .before .before .before .before .before .before .before .before .before .width .result) (s .width) area (c .before .before .before .before .before .before .before .before .before .width .ensures)) in (
+    let key = numbers .ensures .is ∙ ap (s .numbers) (key-lent at (width .result) (s .width) area (width .ensures)) in (
       omega arith,
-      next-at s (c .before .before .before .before .before .before .before .before .before .width .result) (c .before .before .before .before .before .before .before .before .record-size .result) (loop .at) (loop .i) (c .before .before .before .before .before .before .before .before .before .width .ensures) (c .before .before .before .before .before .before .before .before .record-size .ensures) (loop .inv .1),
-      c .before .before .raise-all .kept .0 ∙ loop .inv .2,
-      count-more s (numbers-apart (paper (args .s))) (s .width) (loop .i) at area (args .counts .now) (loop .counts) (c .before .before .raise-all .last .0) (loop .inv .1) (loop .inv .3)
-          (λ b. c .before .before .raise-all .ensures b ∙ ap (λ (k : List ℕ). nth (loop .counts) b + times b k) key),
+      next-at s (width .result) (record-size .result) (loop .at) (loop .i) (width .ensures) (record-size .ensures) (loop .inv .1),
+      raise-all .kept .0 ∙ loop .inv .2,
+      count-more s (numbers-apart (paper (args .s))) (s .width) (loop .i) at area (args .counts .now) (loop .counts) (raise-all .last .0) (loop .inv .1) (loop .inv .3)
+          (λ b. raise-all .ensures b ∙ ap (λ (k : List ℕ). nth (loop .counts) b + times b k) key),
     )
 
 same-length : tie.Need-same-length Inv-loop μ-loop

@@ -26,10 +26,14 @@ abbrev μ-loop : tie.MeasureT-loop
 -- the record at hand lies within the area
 room : (c : tie.In-loop Inv-loop μ-loop) → (c .before .loop .at + c .before .before .before .width .result ≤ length (c .before .before .before .before .before .before .before .args .area .now)) × (c .before .loop .at + c .before .before .record-size .result ≤ length (c .before .before .before .before .before .before .before .args .area .now))
 room c =
-    let args = c .before .before .before .before .before .before .before .args in
+    let start = c .before .before .before .before .before .before .before in
+    let width = c .before .before .before .width in
+    let record-size = c .before .before .record-size in
+    let loop = c .before .loop in
+    let args = start .args in
     let s = card-of (paper (args .s)) in
-    record-within s (c .before .before .before .width .result) (c .before .before .record-size .result) (c .before .loop .at) (c .before .loop .i) (c .before .before .before .width .ensures) (c .before .before .record-size .ensures) (c .before .loop .inv .1) (args .n)
-    (length (args .area .now)) (c .before .before .before .before .before .before .before .pre .3) (c .loop-test .taken)
+    record-within s (width .result) (record-size .result) (loop .at) (loop .i) (width .ensures) (record-size .ensures) (loop .inv .1) (args .n)
+    (length (args .area .now)) (start .pre .3) (c .loop-test .taken)
 
 width-requires : tie.Need-width-requires Inv-loop μ-loop
 width-requires c κs = search needs
@@ -58,10 +62,13 @@ part-belongs-to-side-end c = omega (arith, room c .0)
 
 belongs-to-side-requires : tie.Need-belongs-to-side-requires Inv-loop μ-loop
 belongs-to-side-requires c κs =
-    let args = c .before .before .before .before .before .before .before .before .args in
-    let pre = c .before .before .before .before .before .before .before .before .pre in
+    let start = c .before .before .before .before .before .before .before .before in
+    let width = c .before .before .before .before .width in
+    let loop = c .before .before .loop in
+    let args = start .args in
+    let pre = start .pre in
     let w = card-of (paper (args .s)) .width in
-    (pre .0, pre .1, pre .2, key-length (c .before .before .loop .at) (c .before .before .before .before .width .result) w (args .area .now) (c .before .before .before .before .width .ensures) (omega (arith, room (c .before) .0)))
+    (pre .0, pre .1, pre .2, key-length (loop .at) (width .result) w (args .area .now) (width .ensures) (omega (arith, room (c .before) .0)))
 
 one-requires : tie.Need-one-requires Inv-loop μ-loop
 one-requires c κs = search needs
@@ -80,18 +87,22 @@ loop-less c = omega arith
 
 loop-again : tie.Need-loop-again Inv-loop μ-loop
 loop-again c =
-    let args = c .before .before .before .before .before .before .before .before .before .before .args in
+    let start = c .before .before .before .before .before .before .before .before .before .before in
+    let width = c .before .before .before .before .before .before .width in
+    let record-size = c .before .before .before .before .before .record-size in
+    let belongs-to-side = c .before .belongs-to-side in
+    let args = start .args in
     let loop = c .before .before .before .before .loop in
     let s = card-of (paper (args .s)) in
     let area = args .area .now in
     let at = loop .at in
     let p : List ℕ → Bool = belongs-by s (nth (take (args .m) (args .work .now))) (nth (drop (args .m) (args .work .now))) in
     let k : List ℕ = take (s .width) (drop at area) in
-    let e : c .before .belongs-to-side .result ≡ p k = c .before .belongs-to-side .ensures ∙ ap p (key-lent at (c .before .before .before .before .before .before .width .result) (s .width) area (c .before .before .before .before .before .before .width .ensures)) in
+    let e : belongs-to-side .result ≡ p k = belongs-to-side .ensures ∙ ap p (key-lent at (width .result) (s .width) area (width .ensures)) in
     let o : c .one .result ≡ cond {A = ℕ} (p k) 1 0 = c .one .ensures ∙ ap (λ (t : Bool). cond {A = ℕ} t 1 0) e in (
       omega arith,
-      next-at s (c .before .before .before .before .before .before .width .result) (c .before .before .before .before .before .record-size .result) (loop .at) (loop .i) (c .before .before .before .before .before .before .width .ensures) (c .before .before .before .before .before .record-size .ensures) (loop .inv .1),
-      omega (arith, c .one .ensures, one-bound (c .before .belongs-to-side .result)),
+      next-at s (width .result) (record-size .result) (loop .at) (loop .i) (width .ensures) (record-size .ensures) (loop .inv .1),
+      omega (arith, c .one .ensures, one-bound (belongs-to-side .result)),
       sym (kept-more p (s .width) (loop .i) at area (loop .inv .1) ∙ rw (← o, ← loop .inv .3)),
     )
 

@@ -20,7 +20,10 @@ slice-relend-prefix-count-parts : tie.Need-slice-relend-prefix-count-parts
 slice-relend-prefix-count-parts c = search needs
 
 slice-aggregate-count-parts : tie.Need-slice-aggregate-count-parts
-slice-aggregate-count-parts c = let z = c .before .before .before .zero-counts in sym (length-take-le (c .before .before .before .before .before .before .before .before .before .before .args .m) (z .last .0) (omega (arith, z .kept .0)))
+slice-aggregate-count-parts c =
+    let start = c .before .before .before .before .before .before .before .before .before .before in
+    let zero-counts = c .before .before .before .zero-counts in
+    let z = zero-counts in sym (length-take-le (start .args .m) (z .last .0) (omega (arith, z .kept .0)))
 
 count-parts-requires : tie.Need-count-parts-requires
 count-parts-requires c κs =
@@ -60,15 +63,19 @@ same-length c = search needs
 
 returns : tie.Need-returns
 returns c =
-    let args = c .before .before .before .before .before .before .before .before .before .before .before .before .before .before .before .before .before .args in
+    let start = c .before .before .before .before .before .before .before .before .before .before .before .before .before .before .before .before .before in
+    let zero-counts = c .before .before .before .before .before .before .before .before .before .before .zero-counts in
+    let count-parts = c .before .before .before .before .before .before .count-parts in
+    let choose-parts = c .before .before .choose-parts in
+    let args = start .args in
     let s = card-of (paper (args .s)) in
-    let z = c .before .before .before .before .before .before .before .before .before .before .zero-counts in
+    let z = zero-counts in
     let m = args .m in
-    let ys = c .before .before .before .before .before .before .count-parts .last .1 .1 .0 in
+    let ys = count-parts .last .1 .1 .0 in
     let few : m ≤ length (z .last .0) = omega (arith, z .kept .0) in
-    let long : length ys ≡ m = c .before .before .before .before .before .before .count-parts .kept .1 .1 .0 ∙ length-take-le m (z .last .0) few in
+    let long : length ys ≡ m = count-parts .kept .1 .1 .0 ∙ length-take-le m (z .last .0) few in
     worked s m (parts (s .width) (args .a .now) (args .n) (args .mid .now) (args .k) (args .b .now) (args .j)) ys (ys ++ drop m (z .last .0))
-    (c .before .before .choose-parts .last .1 .1 .1 .0) (front-take m (z .last .0) ys few long) (c .before .before .before .before .before .before .count-parts .ensures) (c .before .before .choose-parts .ensures .0) (c .before .before .choose-parts .ensures .1)
+    (choose-parts .last .1 .1 .1 .0) (front-take m (z .last .0) ys few long) (count-parts .ensures) (choose-parts .ensures .0) (choose-parts .ensures .1)
 
 pub place-parts-spec : {M : Type 1} → statement M
 place-parts-spec =

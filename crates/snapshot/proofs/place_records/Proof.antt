@@ -10,17 +10,25 @@ use Rattle.snapshot.proofs.place_records.Statement.{statement}
 use Rattle.snapshot.proofs.place_records.Tie as tie
 
 place-parts-requires : tie.Need-place-parts-requires
-place-parts-requires c κs = ((c .before .before .before .before .pre .0), (c .before .before .before .before .pre .1), (c .before .before .before .before .pre .2), (c .before .before .before .before .pre .3), no-room ((card-of (paper (c .before .before .before .before .args .s)) .width) + 4) (c .before .before .before .before .args .area .now), no-room ((card-of (paper (c .before .before .before .before .args .s)) .width) + 4) (c .before .before .before .before .args .area .now), omega (arith, (c .before .before .before .before .pre .4)))
+place-parts-requires c κs =
+    let start = c .before .before .before .before in
+    ((start .pre .0), (start .pre .1), (start .pre .2), (start .pre .3), no-room ((card-of (paper (start .args .s)) .width) + 4) (start .args .area .now), no-room ((card-of (paper (start .args .s)) .width) + 4) (start .args .area .now), omega (arith, (start .pre .4)))
 
 need-parts-requires : tie.Need-need-parts-requires
-need-parts-requires c κs = ((c .before .before .before .before .before .before .before .before .pre .0), (c .before .before .before .before .before .before .before .before .pre .1), (c .before .before .before .place-parts .kept .1 .1 .1 .0) ∙ (c .before .before .before .before .before .before .before .before .pre .2), (c .before .before .before .before .before .before .before .before .pre .3), no-room ((card-of (paper (c .before .before .before .before .before .before .before .before .args .s)) .width) + 4) (c .before .before .before .before .before .before .before .before .args .area .now), no-room ((card-of (paper (c .before .before .before .before .before .before .before .before .args .s)) .width) + 4) (c .before .before .before .before .before .before .before .before .args .area .now), omega (arith, (c .before .before .before .before .before .before .before .before .pre .4)), (c .before .before .before .place-parts .ensures))
+need-parts-requires c κs =
+    let start = c .before .before .before .before .before .before .before .before in
+    let place-parts = c .before .before .before .place-parts in
+    ((start .pre .0), (start .pre .1), (place-parts .kept .1 .1 .1 .0) ∙ (start .pre .2), (start .pre .3), no-room ((card-of (paper (start .args .s)) .width) + 4) (start .args .area .now), no-room ((card-of (paper (start .args .s)) .width) + 4) (start .args .area .now), omega (arith, (start .pre .4)), (place-parts .ensures))
 
 same-length : tie.Need-same-length
 same-length c = search needs
 
 returns : tie.Need-returns
-returns c = let one = one-part (card-of (paper (c .before .before .before .before .before .before .before .before .before .args .s)) .width) (c .before .before .before .before .before .before .before .before .before .args .n) (c .before .before .before .before .before .before .before .before .before .args .area .now) in
-    (rw one at (c .need-parts .ensures), rw one at (c .before .before .before .before .place-parts .ensures))
+returns c =
+    let start = c .before .before .before .before .before .before .before .before .before in
+    let place-parts = c .before .before .before .before .place-parts in
+    let one = one-part (card-of (paper (start .args .s)) .width) (start .args .n) (start .args .area .now) in
+    (rw one at (c .need-parts .ensures), rw one at (place-parts .ensures))
 
 pub place-records-spec : {M : Type 1} → statement M
 place-records-spec =

@@ -20,18 +20,34 @@ enum-told : tie.Need-enum-told
 enum-told c = search needs
 
 returns : tie.Need-returns
-returns c = clears-1 (record { p = c .before .before .before .before .before .before .before .before .args .p; k = c .before .before .before .before .before .before .before .before .args .k; room = c .before .before .before .before .before .before .before .before .args .room; top = c .before .before .before .before .before .before .before .before .args .top; capacity = c .before .before .before .before .before .before .before .before .args .capacity; side-places = c .before .before .before .before .before .before .before .before .args .side-places }) (record { ledger = c .before .before .before .before .before .before .before .before .args .ledger .now; true-counts = c .before .before .before .before .before .before .before .before .args .true-counts .now; clipped-counts = c .before .before .before .before .before .before .before .before .args .clipped .now; buckets = c .before .before .before .before .before .before .before .before .args .buckets .now; side-store = c .before .before .before .before .before .before .before .before .args .side .now }) (refused-arm (record { p = c .before .before .before .before .before .before .before .before .args .p; k = c .before .before .before .before .before .before .before .before .args .k; room = c .before .before .before .before .before .before .before .before .args .room; top = c .before .before .before .before .before .before .before .before .args .top; capacity = c .before .before .before .before .before .before .before .before .args .capacity; side-places = c .before .before .before .before .before .before .before .before .args .side-places }) (c .before .before .new .result) (c .before .before .new .ensures) (c .enum-told .given .1))
+returns c =
+    let start = c .before .before .before .before .before .before .before .before in
+    let new = c .before .before .new in
+    clears-1 (record { p = start .args .p; k = start .args .k; room = start .args .room; top = start .args .top; capacity = start .args .capacity; side-places = start .args .side-places }) (record { ledger = start .args .ledger .now; true-counts = start .args .true-counts .now; clipped-counts = start .args .clipped .now; buckets = start .args .buckets .now; side-store = start .args .side .now }) (refused-arm (record { p = start .args .p; k = start .args .k; room = start .args .room; top = start .args .top; capacity = start .args .capacity; side-places = start .args .side-places }) (new .result) (new .ensures) (c .enum-told .given .1))
 
 lengths-right-requires : tie.Need-lengths-right-requires
-lengths-right-requires c κs = allowed-settings (record { p = c .before .before .before .before .before .before .before .before .before .args .p; k = c .before .before .before .before .before .before .before .before .before .args .k; room = c .before .before .before .before .before .before .before .before .before .args .room; top = c .before .before .before .before .before .before .before .before .before .args .top; capacity = c .before .before .before .before .before .before .before .before .before .args .capacity; side-places = c .before .before .before .before .before .before .before .before .before .args .side-places }) (c .before .before .before .new .result) (c .before .before .before .new .ensures) (c .before .checked .given .0 .0) (c .before .checked .given .1)
+lengths-right-requires c κs =
+    let start = c .before .before .before .before .before .before .before .before .before in
+    let new = c .before .before .before .new in
+    let checked = c .before .checked in
+    allowed-settings (record { p = start .args .p; k = start .args .k; room = start .args .room; top = start .args .top; capacity = start .args .capacity; side-places = start .args .side-places }) (new .result) (new .ensures) (checked .given .0 .0) (checked .given .1)
 
 returns-2 : tie.Need-returns-2
-returns-2 c = let arm = allowed-arm (record { p = c .before .before .before .before .before .before .before .before .before .before .before .args .p; k = c .before .before .before .before .before .before .before .before .before .before .before .args .k; room = c .before .before .before .before .before .before .before .before .before .before .before .args .room; top = c .before .before .before .before .before .before .before .before .before .before .before .args .top; capacity = c .before .before .before .before .before .before .before .before .before .before .before .args .capacity; side-places = c .before .before .before .before .before .before .before .before .before .before .before .args .side-places }) (c .before .before .before .before .before .new .result) (c .before .before .before .before .before .new .ensures) (c .before .before .before .checked .given .0 .0) (c .before .before .before .checked .given .1) in clears-2 (record { p = c .before .before .before .before .before .before .before .before .before .before .before .args .p; k = c .before .before .before .before .before .before .before .before .before .before .before .args .k; room = c .before .before .before .before .before .before .before .before .before .before .before .args .room; top = c .before .before .before .before .before .before .before .before .before .before .before .args .top; capacity = c .before .before .before .before .before .before .before .before .before .before .before .args .capacity; side-places = c .before .before .before .before .before .before .before .before .before .before .before .args .side-places }) (record { ledger = c .before .before .before .before .before .before .before .before .before .before .before .args .ledger .now; true-counts = c .before .before .before .before .before .before .before .before .before .before .before .args .true-counts .now; clipped-counts = c .before .before .before .before .before .before .before .before .before .before .before .args .clipped .now; buckets = c .before .before .before .before .before .before .before .before .before .before .before .args .buckets .now; side-store = c .before .before .before .before .before .before .before .before .before .before .before .args .side .now }) (arm .0) (c .before .before .before .checked .given .0 .0) (arm .1) (sym (c .before .lengths-right .ensures) ∙ not-true _ (c .if1 .taken))
+returns-2 c =
+    let start = c .before .before .before .before .before .before .before .before .before .before .before in
+    let new = c .before .before .before .before .before .new in
+    let checked = c .before .before .before .checked in
+    let arm = allowed-arm (record { p = start .args .p; k = start .args .k; room = start .args .room; top = start .args .top; capacity = start .args .capacity; side-places = start .args .side-places }) (new .result) (new .ensures) (checked .given .0 .0) (checked .given .1) in clears-2 (record { p = start .args .p; k = start .args .k; room = start .args .room; top = start .args .top; capacity = start .args .capacity; side-places = start .args .side-places }) (record { ledger = start .args .ledger .now; true-counts = start .args .true-counts .now; clipped-counts = start .args .clipped .now; buckets = start .args .buckets .now; side-store = start .args .side .now }) (arm .0) (checked .given .0 .0) (arm .1) (sym (c .before .lengths-right .ensures) ∙ not-true _ (c .if1 .taken))
 
 clear-areas-requires : tie.Need-clear-areas-requires
 clear-areas-requires c κs =
-    let z = sized-by (card-of (paper (c .before .before .before .before .before .before .before .before .checked .given .0 .0))) (record { ledger = c .before .before .before .before .before .before .before .before .before .before .before .before .before .before .before .before .args .ledger .now; true-counts = c .before .before .before .before .before .before .before .before .before .before .before .before .before .before .before .before .args .true-counts .now; clipped-counts = c .before .before .before .before .before .before .before .before .before .before .before .before .before .before .before .before .args .clipped .now; buckets = c .before .before .before .before .before .before .before .before .before .before .before .before .before .before .before .before .args .buckets .now; side-store = c .before .before .before .before .before .before .before .before .before .before .before .before .before .before .before .before .args .side .now }) (sym (c .before .before .before .before .before .before .lengths-right .ensures) ∙ not-false _ (c .before .before .before .before .before .if1 .left)) in
-    (allowed-settings (record { p = c .before .before .before .before .before .before .before .before .before .before .before .before .before .before .before .before .args .p; k = c .before .before .before .before .before .before .before .before .before .before .before .before .before .before .before .before .args .k; room = c .before .before .before .before .before .before .before .before .before .before .before .before .before .before .before .before .args .room; top = c .before .before .before .before .before .before .before .before .before .before .before .before .before .before .before .before .args .top; capacity = c .before .before .before .before .before .before .before .before .before .before .before .before .before .before .before .before .args .capacity; side-places = c .before .before .before .before .before .before .before .before .before .before .before .before .before .before .before .before .args .side-places }) (c .before .before .before .before .before .before .before .before .before .before .new .result) (c .before .before .before .before .before .before .before .before .before .before .new .ensures) (c .before .before .before .before .before .before .before .before .checked .given .0 .0) (c .before .before .before .before .before .before .before .before .checked .given .1), z .ledger, z .true-counts, z .clipped-counts, z .buckets, z .side-store)
+    let start = c .before .before .before .before .before .before .before .before .before .before .before .before .before .before .before .before in
+    let new = c .before .before .before .before .before .before .before .before .before .before .new in
+    let checked = c .before .before .before .before .before .before .before .before .checked in
+    let lengths-right = c .before .before .before .before .before .before .lengths-right in
+    let if1 = c .before .before .before .before .before .if1 in
+    let z = sized-by (card-of (paper (checked .given .0 .0))) (record { ledger = start .args .ledger .now; true-counts = start .args .true-counts .now; clipped-counts = start .args .clipped .now; buckets = start .args .buckets .now; side-store = start .args .side .now }) (sym (lengths-right .ensures) ∙ not-false _ (if1 .left)) in
+    (allowed-settings (record { p = start .args .p; k = start .args .k; room = start .args .room; top = start .args .top; capacity = start .args .capacity; side-places = start .args .side-places }) (new .result) (new .ensures) (checked .given .0 .0) (checked .given .1), z .ledger, z .true-counts, z .clipped-counts, z .buckets, z .side-store)
 
 same-length : tie.Need-same-length
 same-length c = search needs
@@ -49,7 +65,14 @@ same-length-5 : tie.Need-same-length-5
 same-length-5 c = search needs
 
 returns-3 : tie.Need-returns-3
-returns-3 c = let arm = allowed-arm (record { p = c .before .before .before .before .before .before .before .before .before .before .before .before .before .before .before .before .before .before .before .before .before .before .before .before .before .before .before .args .p; k = c .before .before .before .before .before .before .before .before .before .before .before .before .before .before .before .before .before .before .before .before .before .before .before .before .before .before .before .args .k; room = c .before .before .before .before .before .before .before .before .before .before .before .before .before .before .before .before .before .before .before .before .before .before .before .before .before .before .before .args .room; top = c .before .before .before .before .before .before .before .before .before .before .before .before .before .before .before .before .before .before .before .before .before .before .before .before .before .before .before .args .top; capacity = c .before .before .before .before .before .before .before .before .before .before .before .before .before .before .before .before .before .before .before .before .before .before .before .before .before .before .before .args .capacity; side-places = c .before .before .before .before .before .before .before .before .before .before .before .before .before .before .before .before .before .before .before .before .before .before .before .before .before .before .before .args .side-places }) (c .before .before .before .before .before .before .before .before .before .before .before .before .before .before .before .before .before .before .before .before .before .new .result) (c .before .before .before .before .before .before .before .before .before .before .before .before .before .before .before .before .before .before .before .before .before .new .ensures) (c .before .before .before .before .before .before .before .before .before .before .before .before .before .before .before .before .before .before .before .checked .given .0 .0) (c .before .before .before .before .before .before .before .before .before .before .before .before .before .before .before .before .before .before .before .checked .given .1) in clears (record { p = c .before .before .before .before .before .before .before .before .before .before .before .before .before .before .before .before .before .before .before .before .before .before .before .before .before .before .before .args .p; k = c .before .before .before .before .before .before .before .before .before .before .before .before .before .before .before .before .before .before .before .before .before .before .before .before .before .before .before .args .k; room = c .before .before .before .before .before .before .before .before .before .before .before .before .before .before .before .before .before .before .before .before .before .before .before .before .before .before .before .args .room; top = c .before .before .before .before .before .before .before .before .before .before .before .before .before .before .before .before .before .before .before .before .before .before .before .before .before .before .before .args .top; capacity = c .before .before .before .before .before .before .before .before .before .before .before .before .before .before .before .before .before .before .before .before .before .before .before .before .before .before .before .args .capacity; side-places = c .before .before .before .before .before .before .before .before .before .before .before .before .before .before .before .before .before .before .before .before .before .before .before .before .before .before .before .args .side-places }) (record { ledger = c .before .before .before .before .before .before .before .before .before .before .before .before .before .before .before .before .before .before .before .before .before .before .before .before .before .before .before .args .ledger .now; true-counts = c .before .before .before .before .before .before .before .before .before .before .before .before .before .before .before .before .before .before .before .before .before .before .before .before .before .before .before .args .true-counts .now; clipped-counts = c .before .before .before .before .before .before .before .before .before .before .before .before .before .before .before .before .before .before .before .before .before .before .before .before .before .before .before .args .clipped .now; buckets = c .before .before .before .before .before .before .before .before .before .before .before .before .before .before .before .before .before .before .before .before .before .before .before .before .before .before .before .args .buckets .now; side-store = c .before .before .before .before .before .before .before .before .before .before .before .before .before .before .before .before .before .before .before .before .before .before .before .before .before .before .before .args .side .now }) (arm .0) (c .before .before .before .before .before .before .before .before .before .before .before .before .before .before .before .before .before .before .before .checked .given .0 .0) (arm .1) (sym (c .before .before .before .before .before .before .before .before .before .before .before .before .before .before .before .before .before .lengths-right .ensures) ∙ not-false _ (c .before .before .before .before .before .before .before .before .before .before .before .before .before .before .before .before .if1 .left)) _ (c .before .before .before .before .before .before .before .before .before .before .clear-areas .ensures)
+returns-3 c =
+    let start = c .before .before .before .before .before .before .before .before .before .before .before .before .before .before .before .before .before .before .before .before .before .before .before .before .before .before .before in
+    let new = c .before .before .before .before .before .before .before .before .before .before .before .before .before .before .before .before .before .before .before .before .before .new in
+    let checked = c .before .before .before .before .before .before .before .before .before .before .before .before .before .before .before .before .before .before .before .checked in
+    let lengths-right = c .before .before .before .before .before .before .before .before .before .before .before .before .before .before .before .before .before .lengths-right in
+    let if1 = c .before .before .before .before .before .before .before .before .before .before .before .before .before .before .before .before .if1 in
+    let clear-areas = c .before .before .before .before .before .before .before .before .before .before .clear-areas in
+    let arm = allowed-arm (record { p = start .args .p; k = start .args .k; room = start .args .room; top = start .args .top; capacity = start .args .capacity; side-places = start .args .side-places }) (new .result) (new .ensures) (checked .given .0 .0) (checked .given .1) in clears (record { p = start .args .p; k = start .args .k; room = start .args .room; top = start .args .top; capacity = start .args .capacity; side-places = start .args .side-places }) (record { ledger = start .args .ledger .now; true-counts = start .args .true-counts .now; clipped-counts = start .args .clipped .now; buckets = start .args .buckets .now; side-store = start .args .side .now }) (arm .0) (checked .given .0 .0) (arm .1) (sym (lengths-right .ensures) ∙ not-false _ (if1 .left)) _ (clear-areas .ensures)
 
 pub clear-spec : {M : Type 1} → statement M
 clear-spec =

@@ -16,19 +16,26 @@ enum-told : tie.Need-enum-told
 enum-told c = search needs
 
 insert-record-requires : tie.Need-insert-record-requires
-insert-record-requires c κs = let f = subst (λ (e : Edit). Fits e (c .before .before .before .before .before .args .at) (length (ledger-records (card-of (paper (c .before .before .before .before .before .args .s))) (c .before .before .before .before .before .args .ledger .now)))) (c .before .enum-told .given .1) (c .before .before .before .before .before .pre .1) in let room = subst (λ (e : Edit). (length (ledger-records (card-of (paper (c .before .before .before .before .before .args .s))) (c .before .before .before .before .before .args .ledger .now))) + brings e ≤ card-of (paper (c .before .before .before .before .before .args .s)) .capacity + leaves-out e) (c .before .enum-told .given .1) (c .before .before .before .before .before .pre .2) in (c .before .before .before .before .before .pre .0, omega (arith, room), f, c .before .before .before .before .before .pre .3)
+insert-record-requires c κs =
+    let start = c .before .before .before .before .before in
+    let enum-told = c .before .enum-told in
+    let f = subst (λ (e : Edit). Fits e (start .args .at) (length (ledger-records (card-of (paper (start .args .s))) (start .args .ledger .now)))) (enum-told .given .1) (start .pre .1) in let room = subst (λ (e : Edit). (length (ledger-records (card-of (paper (start .args .s))) (start .args .ledger .now))) + brings e ≤ card-of (paper (start .args .s)) .capacity + leaves-out e) (enum-told .given .1) (start .pre .2) in (start .pre .0, omega (arith, room), f, start .pre .3)
 
 enum-told-2 : tie.Need-enum-told-2
 enum-told-2 c = search needs
 
 replace-record-requires : tie.Need-replace-record-requires
-replace-record-requires c κs = (c .before .before .before .before .before .pre .0, subst (λ (e : Edit). Fits e (c .before .before .before .before .before .args .at) (length (ledger-records (card-of (paper (c .before .before .before .before .before .args .s))) (c .before .before .before .before .before .args .ledger .now)))) (c .before .enum-told2 .given .1) (c .before .before .before .before .before .pre .1), c .before .before .before .before .before .pre .3)
+replace-record-requires c κs =
+    let start = c .before .before .before .before .before in
+    (start .pre .0, subst (λ (e : Edit). Fits e (start .args .at) (length (ledger-records (card-of (paper (start .args .s))) (start .args .ledger .now)))) (c .before .enum-told2 .given .1) (start .pre .1), start .pre .3)
 
 enum-told-3 : tie.Need-enum-told-3
 enum-told-3 c = search needs
 
 remove-record-requires : tie.Need-remove-record-requires
-remove-record-requires c κs = (c .before .before .before .before .before .pre .0, subst (λ (e : Edit). Fits e (c .before .before .before .before .before .args .at) (length (ledger-records (card-of (paper (c .before .before .before .before .before .args .s))) (c .before .before .before .before .before .args .ledger .now)))) (c .before .enum-told3 .given .1) (c .before .before .before .before .before .pre .1))
+remove-record-requires c κs =
+    let start = c .before .before .before .before .before in
+    (start .pre .0, subst (λ (e : Edit). Fits e (start .args .at) (length (ledger-records (card-of (paper (start .args .s))) (start .args .ledger .now)))) (c .before .enum-told3 .given .1) (start .pre .1))
 
 same-length : tie.Need-same-length
 same-length c = search needs

@@ -29,23 +29,36 @@ refuse-requires c κs = search needs
 
 returns : tie.Need-returns
 returns c =
-    let bad = negated-false (c .before .before .valid .result) (ledger-invalid (card-of (paper (c .before .before .before .before .before .before .before .before .args .s))) (c .before .before .before .before .before .before .before .before .args .ledger .now)) (c .before .before .valid .ensures) (not-true _ (c .before .if1 .taken)) in
-    (c .refuse .ensures ∙ sym (judged-4 (paper (c .before .before .before .before .before .before .before .before .args .s)) (c .before .before .before .before .before .before .before .before .args .edit) (c .before .before .before .before .before .before .before .before .args .key .now) (c .before .before .before .before .before .before .before .before .args .class) (c .before .before .before .before .before .before .before .before .args .ledger .now) bad), λ z. absurd (omega (arith, c .refuse .ensures, z)))
+    let start = c .before .before .before .before .before .before .before .before in
+    let valid = c .before .before .valid in
+    let bad = negated-false (valid .result) (ledger-invalid (card-of (paper (start .args .s))) (start .args .ledger .now)) (valid .ensures) (not-true _ (c .before .if1 .taken)) in
+    (c .refuse .ensures ∙ sym (judged-4 (paper (start .args .s)) (start .args .edit) (start .args .key .now) (start .args .class) (start .args .ledger .now) bad), λ z. absurd (omega (arith, c .refuse .ensures, z)))
 
 count-at-requires : tie.Need-count-at-requires
-count-at-requires c κs = has-count (card-of (paper (c .before .before .before .before .before .before .before .args .s))) (c .before .before .before .before .before .before .before .args .ledger .now) (c .before .before .before .before .before .before .before .pre .3)
+count-at-requires c κs =
+    let start = c .before .before .before .before .before .before .before in
+    has-count (card-of (paper (start .args .s))) (start .args .ledger .now) (start .pre .3)
 
 sub-find-spot : tie.Need-sub-find-spot
-sub-find-spot c = has-count (card-of (paper (c .before .before .before .before .before .before .before .before .args .s))) (c .before .before .before .before .before .before .before .before .args .ledger .now) (c .before .before .before .before .before .before .before .before .pre .3)
+sub-find-spot c =
+    let start = c .before .before .before .before .before .before .before .before in
+    has-count (card-of (paper (start .args .s))) (start .args .ledger .now) (start .pre .3)
 
 part-find-spot-start : tie.Need-part-find-spot-start
-part-find-spot-start c = has-count (card-of (paper (c .before .before .before .before .before .before .before .before .args .s))) (c .before .before .before .before .before .before .before .before .args .ledger .now) (c .before .before .before .before .before .before .before .before .pre .3)
+part-find-spot-start c =
+    let start = c .before .before .before .before .before .before .before .before in
+    has-count (card-of (paper (start .args .s))) (start .args .ledger .now) (start .pre .3)
 
 part-find-spot-end : tie.Need-part-find-spot-end
 part-find-spot-end c = search needs
 
 find-spot-requires : tie.Need-find-spot-requires
-find-spot-requires c κs = (search-room (card-of (paper (c .before .before .before .before .before .before .before .before .before .args .s))) (c .before .before .before .before .before .before .before .before .before .args .ledger .now) (c .before .before .before .before .before .before .before .before .before .pre .3) (negated-true (c .before .before .before .valid .result) (ledger-invalid (card-of (paper (c .before .before .before .before .before .before .before .before .before .args .s))) (c .before .before .before .before .before .before .before .before .before .args .ledger .now)) (c .before .before .before .valid .ensures) (not-false _ (c .before .before .if1 .left))) (c .before .count-at .result) (c .before .count-at .ensures .0) (c .before .before .before .before .before .before .before .before .before .args .key .now) (c .before .before .before .before .before .before .before .before .before .pre .4), search-rises (card-of (paper (c .before .before .before .before .before .before .before .before .before .args .s))) (c .before .before .before .before .before .before .before .before .before .args .ledger .now) (c .before .before .before .before .before .before .before .before .before .pre .3) (negated-true (c .before .before .before .valid .result) (ledger-invalid (card-of (paper (c .before .before .before .before .before .before .before .before .before .args .s))) (c .before .before .before .before .before .before .before .before .before .args .ledger .now)) (c .before .before .before .valid .ensures) (not-false _ (c .before .before .if1 .left))) (c .before .count-at .result) (c .before .count-at .ensures .0) (c .before .before .before .before .before .before .before .before .before .args .key .now) (c .before .before .before .before .before .before .before .before .before .pre .4))
+find-spot-requires c κs =
+    let start = c .before .before .before .before .before .before .before .before .before in
+    let valid = c .before .before .before .valid in
+    let if1 = c .before .before .if1 in
+    let count-at = c .before .count-at in
+    (search-room (card-of (paper (start .args .s))) (start .args .ledger .now) (start .pre .3) (negated-true (valid .result) (ledger-invalid (card-of (paper (start .args .s))) (start .args .ledger .now)) (valid .ensures) (not-false _ (if1 .left))) (count-at .result) (count-at .ensures .0) (start .args .key .now) (start .pre .4), search-rises (card-of (paper (start .args .s))) (start .args .ledger .now) (start .pre .3) (negated-true (valid .result) (ledger-invalid (card-of (paper (start .args .s))) (start .args .ledger .now)) (valid .ensures) (not-false _ (if1 .left))) (count-at .result) (count-at .ensures .0) (start .args .key .now) (start .pre .4))
 
 refusal-by-list-requires : tie.Need-refusal-by-list-requires
 refusal-by-list-requires c κs = search needs
@@ -55,22 +68,35 @@ refuse-requires-2 c κs = search needs
 
 returns-2 : tie.Need-returns-2
 returns-2 c =
-    let some : by-list (paper (c .before .before .before .before .before .before .before .before .before .before .before .before .before .args .s)) (c .before .before .before .before .before .before .before .before .before .before .before .before .before .args .edit) (c .before .before .before .find-spot .result .held) (c .before .before .before .before .before .count-at .result) ≡ 0 → ⊥ = λ e. c .before .if2 .taken (c .before .before .refusal-by-list .ensures ∙ e) in (
-      c .refuse2 .ensures ∙ c .before .before .refusal-by-list .ensures ∙ sym (judged-by-list (paper (c .before .before .before .before .before .before .before .before .before .before .before .before .before .args .s)) (c .before .before .before .before .before .before .before .before .before .before .before .before .before .args .edit) (c .before .before .before .before .before .before .before .before .before .before .before .before .before .args .key .now) (c .before .before .before .before .before .before .before .before .before .before .before .before .before .args .class) (c .before .before .before .before .before .before .before .before .before .before .before .before .before .args .ledger .now) (negated-true (c .before .before .before .before .before .before .before .valid .result) (ledger-invalid (card-of (paper (c .before .before .before .before .before .before .before .before .before .before .before .before .before .args .s))) (c .before .before .before .before .before .before .before .before .before .before .before .before .before .args .ledger .now)) (c .before .before .before .before .before .before .before .valid .ensures) (not-false _ (c .before .before .before .before .before .before .if1 .left))) (c .before .before .before .before .before .before .before .before .before .before .before .before .before .pre .4) (c .before .before .before .find-spot .result) (ledger-spot (card-of (paper (c .before .before .before .before .before .before .before .before .before .before .before .before .before .args .s))) (c .before .before .before .before .before .before .before .before .before .before .before .before .before .args .ledger .now) (c .before .before .before .before .before .before .before .before .before .before .before .before .before .pre .3) (negated-true (c .before .before .before .before .before .before .before .valid .result) (ledger-invalid (card-of (paper (c .before .before .before .before .before .before .before .before .before .before .before .before .before .args .s))) (c .before .before .before .before .before .before .before .before .before .before .before .before .before .args .ledger .now)) (c .before .before .before .before .before .before .before .valid .ensures) (not-false _ (c .before .before .before .before .before .before .if1 .left))) (c .before .before .before .before .before .count-at .result) (c .before .before .before .before .before .count-at .ensures .0) (c .before .before .before .before .before .before .before .before .before .before .before .before .before .args .key .now) (c .before .before .before .before .before .before .before .before .before .before .before .before .before .pre .4) (c .before .before .before .find-spot .result) (c .before .before .before .find-spot .ensures)) (c .before .before .before .before .before .count-at .result) ((c .before .before .before .before .before .count-at .ensures .0) ∙ sym (listed (card-of (paper (c .before .before .before .before .before .before .before .before .before .before .before .before .before .args .s))) (c .before .before .before .before .before .before .before .before .before .before .before .before .before .args .ledger .now) (c .before .before .before .before .before .before .before .before .before .before .before .before .before .pre .3) (negated-true (c .before .before .before .before .before .before .before .valid .result) (ledger-invalid (card-of (paper (c .before .before .before .before .before .before .before .before .before .before .before .before .before .args .s))) (c .before .before .before .before .before .before .before .before .before .before .before .before .before .args .ledger .now)) (c .before .before .before .before .before .before .before .valid .ensures) (not-false _ (c .before .before .before .before .before .before .if1 .left))))) some),
-      λ z. absurd (c .before .if2 .taken (sym (c .refuse2 .ensures) ∙ z)),
+    let start = c .before .before .before .before .before .before .before .before .before .before .before .before .before in
+    let valid = c .before .before .before .before .before .before .before .valid in
+    let if1 = c .before .before .before .before .before .before .if1 in
+    let count-at = c .before .before .before .before .before .count-at in
+    let find-spot = c .before .before .before .find-spot in
+    let refusal-by-list = c .before .before .refusal-by-list in
+    let if2 = c .before .if2 in
+    let some : by-list (paper (start .args .s)) (start .args .edit) (find-spot .result .held) (count-at .result) ≡ 0 → ⊥ = λ e. if2 .taken (refusal-by-list .ensures ∙ e) in (
+      c .refuse2 .ensures ∙ refusal-by-list .ensures ∙ sym (judged-by-list (paper (start .args .s)) (start .args .edit) (start .args .key .now) (start .args .class) (start .args .ledger .now) (negated-true (valid .result) (ledger-invalid (card-of (paper (start .args .s))) (start .args .ledger .now)) (valid .ensures) (not-false _ (if1 .left))) (start .pre .4) (find-spot .result) (ledger-spot (card-of (paper (start .args .s))) (start .args .ledger .now) (start .pre .3) (negated-true (valid .result) (ledger-invalid (card-of (paper (start .args .s))) (start .args .ledger .now)) (valid .ensures) (not-false _ (if1 .left))) (count-at .result) (count-at .ensures .0) (start .args .key .now) (start .pre .4) (find-spot .result) (find-spot .ensures)) (count-at .result) ((count-at .ensures .0) ∙ sym (listed (card-of (paper (start .args .s))) (start .args .ledger .now) (start .pre .3) (negated-true (valid .result) (ledger-invalid (card-of (paper (start .args .s))) (start .args .ledger .now)) (valid .ensures) (not-false _ (if1 .left))))) some),
+      λ z. absurd (if2 .taken (sym (c .refuse2 .ensures) ∙ z)),
     )
 
 place-new-requires : tie.Need-place-new-requires
 place-new-requires c κs =
-    let r = ranges (paper (c .before .before .before .before .before .before .before .before .before .before .before .before .before .args .s)) (c .before .before .before .before .before .before .before .before .before .before .before .before .before .pre .0 .ok) in
-    let many = few (card-of (paper (c .before .before .before .before .before .before .before .before .before .before .before .before .before .args .s))) (c .before .before .before .before .before .before .before .before .before .before .before .before .before .args .ledger .now) (c .before .before .before .before .before .before .before .before .before .before .before .before .before .pre .3) (negated-true (c .before .before .before .before .before .before .before .valid .result) (ledger-invalid (card-of (paper (c .before .before .before .before .before .before .before .before .before .before .before .before .before .args .s))) (c .before .before .before .before .before .before .before .before .before .before .before .before .before .args .ledger .now)) (c .before .before .before .before .before .before .before .valid .ensures) (not-false _ (c .before .before .before .before .before .before .if1 .left))) in (
-      c .before .before .before .before .before .before .before .before .before .before .before .before .before .pre .0,
-      c .before .before .before .before .before .before .before .before .before .before .before .before .before .pre .1,
-      c .before .before .before .before .before .before .before .before .before .before .before .before .before .pre .2,
-      place-fits (paper (c .before .before .before .before .before .before .before .before .before .before .before .before .before .args .s)) (c .before .before .before .before .before .before .before .before .before .before .before .before .before .args .key .now) (c .before .before .before .before .before .before .before .before .before .before .before .before .before .args .class) (ledger-records (card-of (paper (c .before .before .before .before .before .before .before .before .before .before .before .before .before .args .s))) (c .before .before .before .before .before .before .before .before .before .before .before .before .before .args .ledger .now)) (c .before .before .before .find-spot .result) (ledger-spot (card-of (paper (c .before .before .before .before .before .before .before .before .before .before .before .before .before .args .s))) (c .before .before .before .before .before .before .before .before .before .before .before .before .before .args .ledger .now) (c .before .before .before .before .before .before .before .before .before .before .before .before .before .pre .3) (negated-true (c .before .before .before .before .before .before .before .valid .result) (ledger-invalid (card-of (paper (c .before .before .before .before .before .before .before .before .before .before .before .before .before .args .s))) (c .before .before .before .before .before .before .before .before .before .before .before .before .before .args .ledger .now)) (c .before .before .before .before .before .before .before .valid .ensures) (not-false _ (c .before .before .before .before .before .before .if1 .left))) (c .before .before .before .before .before .count-at .result) (c .before .before .before .before .before .count-at .ensures .0) (c .before .before .before .before .before .before .before .before .before .before .before .before .before .args .key .now) (c .before .before .before .before .before .before .before .before .before .before .before .before .before .pre .4) (c .before .before .before .find-spot .result) (c .before .before .before .find-spot .ensures)) (c .before .before .before .before .before .count-at .result) ((c .before .before .before .before .before .count-at .ensures .0) ∙ sym (listed (card-of (paper (c .before .before .before .before .before .before .before .before .before .before .before .before .before .args .s))) (c .before .before .before .before .before .before .before .before .before .before .before .before .before .args .ledger .now) (c .before .before .before .before .before .before .before .before .before .before .before .before .before .pre .3) (negated-true (c .before .before .before .before .before .before .before .valid .result) (ledger-invalid (card-of (paper (c .before .before .before .before .before .before .before .before .before .before .before .before .before .args .s))) (c .before .before .before .before .before .before .before .before .before .before .before .before .before .args .ledger .now)) (c .before .before .before .before .before .before .before .valid .ensures) (not-false _ (c .before .before .before .before .before .before .if1 .left))))) (c .before .before .before .before .before .before .before .before .before .before .before .before .before .args .edit) (sym (c .before .before .refusal-by-list .ensures) ∙ c .before .if2 .left),
-      omega (arith, many, (c .before .before .before .before .before .count-at .ensures .0), capacity-is (paper (c .before .before .before .before .before .before .before .before .before .before .before .before .before .args .s))),
-      ledger-room (card-of (paper (c .before .before .before .before .before .before .before .before .before .before .before .before .before .args .s))) (c .before .before .before .before .before .before .before .before .before .before .before .before .before .args .ledger .now) (c .before .before .before .before .before .before .before .before .before .before .before .before .before .pre .3) (c .before .before .before .before .before .count-at .result) (omega (arith, many, (c .before .before .before .before .before .count-at .ensures .0))),
-      ap length (c .before .before .before .before .before .before .before .before .before .before .before .before .before .pre .5) ∙ length-record ((card-of (paper (c .before .before .before .before .before .before .before .before .before .before .before .before .before .args .s))) .width) (record { key = (c .before .before .before .before .before .before .before .before .before .before .before .before .before .args .key .now); class = c .before .before .before .before .before .before .before .before .before .before .before .before .before .args .class }) (record { wide = c .before .before .before .before .before .before .before .before .before .before .before .before .before .pre .4; small = c .before .before .before .before .before .before .before .before .before .before .before .before .before .fits .class .fits }),
+    let start = c .before .before .before .before .before .before .before .before .before .before .before .before .before in
+    let valid = c .before .before .before .before .before .before .before .valid in
+    let if1 = c .before .before .before .before .before .before .if1 in
+    let count-at = c .before .before .before .before .before .count-at in
+    let find-spot = c .before .before .before .find-spot in
+    let refusal-by-list = c .before .before .refusal-by-list in
+    let r = ranges (paper (start .args .s)) (start .pre .0 .ok) in
+    let many = few (card-of (paper (start .args .s))) (start .args .ledger .now) (start .pre .3) (negated-true (valid .result) (ledger-invalid (card-of (paper (start .args .s))) (start .args .ledger .now)) (valid .ensures) (not-false _ (if1 .left))) in (
+      start .pre .0,
+      start .pre .1,
+      start .pre .2,
+      place-fits (paper (start .args .s)) (start .args .key .now) (start .args .class) (ledger-records (card-of (paper (start .args .s))) (start .args .ledger .now)) (find-spot .result) (ledger-spot (card-of (paper (start .args .s))) (start .args .ledger .now) (start .pre .3) (negated-true (valid .result) (ledger-invalid (card-of (paper (start .args .s))) (start .args .ledger .now)) (valid .ensures) (not-false _ (if1 .left))) (count-at .result) (count-at .ensures .0) (start .args .key .now) (start .pre .4) (find-spot .result) (find-spot .ensures)) (count-at .result) ((count-at .ensures .0) ∙ sym (listed (card-of (paper (start .args .s))) (start .args .ledger .now) (start .pre .3) (negated-true (valid .result) (ledger-invalid (card-of (paper (start .args .s))) (start .args .ledger .now)) (valid .ensures) (not-false _ (if1 .left))))) (start .args .edit) (sym (refusal-by-list .ensures) ∙ c .before .if2 .left),
+      omega (arith, many, (count-at .ensures .0), capacity-is (paper (start .args .s))),
+      ledger-room (card-of (paper (start .args .s))) (start .args .ledger .now) (start .pre .3) (count-at .result) (omega (arith, many, (count-at .ensures .0))),
+      ap length (start .pre .5) ∙ length-record ((card-of (paper (start .args .s))) .width) (record { key = (start .args .key .now); class = start .args .class }) (record { wide = start .pre .4; small = start .fits .class .fits }),
     )
 
 refuse-requires-3 : tie.Need-refuse-requires-3
@@ -81,8 +107,16 @@ same-length c = search needs
 
 returns-3 : tie.Need-returns-3
 returns-3 c =
-    let made = rw (records-are (card-of (paper (c .before .before .before .before .before .before .before .before .before .before .before .before .before .before .before .before .before .before .before .args .s))) (c .before .before .before .before .before .before .before .before .before .before .before .before .before .before .before .before .before .before .before .args .ledger .now) (c .before .before .before .before .before .before .before .before .before .before .before .count-at .result) (c .before .before .before .before .before .before .before .before .before .before .before .count-at .ensures .0)) at ((c .before .before .before .before .before .place-new .ensures (record { key = (c .before .before .before .before .before .before .before .before .before .before .before .before .before .before .before .before .before .before .before .args .key .now); class = c .before .before .before .before .before .before .before .before .before .before .before .before .before .before .before .before .before .before .before .args .class }) (sym (c .before .before .before .before .before .before .before .before .before .before .before .before .before .before .before .before .before .before .before .pre .5)) (record { wide = c .before .before .before .before .before .before .before .before .before .before .before .before .before .before .before .before .before .before .before .pre .4; small = c .before .before .before .before .before .before .before .before .before .before .before .before .before .before .before .before .before .before .before .fits .class .fits })) .0) in (
-      c .refuse3 .ensures ∙ sym (judged-9 (paper (c .before .before .before .before .before .before .before .before .before .before .before .before .before .before .before .before .before .before .before .args .s)) (c .before .before .before .before .before .before .before .before .before .before .before .before .before .before .before .before .before .before .before .args .edit) (c .before .before .before .before .before .before .before .before .before .before .before .before .before .before .before .before .before .before .before .args .key .now) (c .before .before .before .before .before .before .before .before .before .before .before .before .before .before .before .before .before .before .before .args .class) (c .before .before .before .before .before .before .before .before .before .before .before .before .before .before .before .before .before .before .before .args .ledger .now) (negated-true (c .before .before .before .before .before .before .before .before .before .before .before .before .before .valid .result) (ledger-invalid (card-of (paper (c .before .before .before .before .before .before .before .before .before .before .before .before .before .before .before .before .before .before .before .args .s))) (c .before .before .before .before .before .before .before .before .before .before .before .before .before .before .before .before .before .before .before .args .ledger .now)) (c .before .before .before .before .before .before .before .before .before .before .before .before .before .valid .ensures) (not-false _ (c .before .before .before .before .before .before .before .before .before .before .before .before .if1 .left))) (c .before .before .before .before .before .before .before .before .before .before .before .before .before .before .before .before .before .before .before .pre .4) (c .before .before .before .before .before .before .before .before .before .find-spot .result) (ledger-spot (card-of (paper (c .before .before .before .before .before .before .before .before .before .before .before .before .before .before .before .before .before .before .before .args .s))) (c .before .before .before .before .before .before .before .before .before .before .before .before .before .before .before .before .before .before .before .args .ledger .now) (c .before .before .before .before .before .before .before .before .before .before .before .before .before .before .before .before .before .before .before .pre .3) (negated-true (c .before .before .before .before .before .before .before .before .before .before .before .before .before .valid .result) (ledger-invalid (card-of (paper (c .before .before .before .before .before .before .before .before .before .before .before .before .before .before .before .before .before .before .before .args .s))) (c .before .before .before .before .before .before .before .before .before .before .before .before .before .before .before .before .before .before .before .args .ledger .now)) (c .before .before .before .before .before .before .before .before .before .before .before .before .before .valid .ensures) (not-false _ (c .before .before .before .before .before .before .before .before .before .before .before .before .if1 .left))) (c .before .before .before .before .before .before .before .before .before .before .before .count-at .result) (c .before .before .before .before .before .before .before .before .before .before .before .count-at .ensures .0) (c .before .before .before .before .before .before .before .before .before .before .before .before .before .before .before .before .before .before .before .args .key .now) (c .before .before .before .before .before .before .before .before .before .before .before .before .before .before .before .before .before .before .before .pre .4) (c .before .before .before .before .before .before .before .before .before .find-spot .result) (c .before .before .before .before .before .before .before .before .before .find-spot .ensures)) (c .before .before .before .before .before .before .before .before .before .before .before .count-at .result) ((c .before .before .before .before .before .before .before .before .before .before .before .count-at .ensures .0) ∙ sym (listed (card-of (paper (c .before .before .before .before .before .before .before .before .before .before .before .before .before .before .before .before .before .before .before .args .s))) (c .before .before .before .before .before .before .before .before .before .before .before .before .before .before .before .before .before .before .before .args .ledger .now) (c .before .before .before .before .before .before .before .before .before .before .before .before .before .before .before .before .before .before .before .pre .3) (negated-true (c .before .before .before .before .before .before .before .before .before .before .before .before .before .valid .result) (ledger-invalid (card-of (paper (c .before .before .before .before .before .before .before .before .before .before .before .before .before .before .before .before .before .before .before .args .s))) (c .before .before .before .before .before .before .before .before .before .before .before .before .before .before .before .before .before .before .before .args .ledger .now)) (c .before .before .before .before .before .before .before .before .before .before .before .before .before .valid .ensures) (not-false _ (c .before .before .before .before .before .before .before .before .before .before .before .before .if1 .left))))) (sym (c .before .before .before .before .before .before .before .before .refusal-by-list .ensures) ∙ c .before .before .before .before .before .before .before .if2 .left) (c .before .before .before .before .before .place-new .result) made (omega (arith, c .before .if3 .taken, side-places-are (paper (c .before .before .before .before .before .before .before .before .before .before .before .before .before .before .before .before .before .before .before .args .s))))),
+    let start = c .before .before .before .before .before .before .before .before .before .before .before .before .before .before .before .before .before .before .before in
+    let valid = c .before .before .before .before .before .before .before .before .before .before .before .before .before .valid in
+    let if1 = c .before .before .before .before .before .before .before .before .before .before .before .before .if1 in
+    let count-at = c .before .before .before .before .before .before .before .before .before .before .before .count-at in
+    let find-spot = c .before .before .before .before .before .before .before .before .before .find-spot in
+    let refusal-by-list = c .before .before .before .before .before .before .before .before .refusal-by-list in
+    let if2 = c .before .before .before .before .before .before .before .if2 in
+    let place-new = c .before .before .before .before .before .place-new in
+    let made = rw (records-are (card-of (paper (start .args .s))) (start .args .ledger .now) (count-at .result) (count-at .ensures .0)) at ((place-new .ensures (record { key = (start .args .key .now); class = start .args .class }) (sym (start .pre .5)) (record { wide = start .pre .4; small = start .fits .class .fits })) .0) in (
+      c .refuse3 .ensures ∙ sym (judged-9 (paper (start .args .s)) (start .args .edit) (start .args .key .now) (start .args .class) (start .args .ledger .now) (negated-true (valid .result) (ledger-invalid (card-of (paper (start .args .s))) (start .args .ledger .now)) (valid .ensures) (not-false _ (if1 .left))) (start .pre .4) (find-spot .result) (ledger-spot (card-of (paper (start .args .s))) (start .args .ledger .now) (start .pre .3) (negated-true (valid .result) (ledger-invalid (card-of (paper (start .args .s))) (start .args .ledger .now)) (valid .ensures) (not-false _ (if1 .left))) (count-at .result) (count-at .ensures .0) (start .args .key .now) (start .pre .4) (find-spot .result) (find-spot .ensures)) (count-at .result) ((count-at .ensures .0) ∙ sym (listed (card-of (paper (start .args .s))) (start .args .ledger .now) (start .pre .3) (negated-true (valid .result) (ledger-invalid (card-of (paper (start .args .s))) (start .args .ledger .now)) (valid .ensures) (not-false _ (if1 .left))))) (sym (refusal-by-list .ensures) ∙ if2 .left) (place-new .result) made (omega (arith, c .before .if3 .taken, side-places-are (paper (start .args .s))))),
       λ z. absurd (omega (arith, c .refuse3 .ensures, z)),
     )
 
@@ -90,7 +124,15 @@ left-out-requires : tie.Need-left-out-requires
 left-out-requires c κs = search needs
 
 sub-t22 : tie.Need-sub-t22
-sub-t22 c = omega (arith, within (c .before .before .before .before .before .before .before .before .before .before .before .before .before .before .before .before .before .before .before .args .edit) (c .before .before .before .before .before .before .before .before .before .find-spot .result .at) (c .before .before .before .before .before .before .before .before .before .before .before .count-at .result) (place-fits (paper (c .before .before .before .before .before .before .before .before .before .before .before .before .before .before .before .before .before .before .before .args .s)) (c .before .before .before .before .before .before .before .before .before .before .before .before .before .before .before .before .before .before .before .args .key .now) (c .before .before .before .before .before .before .before .before .before .before .before .before .before .before .before .before .before .before .before .args .class) (ledger-records (card-of (paper (c .before .before .before .before .before .before .before .before .before .before .before .before .before .before .before .before .before .before .before .args .s))) (c .before .before .before .before .before .before .before .before .before .before .before .before .before .before .before .before .before .before .before .args .ledger .now)) (c .before .before .before .before .before .before .before .before .before .find-spot .result) (ledger-spot (card-of (paper (c .before .before .before .before .before .before .before .before .before .before .before .before .before .before .before .before .before .before .before .args .s))) (c .before .before .before .before .before .before .before .before .before .before .before .before .before .before .before .before .before .before .before .args .ledger .now) (c .before .before .before .before .before .before .before .before .before .before .before .before .before .before .before .before .before .before .before .pre .3) (negated-true (c .before .before .before .before .before .before .before .before .before .before .before .before .before .valid .result) (ledger-invalid (card-of (paper (c .before .before .before .before .before .before .before .before .before .before .before .before .before .before .before .before .before .before .before .args .s))) (c .before .before .before .before .before .before .before .before .before .before .before .before .before .before .before .before .before .before .before .args .ledger .now)) (c .before .before .before .before .before .before .before .before .before .before .before .before .before .valid .ensures) (not-false _ (c .before .before .before .before .before .before .before .before .before .before .before .before .if1 .left))) (c .before .before .before .before .before .before .before .before .before .before .before .count-at .result) (c .before .before .before .before .before .before .before .before .before .before .before .count-at .ensures .0) (c .before .before .before .before .before .before .before .before .before .before .before .before .before .before .before .before .before .before .before .args .key .now) (c .before .before .before .before .before .before .before .before .before .before .before .before .before .before .before .before .before .before .before .pre .4) (c .before .before .before .before .before .before .before .before .before .find-spot .result) (c .before .before .before .before .before .before .before .before .before .find-spot .ensures)) (c .before .before .before .before .before .before .before .before .before .before .before .count-at .result) ((c .before .before .before .before .before .before .before .before .before .before .before .count-at .ensures .0) ∙ sym (listed (card-of (paper (c .before .before .before .before .before .before .before .before .before .before .before .before .before .before .before .before .before .before .before .args .s))) (c .before .before .before .before .before .before .before .before .before .before .before .before .before .before .before .before .before .before .before .args .ledger .now) (c .before .before .before .before .before .before .before .before .before .before .before .before .before .before .before .before .before .before .before .pre .3) (negated-true (c .before .before .before .before .before .before .before .before .before .before .before .before .before .valid .result) (ledger-invalid (card-of (paper (c .before .before .before .before .before .before .before .before .before .before .before .before .before .before .before .before .before .before .before .args .s))) (c .before .before .before .before .before .before .before .before .before .before .before .before .before .before .before .before .before .before .before .args .ledger .now)) (c .before .before .before .before .before .before .before .before .before .before .before .before .before .valid .ensures) (not-false _ (c .before .before .before .before .before .before .before .before .before .before .before .before .if1 .left))))) (c .before .before .before .before .before .before .before .before .before .before .before .before .before .before .before .before .before .before .before .args .edit) (sym (c .before .before .before .before .before .before .before .before .refusal-by-list .ensures) ∙ c .before .before .before .before .before .before .before .if2 .left)), c .left-out .ensures .0)
+sub-t22 c =
+    let start = c .before .before .before .before .before .before .before .before .before .before .before .before .before .before .before .before .before .before .before in
+    let valid = c .before .before .before .before .before .before .before .before .before .before .before .before .before .valid in
+    let if1 = c .before .before .before .before .before .before .before .before .before .before .before .before .if1 in
+    let count-at = c .before .before .before .before .before .before .before .before .before .before .before .count-at in
+    let find-spot = c .before .before .before .before .before .before .before .before .before .find-spot in
+    let refusal-by-list = c .before .before .before .before .before .before .before .before .refusal-by-list in
+    let if2 = c .before .before .before .before .before .before .before .if2 in
+    omega (arith, within (start .args .edit) (find-spot .result .at) (count-at .result) (place-fits (paper (start .args .s)) (start .args .key .now) (start .args .class) (ledger-records (card-of (paper (start .args .s))) (start .args .ledger .now)) (find-spot .result) (ledger-spot (card-of (paper (start .args .s))) (start .args .ledger .now) (start .pre .3) (negated-true (valid .result) (ledger-invalid (card-of (paper (start .args .s))) (start .args .ledger .now)) (valid .ensures) (not-false _ (if1 .left))) (count-at .result) (count-at .ensures .0) (start .args .key .now) (start .pre .4) (find-spot .result) (find-spot .ensures)) (count-at .result) ((count-at .ensures .0) ∙ sym (listed (card-of (paper (start .args .s))) (start .args .ledger .now) (start .pre .3) (negated-true (valid .result) (ledger-invalid (card-of (paper (start .args .s))) (start .args .ledger .now)) (valid .ensures) (not-false _ (if1 .left))))) (start .args .edit) (sym (refusal-by-list .ensures) ∙ if2 .left)), c .left-out .ensures .0)
 
 brought-requires : tie.Need-brought-requires
 brought-requires c κs = search needs
@@ -103,18 +145,26 @@ same-length-2 c = search needs
 
 returns-4 : tie.Need-returns-4
 returns-4 c =
-    let made = rw (records-are (card-of (paper (c .before .before .before .before .before .before .before .before .before .before .before .before .before .before .before .before .before .before .before .before .args .s))) (c .before .before .before .before .before .before .before .before .before .before .before .before .before .before .before .before .before .before .before .before .args .ledger .now) (c .before .before .before .before .before .before .before .before .before .before .before .before .count-at .result) (c .before .before .before .before .before .before .before .before .before .before .before .before .count-at .ensures .0)) at ((c .before .before .before .before .before .before .place-new .ensures (record { key = (c .before .before .before .before .before .before .before .before .before .before .before .before .before .before .before .before .before .before .before .before .args .key .now); class = c .before .before .before .before .before .before .before .before .before .before .before .before .before .before .before .before .before .before .before .before .args .class }) (sym (c .before .before .before .before .before .before .before .before .before .before .before .before .before .before .before .before .before .before .before .before .pre .5)) (record { wide = c .before .before .before .before .before .before .before .before .before .before .before .before .before .before .before .before .before .before .before .before .pre .4; small = c .before .before .before .before .before .before .before .before .before .before .before .before .before .before .before .before .before .before .before .before .fits .class .fits })) .0) in
-    let worked = rw (records-are (card-of (paper (c .before .before .before .before .before .before .before .before .before .before .before .before .before .before .before .before .before .before .before .before .args .s))) (c .before .before .before .before .before .before .before .before .before .before .before .before .before .before .before .before .before .before .before .before .args .ledger .now) (c .before .before .before .before .before .before .before .before .before .before .before .before .count-at .result) (c .before .before .before .before .before .before .before .before .before .before .before .before .count-at .ensures .0)) at ((c .before .before .before .before .before .before .place-new .ensures (record { key = (c .before .before .before .before .before .before .before .before .before .before .before .before .before .before .before .before .before .before .before .before .args .key .now); class = c .before .before .before .before .before .before .before .before .before .before .before .before .before .before .before .before .before .before .before .before .args .class }) (sym (c .before .before .before .before .before .before .before .before .before .before .before .before .before .before .before .before .before .before .before .before .pre .5)) (record { wide = c .before .before .before .before .before .before .before .before .before .before .before .before .before .before .before .before .before .before .before .before .pre .4; small = c .before .before .before .before .before .before .before .before .before .before .before .before .before .before .before .before .before .before .before .before .fits .class .fits })) .1) in
-    let is = makes (paper (c .before .before .before .before .before .before .before .before .before .before .before .before .before .before .before .before .before .before .before .before .args .s)) (c .before .before .before .before .before .before .before .before .before .before .before .before .before .before .before .before .before .before .before .before .args .key .now) (c .before .before .before .before .before .before .before .before .before .before .before .before .before .before .before .before .before .before .before .before .args .class) (ledger-records (card-of (paper (c .before .before .before .before .before .before .before .before .before .before .before .before .before .before .before .before .before .before .before .before .args .s))) (c .before .before .before .before .before .before .before .before .before .before .before .before .before .before .before .before .before .before .before .before .args .ledger .now)) (c .before .before .before .before .before .before .before .before .before .before .find-spot .result) (ledger-spot (card-of (paper (c .before .before .before .before .before .before .before .before .before .before .before .before .before .before .before .before .before .before .before .before .args .s))) (c .before .before .before .before .before .before .before .before .before .before .before .before .before .before .before .before .before .before .before .before .args .ledger .now) (c .before .before .before .before .before .before .before .before .before .before .before .before .before .before .before .before .before .before .before .before .pre .3) (negated-true (c .before .before .before .before .before .before .before .before .before .before .before .before .before .before .valid .result) (ledger-invalid (card-of (paper (c .before .before .before .before .before .before .before .before .before .before .before .before .before .before .before .before .before .before .before .before .args .s))) (c .before .before .before .before .before .before .before .before .before .before .before .before .before .before .before .before .before .before .before .before .args .ledger .now)) (c .before .before .before .before .before .before .before .before .before .before .before .before .before .before .valid .ensures) (not-false _ (c .before .before .before .before .before .before .before .before .before .before .before .before .before .if1 .left))) (c .before .before .before .before .before .before .before .before .before .before .before .before .count-at .result) (c .before .before .before .before .before .before .before .before .before .before .before .before .count-at .ensures .0) (c .before .before .before .before .before .before .before .before .before .before .before .before .before .before .before .before .before .before .before .before .args .key .now) (c .before .before .before .before .before .before .before .before .before .before .before .before .before .before .before .before .before .before .before .before .pre .4) (c .before .before .before .before .before .before .before .before .before .before .find-spot .result) (c .before .before .before .before .before .before .before .before .before .before .find-spot .ensures)) (c .before .before .before .before .before .before .before .before .before .before .before .before .count-at .result) ((c .before .before .before .before .before .before .before .before .before .before .before .before .count-at .ensures .0) ∙ sym (listed (card-of (paper (c .before .before .before .before .before .before .before .before .before .before .before .before .before .before .before .before .before .before .before .before .args .s))) (c .before .before .before .before .before .before .before .before .before .before .before .before .before .before .before .before .before .before .before .before .args .ledger .now) (c .before .before .before .before .before .before .before .before .before .before .before .before .before .before .before .before .before .before .before .before .pre .3) (negated-true (c .before .before .before .before .before .before .before .before .before .before .before .before .before .before .valid .result) (ledger-invalid (card-of (paper (c .before .before .before .before .before .before .before .before .before .before .before .before .before .before .before .before .before .before .before .before .args .s))) (c .before .before .before .before .before .before .before .before .before .before .before .before .before .before .before .before .before .before .before .before .args .ledger .now)) (c .before .before .before .before .before .before .before .before .before .before .before .before .before .before .valid .ensures) (not-false _ (c .before .before .before .before .before .before .before .before .before .before .before .before .before .if1 .left))))) (c .before .before .before .before .before .before .before .before .before .before .before .before .before .before .before .before .before .before .before .before .args .edit) (sym (c .before .before .before .before .before .before .before .before .before .refusal-by-list .ensures) ∙ c .before .before .before .before .before .before .before .before .if2 .left) in
-    let many = few (card-of (paper (c .before .before .before .before .before .before .before .before .before .before .before .before .before .before .before .before .before .before .before .before .args .s))) (c .before .before .before .before .before .before .before .before .before .before .before .before .before .before .before .before .before .before .before .before .args .ledger .now) (c .before .before .before .before .before .before .before .before .before .before .before .before .before .before .before .before .before .before .before .before .pre .3) (negated-true (c .before .before .before .before .before .before .before .before .before .before .before .before .before .before .valid .result) (ledger-invalid (card-of (paper (c .before .before .before .before .before .before .before .before .before .before .before .before .before .before .before .before .before .before .before .before .args .s))) (c .before .before .before .before .before .before .before .before .before .before .before .before .before .before .before .before .before .before .before .before .args .ledger .now)) (c .before .before .before .before .before .before .before .before .before .before .before .before .before .before .valid .ensures) (not-false _ (c .before .before .before .before .before .before .before .before .before .before .before .before .before .if1 .left))) in
-    let long = made-length (paper (c .before .before .before .before .before .before .before .before .before .before .before .before .before .before .before .before .before .before .before .before .args .s)) (c .before .before .before .before .before .before .before .before .before .before .before .before .before .before .before .before .before .before .before .before .args .key .now) (c .before .before .before .before .before .before .before .before .before .before .before .before .before .before .before .before .before .before .before .before .args .class) (ledger-records (card-of (paper (c .before .before .before .before .before .before .before .before .before .before .before .before .before .before .before .before .before .before .before .before .args .s))) (c .before .before .before .before .before .before .before .before .before .before .before .before .before .before .before .before .before .before .before .before .args .ledger .now)) (c .before .before .before .before .before .before .before .before .before .before .find-spot .result) (ledger-spot (card-of (paper (c .before .before .before .before .before .before .before .before .before .before .before .before .before .before .before .before .before .before .before .before .args .s))) (c .before .before .before .before .before .before .before .before .before .before .before .before .before .before .before .before .before .before .before .before .args .ledger .now) (c .before .before .before .before .before .before .before .before .before .before .before .before .before .before .before .before .before .before .before .before .pre .3) (negated-true (c .before .before .before .before .before .before .before .before .before .before .before .before .before .before .valid .result) (ledger-invalid (card-of (paper (c .before .before .before .before .before .before .before .before .before .before .before .before .before .before .before .before .before .before .before .before .args .s))) (c .before .before .before .before .before .before .before .before .before .before .before .before .before .before .before .before .before .before .before .before .args .ledger .now)) (c .before .before .before .before .before .before .before .before .before .before .before .before .before .before .valid .ensures) (not-false _ (c .before .before .before .before .before .before .before .before .before .before .before .before .before .if1 .left))) (c .before .before .before .before .before .before .before .before .before .before .before .before .count-at .result) (c .before .before .before .before .before .before .before .before .before .before .before .before .count-at .ensures .0) (c .before .before .before .before .before .before .before .before .before .before .before .before .before .before .before .before .before .before .before .before .args .key .now) (c .before .before .before .before .before .before .before .before .before .before .before .before .before .before .before .before .before .before .before .before .pre .4) (c .before .before .before .before .before .before .before .before .before .before .find-spot .result) (c .before .before .before .before .before .before .before .before .before .before .find-spot .ensures)) (c .before .before .before .before .before .before .before .before .before .before .before .before .count-at .result) ((c .before .before .before .before .before .before .before .before .before .before .before .before .count-at .ensures .0) ∙ sym (listed (card-of (paper (c .before .before .before .before .before .before .before .before .before .before .before .before .before .before .before .before .before .before .before .before .args .s))) (c .before .before .before .before .before .before .before .before .before .before .before .before .before .before .before .before .before .before .before .before .args .ledger .now) (c .before .before .before .before .before .before .before .before .before .before .before .before .before .before .before .before .before .before .before .before .pre .3) (negated-true (c .before .before .before .before .before .before .before .before .before .before .before .before .before .before .valid .result) (ledger-invalid (card-of (paper (c .before .before .before .before .before .before .before .before .before .before .before .before .before .before .before .before .before .before .before .before .args .s))) (c .before .before .before .before .before .before .before .before .before .before .before .before .before .before .before .before .before .before .before .before .args .ledger .now)) (c .before .before .before .before .before .before .before .before .before .before .before .before .before .before .valid .ensures) (not-false _ (c .before .before .before .before .before .before .before .before .before .before .before .before .before .if1 .left))))) (c .before .before .before .before .before .before .before .before .before .before .before .before .before .before .before .before .before .before .before .before .args .edit) (sym (c .before .before .before .before .before .before .before .before .before .refusal-by-list .ensures) ∙ c .before .before .before .before .before .before .before .before .if2 .left) in
-    let room = fits-capacity (paper (c .before .before .before .before .before .before .before .before .before .before .before .before .before .before .before .before .before .before .before .before .args .s)) (c .before .before .before .before .before .before .before .before .before .before .before .before .before .before .before .before .before .before .before .before .args .key .now) (c .before .before .before .before .before .before .before .before .before .before .before .before .before .before .before .before .before .before .before .before .args .class) (ledger-records (card-of (paper (c .before .before .before .before .before .before .before .before .before .before .before .before .before .before .before .before .before .before .before .before .args .s))) (c .before .before .before .before .before .before .before .before .before .before .before .before .before .before .before .before .before .before .before .before .args .ledger .now)) (c .before .before .before .before .before .before .before .before .before .before .find-spot .result) (ledger-spot (card-of (paper (c .before .before .before .before .before .before .before .before .before .before .before .before .before .before .before .before .before .before .before .before .args .s))) (c .before .before .before .before .before .before .before .before .before .before .before .before .before .before .before .before .before .before .before .before .args .ledger .now) (c .before .before .before .before .before .before .before .before .before .before .before .before .before .before .before .before .before .before .before .before .pre .3) (negated-true (c .before .before .before .before .before .before .before .before .before .before .before .before .before .before .valid .result) (ledger-invalid (card-of (paper (c .before .before .before .before .before .before .before .before .before .before .before .before .before .before .before .before .before .before .before .before .args .s))) (c .before .before .before .before .before .before .before .before .before .before .before .before .before .before .before .before .before .before .before .before .args .ledger .now)) (c .before .before .before .before .before .before .before .before .before .before .before .before .before .before .valid .ensures) (not-false _ (c .before .before .before .before .before .before .before .before .before .before .before .before .before .if1 .left))) (c .before .before .before .before .before .before .before .before .before .before .before .before .count-at .result) (c .before .before .before .before .before .before .before .before .before .before .before .before .count-at .ensures .0) (c .before .before .before .before .before .before .before .before .before .before .before .before .before .before .before .before .before .before .before .before .args .key .now) (c .before .before .before .before .before .before .before .before .before .before .before .before .before .before .before .before .before .before .before .before .pre .4) (c .before .before .before .before .before .before .before .before .before .before .find-spot .result) (c .before .before .before .before .before .before .before .before .before .before .find-spot .ensures)) (c .before .before .before .before .before .before .before .before .before .before .before .before .count-at .result) ((c .before .before .before .before .before .before .before .before .before .before .before .before .count-at .ensures .0) ∙ sym (listed (card-of (paper (c .before .before .before .before .before .before .before .before .before .before .before .before .before .before .before .before .before .before .before .before .args .s))) (c .before .before .before .before .before .before .before .before .before .before .before .before .before .before .before .before .before .before .before .before .args .ledger .now) (c .before .before .before .before .before .before .before .before .before .before .before .before .before .before .before .before .before .before .before .before .pre .3) (negated-true (c .before .before .before .before .before .before .before .before .before .before .before .before .before .before .valid .result) (ledger-invalid (card-of (paper (c .before .before .before .before .before .before .before .before .before .before .before .before .before .before .before .before .before .before .before .before .args .s))) (c .before .before .before .before .before .before .before .before .before .before .before .before .before .before .before .before .before .before .before .before .args .ledger .now)) (c .before .before .before .before .before .before .before .before .before .before .before .before .before .before .valid .ensures) (not-false _ (c .before .before .before .before .before .before .before .before .before .before .before .before .before .if1 .left))))) (c .before .before .before .before .before .before .before .before .before .before .before .before .before .before .before .before .before .before .before .before .args .edit) (sym (c .before .before .before .before .before .before .before .before .before .refusal-by-list .ensures) ∙ c .before .before .before .before .before .before .before .before .if2 .left) (omega (arith, many, (c .before .before .before .before .before .before .before .before .before .before .before .before .count-at .ensures .0), capacity-is (paper (c .before .before .before .before .before .before .before .before .before .before .before .before .before .before .before .before .before .before .before .before .args .s)))) in
-    let enough : c .before .before .before .before .before .before .place-new .result ≤ (card-of (paper (c .before .before .before .before .before .before .before .before .before .before .before .before .before .before .before .before .before .before .before .before .args .s))) .side-places = omega (arith, c .before .before .if3 .left, side-places-are (paper (c .before .before .before .before .before .before .before .before .before .before .before .before .before .before .before .before .before .before .before .before .args .s))) in (
-      sym (judged-0 (paper (c .before .before .before .before .before .before .before .before .before .before .before .before .before .before .before .before .before .before .before .before .args .s)) (c .before .before .before .before .before .before .before .before .before .before .before .before .before .before .before .before .before .before .before .before .args .edit) (c .before .before .before .before .before .before .before .before .before .before .before .before .before .before .before .before .before .before .before .before .args .key .now) (c .before .before .before .before .before .before .before .before .before .before .before .before .before .before .before .before .before .before .before .before .args .class) (c .before .before .before .before .before .before .before .before .before .before .before .before .before .before .before .before .before .before .before .before .args .ledger .now) (negated-true (c .before .before .before .before .before .before .before .before .before .before .before .before .before .before .valid .result) (ledger-invalid (card-of (paper (c .before .before .before .before .before .before .before .before .before .before .before .before .before .before .before .before .before .before .before .before .args .s))) (c .before .before .before .before .before .before .before .before .before .before .before .before .before .before .before .before .before .before .before .before .args .ledger .now)) (c .before .before .before .before .before .before .before .before .before .before .before .before .before .before .valid .ensures) (not-false _ (c .before .before .before .before .before .before .before .before .before .before .before .before .before .if1 .left))) (c .before .before .before .before .before .before .before .before .before .before .before .before .before .before .before .before .before .before .before .before .pre .4) (c .before .before .before .before .before .before .before .before .before .before .find-spot .result) (ledger-spot (card-of (paper (c .before .before .before .before .before .before .before .before .before .before .before .before .before .before .before .before .before .before .before .before .args .s))) (c .before .before .before .before .before .before .before .before .before .before .before .before .before .before .before .before .before .before .before .before .args .ledger .now) (c .before .before .before .before .before .before .before .before .before .before .before .before .before .before .before .before .before .before .before .before .pre .3) (negated-true (c .before .before .before .before .before .before .before .before .before .before .before .before .before .before .valid .result) (ledger-invalid (card-of (paper (c .before .before .before .before .before .before .before .before .before .before .before .before .before .before .before .before .before .before .before .before .args .s))) (c .before .before .before .before .before .before .before .before .before .before .before .before .before .before .before .before .before .before .before .before .args .ledger .now)) (c .before .before .before .before .before .before .before .before .before .before .before .before .before .before .valid .ensures) (not-false _ (c .before .before .before .before .before .before .before .before .before .before .before .before .before .if1 .left))) (c .before .before .before .before .before .before .before .before .before .before .before .before .count-at .result) (c .before .before .before .before .before .before .before .before .before .before .before .before .count-at .ensures .0) (c .before .before .before .before .before .before .before .before .before .before .before .before .before .before .before .before .before .before .before .before .args .key .now) (c .before .before .before .before .before .before .before .before .before .before .before .before .before .before .before .before .before .before .before .before .pre .4) (c .before .before .before .before .before .before .before .before .before .before .find-spot .result) (c .before .before .before .before .before .before .before .before .before .before .find-spot .ensures)) (c .before .before .before .before .before .before .before .before .before .before .before .before .count-at .result) ((c .before .before .before .before .before .before .before .before .before .before .before .before .count-at .ensures .0) ∙ sym (listed (card-of (paper (c .before .before .before .before .before .before .before .before .before .before .before .before .before .before .before .before .before .before .before .before .args .s))) (c .before .before .before .before .before .before .before .before .before .before .before .before .before .before .before .before .before .before .before .before .args .ledger .now) (c .before .before .before .before .before .before .before .before .before .before .before .before .before .before .before .before .before .before .before .before .pre .3) (negated-true (c .before .before .before .before .before .before .before .before .before .before .before .before .before .before .valid .result) (ledger-invalid (card-of (paper (c .before .before .before .before .before .before .before .before .before .before .before .before .before .before .before .before .before .before .before .before .args .s))) (c .before .before .before .before .before .before .before .before .before .before .before .before .before .before .before .before .before .before .before .before .args .ledger .now)) (c .before .before .before .before .before .before .before .before .before .before .before .before .before .before .valid .ensures) (not-false _ (c .before .before .before .before .before .before .before .before .before .before .before .before .before .if1 .left))))) (sym (c .before .before .before .before .before .before .before .before .before .refusal-by-list .ensures) ∙ c .before .before .before .before .before .before .before .before .if2 .left) (c .before .before .before .before .before .before .place-new .result) made enough),
+    let start = c .before .before .before .before .before .before .before .before .before .before .before .before .before .before .before .before .before .before .before .before in
+    let if1 = c .before .before .before .before .before .before .before .before .before .before .before .before .before .if1 in
+    let count-at = c .before .before .before .before .before .before .before .before .before .before .before .before .count-at in
+    let find-spot = c .before .before .before .before .before .before .before .before .before .before .find-spot in
+    let refusal-by-list = c .before .before .before .before .before .before .before .before .before .refusal-by-list in
+    let if2 = c .before .before .before .before .before .before .before .before .if2 in
+    let place-new = c .before .before .before .before .before .before .place-new in
+    let if3 = c .before .before .if3 in
+    let made = rw (records-are (card-of (paper (start .args .s))) (start .args .ledger .now) (count-at .result) (count-at .ensures .0)) at ((place-new .ensures (record { key = (start .args .key .now); class = start .args .class }) (sym (start .pre .5)) (record { wide = start .pre .4; small = start .fits .class .fits })) .0) in
+    let worked = rw (records-are (card-of (paper (start .args .s))) (start .args .ledger .now) (count-at .result) (count-at .ensures .0)) at ((place-new .ensures (record { key = (start .args .key .now); class = start .args .class }) (sym (start .pre .5)) (record { wide = start .pre .4; small = start .fits .class .fits })) .1) in
+    let is = makes (paper (start .args .s)) (start .args .key .now) (start .args .class) (ledger-records (card-of (paper (start .args .s))) (start .args .ledger .now)) (find-spot .result) (ledger-spot (card-of (paper (start .args .s))) (start .args .ledger .now) (start .pre .3) (negated-true (c .before .before .before .before .before .before .before .before .before .before .before .before .before .before .valid .result) (ledger-invalid (card-of (paper (start .args .s))) (start .args .ledger .now)) (c .before .before .before .before .before .before .before .before .before .before .before .before .before .before .valid .ensures) (not-false _ (if1 .left))) (count-at .result) (count-at .ensures .0) (start .args .key .now) (start .pre .4) (find-spot .result) (find-spot .ensures)) (count-at .result) ((count-at .ensures .0) ∙ sym (listed (card-of (paper (start .args .s))) (start .args .ledger .now) (start .pre .3) (negated-true (c .before .before .before .before .before .before .before .before .before .before .before .before .before .before .valid .result) (ledger-invalid (card-of (paper (start .args .s))) (start .args .ledger .now)) (c .before .before .before .before .before .before .before .before .before .before .before .before .before .before .valid .ensures) (not-false _ (if1 .left))))) (start .args .edit) (sym (refusal-by-list .ensures) ∙ if2 .left) in
+    let many = few (card-of (paper (start .args .s))) (start .args .ledger .now) (start .pre .3) (negated-true (c .before .before .before .before .before .before .before .before .before .before .before .before .before .before .valid .result) (ledger-invalid (card-of (paper (start .args .s))) (start .args .ledger .now)) (c .before .before .before .before .before .before .before .before .before .before .before .before .before .before .valid .ensures) (not-false _ (if1 .left))) in
+    let long = made-length (paper (start .args .s)) (start .args .key .now) (start .args .class) (ledger-records (card-of (paper (start .args .s))) (start .args .ledger .now)) (find-spot .result) (ledger-spot (card-of (paper (start .args .s))) (start .args .ledger .now) (start .pre .3) (negated-true (c .before .before .before .before .before .before .before .before .before .before .before .before .before .before .valid .result) (ledger-invalid (card-of (paper (start .args .s))) (start .args .ledger .now)) (c .before .before .before .before .before .before .before .before .before .before .before .before .before .before .valid .ensures) (not-false _ (if1 .left))) (count-at .result) (count-at .ensures .0) (start .args .key .now) (start .pre .4) (find-spot .result) (find-spot .ensures)) (count-at .result) ((count-at .ensures .0) ∙ sym (listed (card-of (paper (start .args .s))) (start .args .ledger .now) (start .pre .3) (negated-true (c .before .before .before .before .before .before .before .before .before .before .before .before .before .before .valid .result) (ledger-invalid (card-of (paper (start .args .s))) (start .args .ledger .now)) (c .before .before .before .before .before .before .before .before .before .before .before .before .before .before .valid .ensures) (not-false _ (if1 .left))))) (start .args .edit) (sym (refusal-by-list .ensures) ∙ if2 .left) in
+    let room = fits-capacity (paper (start .args .s)) (start .args .key .now) (start .args .class) (ledger-records (card-of (paper (start .args .s))) (start .args .ledger .now)) (find-spot .result) (ledger-spot (card-of (paper (start .args .s))) (start .args .ledger .now) (start .pre .3) (negated-true (c .before .before .before .before .before .before .before .before .before .before .before .before .before .before .valid .result) (ledger-invalid (card-of (paper (start .args .s))) (start .args .ledger .now)) (c .before .before .before .before .before .before .before .before .before .before .before .before .before .before .valid .ensures) (not-false _ (if1 .left))) (count-at .result) (count-at .ensures .0) (start .args .key .now) (start .pre .4) (find-spot .result) (find-spot .ensures)) (count-at .result) ((count-at .ensures .0) ∙ sym (listed (card-of (paper (start .args .s))) (start .args .ledger .now) (start .pre .3) (negated-true (c .before .before .before .before .before .before .before .before .before .before .before .before .before .before .valid .result) (ledger-invalid (card-of (paper (start .args .s))) (start .args .ledger .now)) (c .before .before .before .before .before .before .before .before .before .before .before .before .before .before .valid .ensures) (not-false _ (if1 .left))))) (start .args .edit) (sym (refusal-by-list .ensures) ∙ if2 .left) (omega (arith, many, (count-at .ensures .0), capacity-is (paper (start .args .s)))) in
+    let enough : place-new .result ≤ (card-of (paper (start .args .s))) .side-places = omega (arith, if3 .left, side-places-are (paper (start .args .s))) in (
+      sym (judged-0 (paper (start .args .s)) (start .args .edit) (start .args .key .now) (start .args .class) (start .args .ledger .now) (negated-true (c .before .before .before .before .before .before .before .before .before .before .before .before .before .before .valid .result) (ledger-invalid (card-of (paper (start .args .s))) (start .args .ledger .now)) (c .before .before .before .before .before .before .before .before .before .before .before .before .before .before .valid .ensures) (not-false _ (if1 .left))) (start .pre .4) (find-spot .result) (ledger-spot (card-of (paper (start .args .s))) (start .args .ledger .now) (start .pre .3) (negated-true (c .before .before .before .before .before .before .before .before .before .before .before .before .before .before .valid .result) (ledger-invalid (card-of (paper (start .args .s))) (start .args .ledger .now)) (c .before .before .before .before .before .before .before .before .before .before .before .before .before .before .valid .ensures) (not-false _ (if1 .left))) (count-at .result) (count-at .ensures .0) (start .args .key .now) (start .pre .4) (find-spot .result) (find-spot .ensures)) (count-at .result) ((count-at .ensures .0) ∙ sym (listed (card-of (paper (start .args .s))) (start .args .ledger .now) (start .pre .3) (negated-true (c .before .before .before .before .before .before .before .before .before .before .before .before .before .before .valid .result) (ledger-invalid (card-of (paper (start .args .s))) (start .args .ledger .now)) (c .before .before .before .before .before .before .before .before .before .before .before .before .before .before .valid .ensures) (not-false _ (if1 .left))))) (sym (refusal-by-list .ensures) ∙ if2 .left) (place-new .result) made enough),
       λ z. record {
-        valid = (negated-true (c .before .before .before .before .before .before .before .before .before .before .before .before .before .before .valid .result) (ledger-invalid (card-of (paper (c .before .before .before .before .before .before .before .before .before .before .before .before .before .before .before .before .before .before .before .before .args .s))) (c .before .before .before .before .before .before .before .before .before .before .before .before .before .before .before .before .before .before .before .before .args .ledger .now)) (c .before .before .before .before .before .before .before .before .before .before .before .before .before .before .valid .ensures) (not-false _ (c .before .before .before .before .before .before .before .before .before .before .before .before .before .if1 .left)));
-        place = subst (λ (n : ℕ). Fits (c .before .before .before .before .before .before .before .before .before .before .before .before .before .before .before .before .before .before .before .before .args .edit) (c .before .before .before .before .before .before .before .before .before .before .find-spot .result .at) n) ((c .before .before .before .before .before .before .before .before .before .before .before .before .count-at .ensures .0) ∙ sym (listed (card-of (paper (c .before .before .before .before .before .before .before .before .before .before .before .before .before .before .before .before .before .before .before .before .args .s))) (c .before .before .before .before .before .before .before .before .before .before .before .before .before .before .before .before .before .before .before .before .args .ledger .now) (c .before .before .before .before .before .before .before .before .before .before .before .before .before .before .before .before .before .before .before .before .pre .3) (negated-true (c .before .before .before .before .before .before .before .before .before .before .before .before .before .before .valid .result) (ledger-invalid (card-of (paper (c .before .before .before .before .before .before .before .before .before .before .before .before .before .before .before .before .before .before .before .before .args .s))) (c .before .before .before .before .before .before .before .before .before .before .before .before .before .before .before .before .before .before .before .before .args .ledger .now)) (c .before .before .before .before .before .before .before .before .before .before .before .before .before .before .valid .ensures) (not-false _ (c .before .before .before .before .before .before .before .before .before .before .before .before .before .if1 .left))))) (place-fits (paper (c .before .before .before .before .before .before .before .before .before .before .before .before .before .before .before .before .before .before .before .before .args .s)) (c .before .before .before .before .before .before .before .before .before .before .before .before .before .before .before .before .before .before .before .before .args .key .now) (c .before .before .before .before .before .before .before .before .before .before .before .before .before .before .before .before .before .before .before .before .args .class) (ledger-records (card-of (paper (c .before .before .before .before .before .before .before .before .before .before .before .before .before .before .before .before .before .before .before .before .args .s))) (c .before .before .before .before .before .before .before .before .before .before .before .before .before .before .before .before .before .before .before .before .args .ledger .now)) (c .before .before .before .before .before .before .before .before .before .before .find-spot .result) (ledger-spot (card-of (paper (c .before .before .before .before .before .before .before .before .before .before .before .before .before .before .before .before .before .before .before .before .args .s))) (c .before .before .before .before .before .before .before .before .before .before .before .before .before .before .before .before .before .before .before .before .args .ledger .now) (c .before .before .before .before .before .before .before .before .before .before .before .before .before .before .before .before .before .before .before .before .pre .3) (negated-true (c .before .before .before .before .before .before .before .before .before .before .before .before .before .before .valid .result) (ledger-invalid (card-of (paper (c .before .before .before .before .before .before .before .before .before .before .before .before .before .before .before .before .before .before .before .before .args .s))) (c .before .before .before .before .before .before .before .before .before .before .before .before .before .before .before .before .before .before .before .before .args .ledger .now)) (c .before .before .before .before .before .before .before .before .before .before .before .before .before .before .valid .ensures) (not-false _ (c .before .before .before .before .before .before .before .before .before .before .before .before .before .if1 .left))) (c .before .before .before .before .before .before .before .before .before .before .before .before .count-at .result) (c .before .before .before .before .before .before .before .before .before .before .before .before .count-at .ensures .0) (c .before .before .before .before .before .before .before .before .before .before .before .before .before .before .before .before .before .before .before .before .args .key .now) (c .before .before .before .before .before .before .before .before .before .before .before .before .before .before .before .before .before .before .before .before .pre .4) (c .before .before .before .before .before .before .before .before .before .before .find-spot .result) (c .before .before .before .before .before .before .before .before .before .before .find-spot .ensures)) (c .before .before .before .before .before .before .before .before .before .before .before .before .count-at .result) ((c .before .before .before .before .before .before .before .before .before .before .before .before .count-at .ensures .0) ∙ sym (listed (card-of (paper (c .before .before .before .before .before .before .before .before .before .before .before .before .before .before .before .before .before .before .before .before .args .s))) (c .before .before .before .before .before .before .before .before .before .before .before .before .before .before .before .before .before .before .before .before .args .ledger .now) (c .before .before .before .before .before .before .before .before .before .before .before .before .before .before .before .before .before .before .before .before .pre .3) (negated-true (c .before .before .before .before .before .before .before .before .before .before .before .before .before .before .valid .result) (ledger-invalid (card-of (paper (c .before .before .before .before .before .before .before .before .before .before .before .before .before .before .before .before .before .before .before .before .args .s))) (c .before .before .before .before .before .before .before .before .before .before .before .before .before .before .before .before .before .before .before .before .args .ledger .now)) (c .before .before .before .before .before .before .before .before .before .before .before .before .before .before .valid .ensures) (not-false _ (c .before .before .before .before .before .before .before .before .before .before .before .before .before .if1 .left))))) (c .before .before .before .before .before .before .before .before .before .before .before .before .before .before .before .before .before .before .before .before .args .edit) (sym (c .before .before .before .before .before .before .before .before .before .refusal-by-list .ensures) ∙ c .before .before .before .before .before .before .before .before .if2 .left));
-        room = rw long (omega (arith, room, capacity-is (paper (c .before .before .before .before .before .before .before .before .before .before .before .before .before .before .before .before .before .before .before .before .args .s)), within (c .before .before .before .before .before .before .before .before .before .before .before .before .before .before .before .before .before .before .before .before .args .edit) (c .before .before .before .before .before .before .before .before .before .before .find-spot .result .at) (c .before .before .before .before .before .before .before .before .before .before .before .before .count-at .result) (place-fits (paper (c .before .before .before .before .before .before .before .before .before .before .before .before .before .before .before .before .before .before .before .before .args .s)) (c .before .before .before .before .before .before .before .before .before .before .before .before .before .before .before .before .before .before .before .before .args .key .now) (c .before .before .before .before .before .before .before .before .before .before .before .before .before .before .before .before .before .before .before .before .args .class) (ledger-records (card-of (paper (c .before .before .before .before .before .before .before .before .before .before .before .before .before .before .before .before .before .before .before .before .args .s))) (c .before .before .before .before .before .before .before .before .before .before .before .before .before .before .before .before .before .before .before .before .args .ledger .now)) (c .before .before .before .before .before .before .before .before .before .before .find-spot .result) (ledger-spot (card-of (paper (c .before .before .before .before .before .before .before .before .before .before .before .before .before .before .before .before .before .before .before .before .args .s))) (c .before .before .before .before .before .before .before .before .before .before .before .before .before .before .before .before .before .before .before .before .args .ledger .now) (c .before .before .before .before .before .before .before .before .before .before .before .before .before .before .before .before .before .before .before .before .pre .3) (negated-true (c .before .before .before .before .before .before .before .before .before .before .before .before .before .before .valid .result) (ledger-invalid (card-of (paper (c .before .before .before .before .before .before .before .before .before .before .before .before .before .before .before .before .before .before .before .before .args .s))) (c .before .before .before .before .before .before .before .before .before .before .before .before .before .before .before .before .before .before .before .before .args .ledger .now)) (c .before .before .before .before .before .before .before .before .before .before .before .before .before .before .valid .ensures) (not-false _ (c .before .before .before .before .before .before .before .before .before .before .before .before .before .if1 .left))) (c .before .before .before .before .before .before .before .before .before .before .before .before .count-at .result) (c .before .before .before .before .before .before .before .before .before .before .before .before .count-at .ensures .0) (c .before .before .before .before .before .before .before .before .before .before .before .before .before .before .before .before .before .before .before .before .args .key .now) (c .before .before .before .before .before .before .before .before .before .before .before .before .before .before .before .before .before .before .before .before .pre .4) (c .before .before .before .before .before .before .before .before .before .before .find-spot .result) (c .before .before .before .before .before .before .before .before .before .before .find-spot .ensures)) (c .before .before .before .before .before .before .before .before .before .before .before .before .count-at .result) ((c .before .before .before .before .before .before .before .before .before .before .before .before .count-at .ensures .0) ∙ sym (listed (card-of (paper (c .before .before .before .before .before .before .before .before .before .before .before .before .before .before .before .before .before .before .before .before .args .s))) (c .before .before .before .before .before .before .before .before .before .before .before .before .before .before .before .before .before .before .before .before .args .ledger .now) (c .before .before .before .before .before .before .before .before .before .before .before .before .before .before .before .before .before .before .before .before .pre .3) (negated-true (c .before .before .before .before .before .before .before .before .before .before .before .before .before .before .valid .result) (ledger-invalid (card-of (paper (c .before .before .before .before .before .before .before .before .before .before .before .before .before .before .before .before .before .before .before .before .args .s))) (c .before .before .before .before .before .before .before .before .before .before .before .before .before .before .before .before .before .before .before .before .args .ledger .now)) (c .before .before .before .before .before .before .before .before .before .before .before .before .before .before .valid .ensures) (not-false _ (c .before .before .before .before .before .before .before .before .before .before .before .before .before .if1 .left))))) (c .before .before .before .before .before .before .before .before .before .before .before .before .before .before .before .before .before .before .before .before .args .edit) (sym (c .before .before .before .before .before .before .before .before .before .refusal-by-list .ensures) ∙ c .before .before .before .before .before .before .before .before .if2 .left)) .1));
+        valid = (negated-true (c .before .before .before .before .before .before .before .before .before .before .before .before .before .before .valid .result) (ledger-invalid (card-of (paper (start .args .s))) (start .args .ledger .now)) (c .before .before .before .before .before .before .before .before .before .before .before .before .before .before .valid .ensures) (not-false _ (if1 .left)));
+        place = subst (λ (n : ℕ). Fits (start .args .edit) (find-spot .result .at) n) ((count-at .ensures .0) ∙ sym (listed (card-of (paper (start .args .s))) (start .args .ledger .now) (start .pre .3) (negated-true (c .before .before .before .before .before .before .before .before .before .before .before .before .before .before .valid .result) (ledger-invalid (card-of (paper (start .args .s))) (start .args .ledger .now)) (c .before .before .before .before .before .before .before .before .before .before .before .before .before .before .valid .ensures) (not-false _ (if1 .left))))) (place-fits (paper (start .args .s)) (start .args .key .now) (start .args .class) (ledger-records (card-of (paper (start .args .s))) (start .args .ledger .now)) (find-spot .result) (ledger-spot (card-of (paper (start .args .s))) (start .args .ledger .now) (start .pre .3) (negated-true (c .before .before .before .before .before .before .before .before .before .before .before .before .before .before .valid .result) (ledger-invalid (card-of (paper (start .args .s))) (start .args .ledger .now)) (c .before .before .before .before .before .before .before .before .before .before .before .before .before .before .valid .ensures) (not-false _ (if1 .left))) (count-at .result) (count-at .ensures .0) (start .args .key .now) (start .pre .4) (find-spot .result) (find-spot .ensures)) (count-at .result) ((count-at .ensures .0) ∙ sym (listed (card-of (paper (start .args .s))) (start .args .ledger .now) (start .pre .3) (negated-true (c .before .before .before .before .before .before .before .before .before .before .before .before .before .before .valid .result) (ledger-invalid (card-of (paper (start .args .s))) (start .args .ledger .now)) (c .before .before .before .before .before .before .before .before .before .before .before .before .before .before .valid .ensures) (not-false _ (if1 .left))))) (start .args .edit) (sym (refusal-by-list .ensures) ∙ if2 .left));
+        room = rw long (omega (arith, room, capacity-is (paper (start .args .s)), within (start .args .edit) (find-spot .result .at) (count-at .result) (place-fits (paper (start .args .s)) (start .args .key .now) (start .args .class) (ledger-records (card-of (paper (start .args .s))) (start .args .ledger .now)) (find-spot .result) (ledger-spot (card-of (paper (start .args .s))) (start .args .ledger .now) (start .pre .3) (negated-true (c .before .before .before .before .before .before .before .before .before .before .before .before .before .before .valid .result) (ledger-invalid (card-of (paper (start .args .s))) (start .args .ledger .now)) (c .before .before .before .before .before .before .before .before .before .before .before .before .before .before .valid .ensures) (not-false _ (if1 .left))) (count-at .result) (count-at .ensures .0) (start .args .key .now) (start .pre .4) (find-spot .result) (find-spot .ensures)) (count-at .result) ((count-at .ensures .0) ∙ sym (listed (card-of (paper (start .args .s))) (start .args .ledger .now) (start .pre .3) (negated-true (c .before .before .before .before .before .before .before .before .before .before .before .before .before .before .valid .result) (ledger-invalid (card-of (paper (start .args .s))) (start .args .ledger .now)) (c .before .before .before .before .before .before .before .before .before .before .before .before .before .before .valid .ensures) (not-false _ (if1 .left))))) (start .args .edit) (sym (refusal-by-list .ensures) ∙ if2 .left)) .1));
         list = is;
         count = rw (long, c .before .left-out .ensures .0, c .brought .ensures .0);
         worked = rw is worked;

@@ -13,19 +13,29 @@ left-out-requires : tie.Need-left-out-requires
 left-out-requires c κs = search needs
 
 add-from : tie.Need-add-from
-add-from c = omega (arith, within (c .before .before .before .before .before .args .edit) (c .before .before .before .before .before .args .at) (c .before .before .before .before .before .args .n) (c .before .before .before .before .before .pre .3))
+add-from c =
+    let start = c .before .before .before .before .before in
+    omega (arith, within (start .args .edit) (start .args .at) (start .args .n) (start .pre .3))
 
 record-size-requires : tie.Need-record-size-requires
 record-size-requires c κs = search needs
 
 mul-after : tie.Need-mul-after
-mul-after c = omega (arith, after-within (card-of (paper (c .before .before .before .before .before .before .args .s)) .width) (c .before .before .before .before .before .before .args .edit) (c .before .before .before .before .before .before .args .at) (c .before .before .before .before .before .before .args .n) (c .before .before .before .before .before .before .pre .3) (c .before .before .before .before .before .before .args .ledger .now) (c .before .before .before .before .before .before .pre .5) (c .before .left-out .result) (c .record-size .result) (c .before .left-out .ensures .0) (c .record-size .ensures ∙ size-is (card-of (paper (c .before .before .before .before .before .before .args .s)))))
+mul-after c =
+    let start = c .before .before .before .before .before .before in
+    let left-out = c .before .left-out in
+    omega (arith, after-within (card-of (paper (start .args .s)) .width) (start .args .edit) (start .args .at) (start .args .n) (start .pre .3) (start .args .ledger .now) (start .pre .5) (left-out .result) (c .record-size .result) (left-out .ensures .0) (c .record-size .ensures ∙ size-is (card-of (paper (start .args .s)))))
 
 add-after : tie.Need-add-after
-add-after c = omega (arith, after-within (card-of (paper (c .before .before .before .before .before .before .args .s)) .width) (c .before .before .before .before .before .before .args .edit) (c .before .before .before .before .before .before .args .at) (c .before .before .before .before .before .before .args .n) (c .before .before .before .before .before .before .pre .3) (c .before .before .before .before .before .before .args .ledger .now) (c .before .before .before .before .before .before .pre .5) (c .before .left-out .result) (c .record-size .result) (c .before .left-out .ensures .0) (c .record-size .ensures ∙ size-is (card-of (paper (c .before .before .before .before .before .before .args .s)))))
+add-after c =
+    let start = c .before .before .before .before .before .before in
+    let left-out = c .before .left-out in
+    omega (arith, after-within (card-of (paper (start .args .s)) .width) (start .args .edit) (start .args .at) (start .args .n) (start .pre .3) (start .args .ledger .now) (start .pre .5) (left-out .result) (c .record-size .result) (left-out .ensures .0) (c .record-size .ensures ∙ size-is (card-of (paper (start .args .s)))))
 
 sub-rest : tie.Need-sub-rest
-sub-rest c = omega (arith, within (c .before .before .before .before .before .before .args .edit) (c .before .before .before .before .before .before .args .at) (c .before .before .before .before .before .before .args .n) (c .before .before .before .before .before .before .pre .3) .1, c .before .left-out .ensures .0)
+sub-rest c =
+    let start = c .before .before .before .before .before .before in
+    omega (arith, within (start .args .edit) (start .args .at) (start .args .n) (start .pre .3) .1, c .before .left-out .ensures .0)
 
 brought-requires : tie.Need-brought-requires
 brought-requires c κs = search needs
@@ -40,26 +50,38 @@ part-place-parts-end : tie.Need-part-place-parts-end
 part-place-parts-end c = search needs
 
 sub-place-parts-2 : tie.Need-sub-place-parts-2
-sub-place-parts-2 c = after-within (card-of (paper (c .before .before .before .before .before .before .before .before .before .args .s)) .width) (c .before .before .before .before .before .before .before .before .before .args .edit) (c .before .before .before .before .before .before .before .before .before .args .at) (c .before .before .before .before .before .before .before .before .before .args .n) (c .before .before .before .before .before .before .before .before .before .pre .3) (c .before .before .before .before .before .before .before .before .before .args .ledger .now) (c .before .before .before .before .before .before .before .before .before .pre .5) (c .before .before .before .before .left-out .result) (c .before .before .before .record-size .result) (c .before .before .before .before .left-out .ensures .0) (c .before .before .before .record-size .ensures ∙ size-is (card-of (paper (c .before .before .before .before .before .before .before .before .before .args .s))))
+sub-place-parts-2 c =
+    let start = c .before .before .before .before .before .before .before .before .before in
+    let left-out = c .before .before .before .before .left-out in
+    let record-size = c .before .before .before .record-size in
+    after-within (card-of (paper (start .args .s)) .width) (start .args .edit) (start .args .at) (start .args .n) (start .pre .3) (start .args .ledger .now) (start .pre .5) (left-out .result) (record-size .result) (left-out .ensures .0) (record-size .ensures ∙ size-is (card-of (paper (start .args .s))))
 
 part-place-parts-start-2 : tie.Need-part-place-parts-start-2
-part-place-parts-start-2 c = after-within (card-of (paper (c .before .before .before .before .before .before .before .before .before .args .s)) .width) (c .before .before .before .before .before .before .before .before .before .args .edit) (c .before .before .before .before .before .before .before .before .before .args .at) (c .before .before .before .before .before .before .before .before .before .args .n) (c .before .before .before .before .before .before .before .before .before .pre .3) (c .before .before .before .before .before .before .before .before .before .args .ledger .now) (c .before .before .before .before .before .before .before .before .before .pre .5) (c .before .before .before .before .left-out .result) (c .before .before .before .record-size .result) (c .before .before .before .before .left-out .ensures .0) (c .before .before .before .record-size .ensures ∙ size-is (card-of (paper (c .before .before .before .before .before .before .before .before .before .args .s))))
+part-place-parts-start-2 c =
+    let start = c .before .before .before .before .before .before .before .before .before in
+    let left-out = c .before .before .before .before .left-out in
+    let record-size = c .before .before .before .record-size in
+    after-within (card-of (paper (start .args .s)) .width) (start .args .edit) (start .args .at) (start .args .n) (start .pre .3) (start .args .ledger .now) (start .pre .5) (left-out .result) (record-size .result) (left-out .ensures .0) (record-size .ensures ∙ size-is (card-of (paper (start .args .s))))
 
 part-place-parts-end-2 : tie.Need-part-place-parts-end-2
 part-place-parts-end-2 c = search needs
 
 place-parts-requires : tie.Need-place-parts-requires
 place-parts-requires c κs =
-    let W = (card-of (paper (c .before .before .before .before .before .before .before .before .before .before .args .s)) .width) in
-    let wide : W ≡ 13 = width-is (paper (c .before .before .before .before .before .before .before .before .before .before .args .s)) in
-    let few = within (c .before .before .before .before .before .before .before .before .before .before .args .edit) (c .before .before .before .before .before .before .before .before .before .before .args .at) (c .before .before .before .before .before .before .before .before .before .before .args .n) (c .before .before .before .before .before .before .before .before .before .before .pre .3) in (
-      c .before .before .before .before .before .before .before .before .before .before .pre .0,
-      c .before .before .before .before .before .before .before .before .before .before .pre .1,
-      c .before .before .before .before .before .before .before .before .before .before .pre .2,
-      first-room (card-of (paper (c .before .before .before .before .before .before .before .before .before .before .args .s)) .width) (c .before .before .before .before .before .before .before .before .before .before .args .edit) (c .before .before .before .before .before .before .before .before .before .before .args .at) (c .before .before .before .before .before .before .before .before .before .before .args .n) (c .before .before .before .before .before .before .before .before .before .before .pre .3) (c .before .before .before .before .before .before .before .before .before .before .args .ledger .now) (c .before .before .before .before .before .before .before .before .before .before .pre .5) (c .before .before .before .before .before .left-out .result) (c .before .before .before .before .record-size .result) (c .before .before .before .before .before .left-out .ensures .0) (c .before .before .before .before .record-size .ensures ∙ size-is (card-of (paper (c .before .before .before .before .before .before .before .before .before .before .args .s)))),
-      mid-room W (c .before .before .before .brought .result) (c .before .before .before .brought .ensures .1) (c .before .before .before .before .before .before .before .before .before .before .args .«record» .now) (c .before .before .before .before .before .before .before .before .before .before .pre .6),
-      last-room (card-of (paper (c .before .before .before .before .before .before .before .before .before .before .args .s)) .width) (c .before .before .before .before .before .before .before .before .before .before .args .edit) (c .before .before .before .before .before .before .before .before .before .before .args .at) (c .before .before .before .before .before .before .before .before .before .before .args .n) (c .before .before .before .before .before .before .before .before .before .before .pre .3) (c .before .before .before .before .before .before .before .before .before .before .args .ledger .now) (c .before .before .before .before .before .before .before .before .before .before .pre .5) (c .before .before .before .before .before .left-out .result) (c .before .before .before .before .record-size .result) (c .before .before .before .before .before .left-out .ensures .0) (c .before .before .before .before .record-size .ensures ∙ size-is (card-of (paper (c .before .before .before .before .before .before .before .before .before .before .args .s)))),
-      omega (arith, c .before .before .before .brought .ensures .1, c .before .before .before .before .before .left-out .ensures .0, few .0, few .1),
+    let start = c .before .before .before .before .before .before .before .before .before .before in
+    let left-out = c .before .before .before .before .before .left-out in
+    let record-size = c .before .before .before .before .record-size in
+    let brought = c .before .before .before .brought in
+    let W = (card-of (paper (start .args .s)) .width) in
+    let wide : W ≡ 13 = width-is (paper (start .args .s)) in
+    let few = within (start .args .edit) (start .args .at) (start .args .n) (start .pre .3) in (
+      start .pre .0,
+      start .pre .1,
+      start .pre .2,
+      first-room (card-of (paper (start .args .s)) .width) (start .args .edit) (start .args .at) (start .args .n) (start .pre .3) (start .args .ledger .now) (start .pre .5) (left-out .result) (record-size .result) (left-out .ensures .0) (record-size .ensures ∙ size-is (card-of (paper (start .args .s)))),
+      mid-room W (brought .result) (brought .ensures .1) (start .args .«record» .now) (start .pre .6),
+      last-room (card-of (paper (start .args .s)) .width) (start .args .edit) (start .args .at) (start .args .n) (start .pre .3) (start .args .ledger .now) (start .pre .5) (left-out .result) (record-size .result) (left-out .ensures .0) (record-size .ensures ∙ size-is (card-of (paper (start .args .s)))),
+      omega (arith, brought .ensures .1, left-out .ensures .0, few .0, few .1),
     )
 
 sub-need-parts : tie.Need-sub-need-parts
@@ -72,36 +94,55 @@ part-need-parts-end : tie.Need-part-need-parts-end
 part-need-parts-end c = search needs
 
 sub-need-parts-2 : tie.Need-sub-need-parts-2
-sub-need-parts-2 c = after-within (card-of (paper (c .before .before .before .before .before .before .before .before .before .before .before .before .before .before .before .args .s)) .width) (c .before .before .before .before .before .before .before .before .before .before .before .before .before .before .before .args .edit) (c .before .before .before .before .before .before .before .before .before .before .before .before .before .before .before .args .at) (c .before .before .before .before .before .before .before .before .before .before .before .before .before .before .before .args .n) (c .before .before .before .before .before .before .before .before .before .before .before .before .before .before .before .pre .3) (c .before .before .before .before .before .before .before .before .before .before .before .before .before .before .before .args .ledger .now) (c .before .before .before .before .before .before .before .before .before .before .before .before .before .before .before .pre .5) (c .before .before .before .before .before .before .before .before .before .before .left-out .result) (c .before .before .before .before .before .before .before .before .before .record-size .result) (c .before .before .before .before .before .before .before .before .before .before .left-out .ensures .0) (c .before .before .before .before .before .before .before .before .before .record-size .ensures ∙ size-is (card-of (paper (c .before .before .before .before .before .before .before .before .before .before .before .before .before .before .before .args .s))))
+sub-need-parts-2 c =
+    let start = c .before .before .before .before .before .before .before .before .before .before .before .before .before .before .before in
+    let left-out = c .before .before .before .before .before .before .before .before .before .before .left-out in
+    let record-size = c .before .before .before .before .before .before .before .before .before .record-size in
+    after-within (card-of (paper (start .args .s)) .width) (start .args .edit) (start .args .at) (start .args .n) (start .pre .3) (start .args .ledger .now) (start .pre .5) (left-out .result) (record-size .result) (left-out .ensures .0) (record-size .ensures ∙ size-is (card-of (paper (start .args .s))))
 
 part-need-parts-start-2 : tie.Need-part-need-parts-start-2
-part-need-parts-start-2 c = after-within (card-of (paper (c .before .before .before .before .before .before .before .before .before .before .before .before .before .before .before .args .s)) .width) (c .before .before .before .before .before .before .before .before .before .before .before .before .before .before .before .args .edit) (c .before .before .before .before .before .before .before .before .before .before .before .before .before .before .before .args .at) (c .before .before .before .before .before .before .before .before .before .before .before .before .before .before .before .args .n) (c .before .before .before .before .before .before .before .before .before .before .before .before .before .before .before .pre .3) (c .before .before .before .before .before .before .before .before .before .before .before .before .before .before .before .args .ledger .now) (c .before .before .before .before .before .before .before .before .before .before .before .before .before .before .before .pre .5) (c .before .before .before .before .before .before .before .before .before .before .left-out .result) (c .before .before .before .before .before .before .before .before .before .record-size .result) (c .before .before .before .before .before .before .before .before .before .before .left-out .ensures .0) (c .before .before .before .before .before .before .before .before .before .record-size .ensures ∙ size-is (card-of (paper (c .before .before .before .before .before .before .before .before .before .before .before .before .before .before .before .args .s))))
+part-need-parts-start-2 c =
+    let start = c .before .before .before .before .before .before .before .before .before .before .before .before .before .before .before in
+    let left-out = c .before .before .before .before .before .before .before .before .before .before .left-out in
+    let record-size = c .before .before .before .before .before .before .before .before .before .record-size in
+    after-within (card-of (paper (start .args .s)) .width) (start .args .edit) (start .args .at) (start .args .n) (start .pre .3) (start .args .ledger .now) (start .pre .5) (left-out .result) (record-size .result) (left-out .ensures .0) (record-size .ensures ∙ size-is (card-of (paper (start .args .s))))
 
 part-need-parts-end-2 : tie.Need-part-need-parts-end-2
 part-need-parts-end-2 c = search needs
 
 need-parts-requires : tie.Need-need-parts-requires
 need-parts-requires c κs =
-    let W = (card-of (paper (c .before .before .before .before .before .before .before .before .before .before .before .before .before .before .before .before .args .s)) .width) in
-    let wide : W ≡ 13 = width-is (paper (c .before .before .before .before .before .before .before .before .before .before .before .before .before .before .before .before .args .s)) in
-    let few = within (c .before .before .before .before .before .before .before .before .before .before .before .before .before .before .before .before .args .edit) (c .before .before .before .before .before .before .before .before .before .before .before .before .before .before .before .before .args .at) (c .before .before .before .before .before .before .before .before .before .before .before .before .before .before .before .before .args .n) (c .before .before .before .before .before .before .before .before .before .before .before .before .before .before .before .before .pre .3) in (
-      c .before .before .before .before .before .before .before .before .before .before .before .before .before .before .before .before .pre .0,
-      c .before .before .before .before .before .before .before .before .before .before .before .before .before .before .before .before .pre .1,
-      c .before .before .before .before .before .place-parts .kept .1 .1 .1 .0 ∙ c .before .before .before .before .before .before .before .before .before .before .before .before .before .before .before .before .pre .2,
-      first-room (card-of (paper (c .before .before .before .before .before .before .before .before .before .before .before .before .before .before .before .before .args .s)) .width) (c .before .before .before .before .before .before .before .before .before .before .before .before .before .before .before .before .args .edit) (c .before .before .before .before .before .before .before .before .before .before .before .before .before .before .before .before .args .at) (c .before .before .before .before .before .before .before .before .before .before .before .before .before .before .before .before .args .n) (c .before .before .before .before .before .before .before .before .before .before .before .before .before .before .before .before .pre .3) (c .before .before .before .before .before .before .before .before .before .before .before .before .before .before .before .before .args .ledger .now) (c .before .before .before .before .before .before .before .before .before .before .before .before .before .before .before .before .pre .5) (c .before .before .before .before .before .before .before .before .before .before .before .left-out .result) (c .before .before .before .before .before .before .before .before .before .before .record-size .result) (c .before .before .before .before .before .before .before .before .before .before .before .left-out .ensures .0) (c .before .before .before .before .before .before .before .before .before .before .record-size .ensures ∙ size-is (card-of (paper (c .before .before .before .before .before .before .before .before .before .before .before .before .before .before .before .before .args .s)))),
-      mid-room W (c .before .before .before .before .before .before .before .before .before .brought .result) (c .before .before .before .before .before .before .before .before .before .brought .ensures .1) (c .before .before .before .before .before .before .before .before .before .before .before .before .before .before .before .before .args .«record» .now) (c .before .before .before .before .before .before .before .before .before .before .before .before .before .before .before .before .pre .6),
-      last-room (card-of (paper (c .before .before .before .before .before .before .before .before .before .before .before .before .before .before .before .before .args .s)) .width) (c .before .before .before .before .before .before .before .before .before .before .before .before .before .before .before .before .args .edit) (c .before .before .before .before .before .before .before .before .before .before .before .before .before .before .before .before .args .at) (c .before .before .before .before .before .before .before .before .before .before .before .before .before .before .before .before .args .n) (c .before .before .before .before .before .before .before .before .before .before .before .before .before .before .before .before .pre .3) (c .before .before .before .before .before .before .before .before .before .before .before .before .before .before .before .before .args .ledger .now) (c .before .before .before .before .before .before .before .before .before .before .before .before .before .before .before .before .pre .5) (c .before .before .before .before .before .before .before .before .before .before .before .left-out .result) (c .before .before .before .before .before .before .before .before .before .before .record-size .result) (c .before .before .before .before .before .before .before .before .before .before .before .left-out .ensures .0) (c .before .before .before .before .before .before .before .before .before .before .record-size .ensures ∙ size-is (card-of (paper (c .before .before .before .before .before .before .before .before .before .before .before .before .before .before .before .before .args .s)))),
-      omega (arith, c .before .before .before .before .before .before .before .before .before .brought .ensures .1, c .before .before .before .before .before .before .before .before .before .before .before .left-out .ensures .0, few .0, few .1),
-      c .before .before .before .before .before .place-parts .ensures,
+    let start = c .before .before .before .before .before .before .before .before .before .before .before .before .before .before .before .before in
+    let left-out = c .before .before .before .before .before .before .before .before .before .before .before .left-out in
+    let record-size = c .before .before .before .before .before .before .before .before .before .before .record-size in
+    let brought = c .before .before .before .before .before .before .before .before .before .brought in
+    let place-parts = c .before .before .before .before .before .place-parts in
+    let W = (card-of (paper (start .args .s)) .width) in
+    let wide : W ≡ 13 = width-is (paper (start .args .s)) in
+    let few = within (start .args .edit) (start .args .at) (start .args .n) (start .pre .3) in (
+      start .pre .0,
+      start .pre .1,
+      place-parts .kept .1 .1 .1 .0 ∙ start .pre .2,
+      first-room (card-of (paper (start .args .s)) .width) (start .args .edit) (start .args .at) (start .args .n) (start .pre .3) (start .args .ledger .now) (start .pre .5) (left-out .result) (record-size .result) (left-out .ensures .0) (record-size .ensures ∙ size-is (card-of (paper (start .args .s)))),
+      mid-room W (brought .result) (brought .ensures .1) (start .args .«record» .now) (start .pre .6),
+      last-room (card-of (paper (start .args .s)) .width) (start .args .edit) (start .args .at) (start .args .n) (start .pre .3) (start .args .ledger .now) (start .pre .5) (left-out .result) (record-size .result) (left-out .ensures .0) (record-size .ensures ∙ size-is (card-of (paper (start .args .s)))),
+      omega (arith, brought .ensures .1, left-out .ensures .0, few .0, few .1),
+      place-parts .ensures,
     )
 
 same-length : tie.Need-same-length
 same-length c = search needs
 
 returns : tie.Need-returns
-returns c = λ x e f.
-    let l = new-list (card-of (paper (c .before .before .before .before .before .before .before .before .before .before .before .before .before .before .before .before .before .args .s)) .width) (c .before .before .before .before .before .before .before .before .before .before .before .before .before .before .before .before .before .args .edit) (c .before .before .before .before .before .before .before .before .before .before .before .before .before .before .before .before .before .args .at) (c .before .before .before .before .before .before .before .before .before .before .before .before .before .before .before .before .before .args .n) (c .before .before .before .before .before .before .before .before .before .before .before .before .before .before .before .before .before .pre .3) (c .before .before .before .before .before .before .before .before .before .before .before .before .before .before .before .before .before .args .ledger .now) (c .before .before .before .before .before .before .before .before .before .before .before .before .before .before .before .before .before .pre .5) (c .before .before .before .before .before .before .before .before .before .before .before .before .left-out .result) (c .before .before .before .before .before .before .before .before .before .before .before .record-size .result) (c .before .before .before .before .before .before .before .before .before .before .before .before .left-out .ensures .0) (c .before .before .before .before .before .before .before .before .before .before .before .record-size .ensures ∙ size-is (card-of (paper (c .before .before .before .before .before .before .before .before .before .before .before .before .before .before .before .before .before .args .s)))) (c .before .before .before .before .before .before .before .before .before .before .brought .result) (c .before .before .before .before .before .before .before .before .before .before .brought .ensures .0) (c .before .before .before .before .before .before .before .before .before .before .before .before .before .before .before .before .before .args .«record» .now) x e f in
-    (rw l at (c .need-parts .ensures), rw l at (c .before .before .before .before .before .before .place-parts .ensures))
+returns c =
+    let start = c .before .before .before .before .before .before .before .before .before .before .before .before .before .before .before .before .before in
+    let left-out = c .before .before .before .before .before .before .before .before .before .before .before .before .left-out in
+    let record-size = c .before .before .before .before .before .before .before .before .before .before .before .record-size in
+    let brought = c .before .before .before .before .before .before .before .before .before .before .brought in
+    let place-parts = c .before .before .before .before .before .before .place-parts in
+    λ x e f.
+    let l = new-list (card-of (paper (start .args .s)) .width) (start .args .edit) (start .args .at) (start .args .n) (start .pre .3) (start .args .ledger .now) (start .pre .5) (left-out .result) (record-size .result) (left-out .ensures .0) (record-size .ensures ∙ size-is (card-of (paper (start .args .s)))) (brought .result) (brought .ensures .0) (start .args .«record» .now) x e f in
+    (rw l at (c .need-parts .ensures), rw l at (place-parts .ensures))
 
 pub place-new-spec : {M : Type 1} → statement M
 place-new-spec =

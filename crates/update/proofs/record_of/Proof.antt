@@ -17,13 +17,19 @@ slice-aggregate-write-record : tie.Need-slice-aggregate-write-record
 slice-aggregate-write-record c = sym (length-take-le (c .before .before .before .args .size) (c .before .new-buffer .result) (omega (arith, c .before .new-buffer .ensures, c .before .before .before .pre .1)))
 
 write-record-requires : tie.Need-write-record-requires
-write-record-requires c κs = length-take-le (c .before .before .before .args .size) (c .before .new-buffer .result) (omega (arith, c .before .new-buffer .ensures, c .before .before .before .pre .1)) ∙ c .before .before .before .pre .0
+write-record-requires c κs =
+    let start = c .before .before .before in
+    let new-buffer = c .before .new-buffer in
+    length-take-le (start .args .size) (new-buffer .result) (omega (arith, new-buffer .ensures, start .pre .1)) ∙ start .pre .0
 
 returns : tie.Need-returns
 returns c =
-    let written = c .before .write-record .ensures in
-    let size : length (c .before .write-record .last .0) ≡ c .before .before .before .before .before .args .size = c .before .write-record .kept .0 ∙ length-take-le (c .before .before .before .before .before .args .size) (c .before .before .before .new-buffer .result) (omega (arith, c .before .before .before .new-buffer .ensures, c .before .before .before .before .before .pre .1)) in
-    (take-at (c .before .write-record .last .0) (drop (c .before .before .before .before .before .args .size) (c .before .before .before .new-buffer .result)) (c .before .before .before .before .before .args .size) size ∙ written, rw (length-append, length-drop, size) (omega (arith, c .before .before .before .new-buffer .ensures, c .before .before .before .before .before .pre .1)))
+    let start = c .before .before .before .before .before in
+    let new-buffer = c .before .before .before .new-buffer in
+    let write-record = c .before .write-record in
+    let written = write-record .ensures in
+    let size : length (write-record .last .0) ≡ start .args .size = write-record .kept .0 ∙ length-take-le (start .args .size) (new-buffer .result) (omega (arith, new-buffer .ensures, start .pre .1)) in
+    (take-at (write-record .last .0) (drop (start .args .size) (new-buffer .result)) (start .args .size) size ∙ written, rw (length-append, length-drop, size) (omega (arith, new-buffer .ensures, start .pre .1)))
 
 pub record-of-spec : {M : Type 1} → statement M
 record-of-spec =

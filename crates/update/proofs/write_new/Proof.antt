@@ -25,55 +25,65 @@ use Rattle.update.proofs.write_new.Tie as tie
 
 edit-ledger-requires : tie.Need-edit-ledger-requires
 edit-ledger-requires c κs =
-    let p = c .before .before .before .before .before .before .before .before .before .before .pre .6 in (
-      record { permitted = c .before .before .before .before .before .before .before .before .before .before .pre .0 .ok; size = c .before .before .before .before .before .before .before .before .before .before .pre .5 .ledger; rules = p .valid },
+    let start = c .before .before .before .before .before .before .before .before .before .before in
+    let p = start .pre .6 in (
+      record { permitted = start .pre .0 .ok; size = start .pre .5 .ledger; rules = p .valid },
       p .place,
-      plan-room (c .before .before .before .before .before .before .before .before .before .before .args .s) (c .before .before .before .before .before .before .before .before .before .before .args .m) (c .before .before .before .before .before .before .before .before .before .before .args .edit) (c .before .before .before .before .before .before .before .before .before .before .args .key .now) (c .before .before .before .before .before .before .before .before .before .before .args .class) (c .before .before .before .before .before .before .before .before .before .before .args .ledger .now) (c .before .before .before .before .before .before .before .before .before .before .args .work .now) (c .before .before .before .before .before .before .before .before .before .before .args .plan) (c .before .before .before .before .before .before .before .before .before .before .pre .6),
-      ap length (c .before .before .before .before .before .before .before .before .before .before .pre .4) ∙ length-record ((card-of (paper (c .before .before .before .before .before .before .before .before .before .before .args .s))) .width) (record { key = (c .before .before .before .before .before .before .before .before .before .before .args .key .now); class = c .before .before .before .before .before .before .before .before .before .before .args .class }) (record { wide = c .before .before .before .before .before .before .before .before .before .before .pre .3; small = c .before .before .before .before .before .before .before .before .before .before .fits .class .fits }) ∙ sym (size-is (card-of (paper (c .before .before .before .before .before .before .before .before .before .before .args .s)))),
+      plan-room (start .args .s) (start .args .m) (start .args .edit) (start .args .key .now) (start .args .class) (start .args .ledger .now) (start .args .work .now) (start .args .plan) (start .pre .6),
+      ap length (start .pre .4) ∙ length-record ((card-of (paper (start .args .s))) .width) (record { key = (start .args .key .now); class = start .args .class }) (record { wide = start .pre .3; small = start .fits .class .fits }) ∙ sym (size-is (card-of (paper (start .args .s)))),
     )
 
 sub-write-areas : tie.Need-sub-write-areas
 sub-write-areas c =
-    let after : List ℕ = c .before .before .before .before .before .before .edit-ledger .last .1 .1 .0 in
-    let made : List Record = (next (card-of (paper (c .before .before .before .before .before .before .before .before .before .before .before .before .before .before .before .before .before .args .s))) (call-of (c .before .before .before .before .before .before .before .before .before .before .before .before .before .before .before .before .before .args .edit) (c .before .before .before .before .before .before .before .before .before .before .before .before .before .before .before .before .before .args .key .now) (c .before .before .before .before .before .before .before .before .before .before .before .before .before .before .before .before .before .args .class)) (ledger-records (card-of (paper (c .before .before .before .before .before .before .before .before .before .before .before .before .before .before .before .before .before .args .s))) (c .before .before .before .before .before .before .before .before .before .before .before .before .before .before .before .before .before .args .ledger .now))) in
-    let p = c .before .before .before .before .before .before .before .before .before .before .before .before .before .before .before .before .before .pre .6 in
-    let fit = plan-fit (c .before .before .before .before .before .before .before .before .before .before .before .before .before .before .before .before .before .args .s) (c .before .before .before .before .before .before .before .before .before .before .before .before .before .before .before .before .before .args .m) (c .before .before .before .before .before .before .before .before .before .before .before .before .before .before .before .before .before .args .edit) (c .before .before .before .before .before .before .before .before .before .before .before .before .before .before .before .before .before .args .key .now) (c .before .before .before .before .before .before .before .before .before .before .before .before .before .before .before .before .before .args .class) (c .before .before .before .before .before .before .before .before .before .before .before .before .before .before .before .before .before .args .ledger .now) (c .before .before .before .before .before .before .before .before .before .before .before .before .before .before .before .before .before .args .work .now) (c .before .before .before .before .before .before .before .before .before .before .before .before .before .before .before .before .before .args .plan) (c .before .before .before .before .before .before .before .before .before .before .before .before .before .before .before .before .before .pre .6) (record { wide = c .before .before .before .before .before .before .before .before .before .before .before .before .before .before .before .before .before .pre .3; small = c .before .before .before .before .before .before .before .before .before .before .before .before .before .before .before .before .before .fits .class .fits }) (records-fit-width (card-of (paper (c .before .before .before .before .before .before .before .before .before .before .before .before .before .before .before .before .before .args .s))) (c .before .before .before .before .before .before .before .before .before .before .before .before .before .before .before .before .before .args .ledger .now) (c .before .before .before .before .before .before .before .before .before .before .before .before .before .before .before .before .before .pre .5 .ledger) (p .valid) (bytes-of (c .before .before .before .before .before .before .before .before .before .before .before .before .before .before .before .before .before .args .ledger .now) (c .before .before .before .before .before .before .before .before .before .before .before .before .before .before .before .slice-known .given))) in
-    let is : after ≡ counted-places (card-of (paper (c .before .before .before .before .before .before .before .before .before .before .before .before .before .before .before .before .before .args .s))) ((card-of (paper (c .before .before .before .before .before .before .before .before .before .before .before .before .before .before .before .before .before .args .s))) .capacity) made = c .before .before .before .before .before .before .edit-ledger .ensures (record { key = (c .before .before .before .before .before .before .before .before .before .before .before .before .before .before .before .before .before .args .key .now); class = c .before .before .before .before .before .before .before .before .before .before .before .before .before .before .before .before .before .args .class }) (sym (c .before .before .before .before .before .before .before .before .before .before .before .before .before .before .before .before .before .pre .4)) ∙ ap (counted-places (card-of (paper (c .before .before .before .before .before .before .before .before .before .before .before .before .before .before .before .before .before .args .s))) ((card-of (paper (c .before .before .before .before .before .before .before .before .before .before .before .before .before .before .before .before .before .args .s))) .capacity)) (sym (p .list)) in
-    has-count (card-of (paper (c .before .before .before .before .before .before .before .before .before .before .before .before .before .before .before .before .before .args .s))) after (long (card-of (paper (c .before .before .before .before .before .before .before .before .before .before .before .before .before .before .before .before .before .args .s))) made fit (p .room) after is)
+    let start = c .before .before .before .before .before .before .before .before .before .before .before .before .before .before .before .before .before in
+    let slice-known = c .before .before .before .before .before .before .before .before .before .before .before .before .before .before .before .slice-known in
+    let edit-ledger = c .before .before .before .before .before .before .edit-ledger in
+    let after : List ℕ = edit-ledger .last .1 .1 .0 in
+    let made : List Record = (next (card-of (paper (start .args .s))) (call-of (start .args .edit) (start .args .key .now) (start .args .class)) (ledger-records (card-of (paper (start .args .s))) (start .args .ledger .now))) in
+    let p = start .pre .6 in
+    let fit = plan-fit (start .args .s) (start .args .m) (start .args .edit) (start .args .key .now) (start .args .class) (start .args .ledger .now) (start .args .work .now) (start .args .plan) (start .pre .6) (record { wide = start .pre .3; small = start .fits .class .fits }) (records-fit-width (card-of (paper (start .args .s))) (start .args .ledger .now) (start .pre .5 .ledger) (p .valid) (bytes-of (start .args .ledger .now) (slice-known .given))) in
+    let is : after ≡ counted-places (card-of (paper (start .args .s))) ((card-of (paper (start .args .s))) .capacity) made = edit-ledger .ensures (record { key = (start .args .key .now); class = start .args .class }) (sym (start .pre .4)) ∙ ap (counted-places (card-of (paper (start .args .s))) ((card-of (paper (start .args .s))) .capacity)) (sym (p .list)) in
+    has-count (card-of (paper (start .args .s))) after (long (card-of (paper (start .args .s))) made fit (p .room) after is)
 
 part-write-areas-start : tie.Need-part-write-areas-start
 part-write-areas-start c =
-    let after : List ℕ = c .before .before .before .before .before .before .before .edit-ledger .last .1 .1 .0 in
-    let made : List Record = (next (card-of (paper (c .before .before .before .before .before .before .before .before .before .before .before .before .before .before .before .before .before .before .args .s))) (call-of (c .before .before .before .before .before .before .before .before .before .before .before .before .before .before .before .before .before .before .args .edit) (c .before .before .before .before .before .before .before .before .before .before .before .before .before .before .before .before .before .before .args .key .now) (c .before .before .before .before .before .before .before .before .before .before .before .before .before .before .before .before .before .before .args .class)) (ledger-records (card-of (paper (c .before .before .before .before .before .before .before .before .before .before .before .before .before .before .before .before .before .before .args .s))) (c .before .before .before .before .before .before .before .before .before .before .before .before .before .before .before .before .before .before .args .ledger .now))) in
-    let p = c .before .before .before .before .before .before .before .before .before .before .before .before .before .before .before .before .before .before .pre .6 in
-    let fit = plan-fit (c .before .before .before .before .before .before .before .before .before .before .before .before .before .before .before .before .before .before .args .s) (c .before .before .before .before .before .before .before .before .before .before .before .before .before .before .before .before .before .before .args .m) (c .before .before .before .before .before .before .before .before .before .before .before .before .before .before .before .before .before .before .args .edit) (c .before .before .before .before .before .before .before .before .before .before .before .before .before .before .before .before .before .before .args .key .now) (c .before .before .before .before .before .before .before .before .before .before .before .before .before .before .before .before .before .before .args .class) (c .before .before .before .before .before .before .before .before .before .before .before .before .before .before .before .before .before .before .args .ledger .now) (c .before .before .before .before .before .before .before .before .before .before .before .before .before .before .before .before .before .before .args .work .now) (c .before .before .before .before .before .before .before .before .before .before .before .before .before .before .before .before .before .before .args .plan) (c .before .before .before .before .before .before .before .before .before .before .before .before .before .before .before .before .before .before .pre .6) (record { wide = c .before .before .before .before .before .before .before .before .before .before .before .before .before .before .before .before .before .before .pre .3; small = c .before .before .before .before .before .before .before .before .before .before .before .before .before .before .before .before .before .before .fits .class .fits }) (records-fit-width (card-of (paper (c .before .before .before .before .before .before .before .before .before .before .before .before .before .before .before .before .before .before .args .s))) (c .before .before .before .before .before .before .before .before .before .before .before .before .before .before .before .before .before .before .args .ledger .now) (c .before .before .before .before .before .before .before .before .before .before .before .before .before .before .before .before .before .before .pre .5 .ledger) (p .valid) (bytes-of (c .before .before .before .before .before .before .before .before .before .before .before .before .before .before .before .before .before .before .args .ledger .now) (c .before .before .before .before .before .before .before .before .before .before .before .before .before .before .before .before .slice-known .given))) in
-    let is : after ≡ counted-places (card-of (paper (c .before .before .before .before .before .before .before .before .before .before .before .before .before .before .before .before .before .before .args .s))) ((card-of (paper (c .before .before .before .before .before .before .before .before .before .before .before .before .before .before .before .before .before .before .args .s))) .capacity) made = c .before .before .before .before .before .before .before .edit-ledger .ensures (record { key = (c .before .before .before .before .before .before .before .before .before .before .before .before .before .before .before .before .before .before .args .key .now); class = c .before .before .before .before .before .before .before .before .before .before .before .before .before .before .before .before .before .before .args .class }) (sym (c .before .before .before .before .before .before .before .before .before .before .before .before .before .before .before .before .before .before .pre .4)) ∙ ap (counted-places (card-of (paper (c .before .before .before .before .before .before .before .before .before .before .before .before .before .before .before .before .before .before .args .s))) ((card-of (paper (c .before .before .before .before .before .before .before .before .before .before .before .before .before .before .before .before .before .before .args .s))) .capacity)) (sym (p .list)) in
-    has-count (card-of (paper (c .before .before .before .before .before .before .before .before .before .before .before .before .before .before .before .before .before .before .args .s))) after (long (card-of (paper (c .before .before .before .before .before .before .before .before .before .before .before .before .before .before .before .before .before .before .args .s))) made fit (p .room) after is)
+    let start = c .before .before .before .before .before .before .before .before .before .before .before .before .before .before .before .before .before .before in
+    let slice-known = c .before .before .before .before .before .before .before .before .before .before .before .before .before .before .before .before .slice-known in
+    let edit-ledger = c .before .before .before .before .before .before .before .edit-ledger in
+    let after : List ℕ = edit-ledger .last .1 .1 .0 in
+    let made : List Record = (next (card-of (paper (start .args .s))) (call-of (start .args .edit) (start .args .key .now) (start .args .class)) (ledger-records (card-of (paper (start .args .s))) (start .args .ledger .now))) in
+    let p = start .pre .6 in
+    let fit = plan-fit (start .args .s) (start .args .m) (start .args .edit) (start .args .key .now) (start .args .class) (start .args .ledger .now) (start .args .work .now) (start .args .plan) (start .pre .6) (record { wide = start .pre .3; small = start .fits .class .fits }) (records-fit-width (card-of (paper (start .args .s))) (start .args .ledger .now) (start .pre .5 .ledger) (p .valid) (bytes-of (start .args .ledger .now) (slice-known .given))) in
+    let is : after ≡ counted-places (card-of (paper (start .args .s))) ((card-of (paper (start .args .s))) .capacity) made = edit-ledger .ensures (record { key = (start .args .key .now); class = start .args .class }) (sym (start .pre .4)) ∙ ap (counted-places (card-of (paper (start .args .s))) ((card-of (paper (start .args .s))) .capacity)) (sym (p .list)) in
+    has-count (card-of (paper (start .args .s))) after (long (card-of (paper (start .args .s))) made fit (p .room) after is)
 
 part-write-areas-end : tie.Need-part-write-areas-end
 part-write-areas-end c = search needs
 
 write-areas-requires : tie.Need-write-areas-requires
 write-areas-requires c κs =
-    let after : List ℕ = c .before .before .before .before .before .before .before .before .edit-ledger .last .1 .1 .0 in
-    let made : List Record = (next (card-of (paper (c .before .before .before .before .before .before .before .before .before .before .before .before .before .before .before .before .before .before .before .args .s))) (call-of (c .before .before .before .before .before .before .before .before .before .before .before .before .before .before .before .before .before .before .before .args .edit) (c .before .before .before .before .before .before .before .before .before .before .before .before .before .before .before .before .before .before .before .args .key .now) (c .before .before .before .before .before .before .before .before .before .before .before .before .before .before .before .before .before .before .before .args .class)) (ledger-records (card-of (paper (c .before .before .before .before .before .before .before .before .before .before .before .before .before .before .before .before .before .before .before .args .s))) (c .before .before .before .before .before .before .before .before .before .before .before .before .before .before .before .before .before .before .before .args .ledger .now))) in
-    let p = c .before .before .before .before .before .before .before .before .before .before .before .before .before .before .before .before .before .before .before .pre .6 in
-    let fit = plan-fit (c .before .before .before .before .before .before .before .before .before .before .before .before .before .before .before .before .before .before .before .args .s) (c .before .before .before .before .before .before .before .before .before .before .before .before .before .before .before .before .before .before .before .args .m) (c .before .before .before .before .before .before .before .before .before .before .before .before .before .before .before .before .before .before .before .args .edit) (c .before .before .before .before .before .before .before .before .before .before .before .before .before .before .before .before .before .before .before .args .key .now) (c .before .before .before .before .before .before .before .before .before .before .before .before .before .before .before .before .before .before .before .args .class) (c .before .before .before .before .before .before .before .before .before .before .before .before .before .before .before .before .before .before .before .args .ledger .now) (c .before .before .before .before .before .before .before .before .before .before .before .before .before .before .before .before .before .before .before .args .work .now) (c .before .before .before .before .before .before .before .before .before .before .before .before .before .before .before .before .before .before .before .args .plan) (c .before .before .before .before .before .before .before .before .before .before .before .before .before .before .before .before .before .before .before .pre .6) (record { wide = c .before .before .before .before .before .before .before .before .before .before .before .before .before .before .before .before .before .before .before .pre .3; small = c .before .before .before .before .before .before .before .before .before .before .before .before .before .before .before .before .before .before .before .fits .class .fits }) (records-fit-width (card-of (paper (c .before .before .before .before .before .before .before .before .before .before .before .before .before .before .before .before .before .before .before .args .s))) (c .before .before .before .before .before .before .before .before .before .before .before .before .before .before .before .before .before .before .before .args .ledger .now) (c .before .before .before .before .before .before .before .before .before .before .before .before .before .before .before .before .before .before .before .pre .5 .ledger) (p .valid) (bytes-of (c .before .before .before .before .before .before .before .before .before .before .before .before .before .before .before .before .before .before .before .args .ledger .now) (c .before .before .before .before .before .before .before .before .before .before .before .before .before .before .before .before .before .slice-known .given))) in
-    let is : after ≡ counted-places (card-of (paper (c .before .before .before .before .before .before .before .before .before .before .before .before .before .before .before .before .before .before .before .args .s))) ((card-of (paper (c .before .before .before .before .before .before .before .before .before .before .before .before .before .before .before .before .before .before .before .args .s))) .capacity) made = c .before .before .before .before .before .before .before .before .edit-ledger .ensures (record { key = (c .before .before .before .before .before .before .before .before .before .before .before .before .before .before .before .before .before .before .before .args .key .now); class = c .before .before .before .before .before .before .before .before .before .before .before .before .before .before .before .before .before .before .before .args .class }) (sym (c .before .before .before .before .before .before .before .before .before .before .before .before .before .before .before .before .before .before .before .pre .4)) ∙ ap (counted-places (card-of (paper (c .before .before .before .before .before .before .before .before .before .before .before .before .before .before .before .before .before .before .before .args .s))) ((card-of (paper (c .before .before .before .before .before .before .before .before .before .before .before .before .before .before .before .before .before .before .before .args .s))) .capacity)) (sym (p .list)) in
-    let l = lent-records (card-of (paper (c .before .before .before .before .before .before .before .before .before .before .before .before .before .before .before .before .before .before .before .args .s))) made fit (p .room) after is (c .before .before .before .before .before .before .before .before .before .before .before .before .before .before .before .before .before .before .before .args .plan .count) (p .count) in
-    let r = ranges (paper (c .before .before .before .before .before .before .before .before .before .before .before .before .before .before .before .before .before .before .before .args .s)) (c .before .before .before .before .before .before .before .before .before .before .before .before .before .before .before .before .before .before .before .pre .0 .ok) in (
-      c .before .before .before .before .before .before .before .before .before .before .before .before .before .before .before .before .before .before .before .pre .0,
-      c .before .before .before .before .before .before .before .before .before .before .before .before .before .before .before .before .before .before .before .pre .1,
-      c .before .before .before .before .before .before .before .before .before .before .before .before .before .before .before .before .before .before .before .pre .2,
-      lent-room (card-of (paper (c .before .before .before .before .before .before .before .before .before .before .before .before .before .before .before .before .before .before .before .args .s))) made fit (p .room) after is (c .before .before .before .before .before .before .before .before .before .before .before .before .before .before .before .before .before .before .before .args .plan .count) (p .count),
-      omega (arith, p .count, p .room, capacity-is (paper (c .before .before .before .before .before .before .before .before .before .before .before .before .before .before .before .before .before .before .before .args .s))),
+    let start = c .before .before .before .before .before .before .before .before .before .before .before .before .before .before .before .before .before .before .before in
+    let slice-known = c .before .before .before .before .before .before .before .before .before .before .before .before .before .before .before .before .before .slice-known in
+    let edit-ledger = c .before .before .before .before .before .before .before .before .edit-ledger in
+    let after : List ℕ = edit-ledger .last .1 .1 .0 in
+    let made : List Record = (next (card-of (paper (start .args .s))) (call-of (start .args .edit) (start .args .key .now) (start .args .class)) (ledger-records (card-of (paper (start .args .s))) (start .args .ledger .now))) in
+    let p = start .pre .6 in
+    let fit = plan-fit (start .args .s) (start .args .m) (start .args .edit) (start .args .key .now) (start .args .class) (start .args .ledger .now) (start .args .work .now) (start .args .plan) (start .pre .6) (record { wide = start .pre .3; small = start .fits .class .fits }) (records-fit-width (card-of (paper (start .args .s))) (start .args .ledger .now) (start .pre .5 .ledger) (p .valid) (bytes-of (start .args .ledger .now) (slice-known .given))) in
+    let is : after ≡ counted-places (card-of (paper (start .args .s))) ((card-of (paper (start .args .s))) .capacity) made = edit-ledger .ensures (record { key = (start .args .key .now); class = start .args .class }) (sym (start .pre .4)) ∙ ap (counted-places (card-of (paper (start .args .s))) ((card-of (paper (start .args .s))) .capacity)) (sym (p .list)) in
+    let l = lent-records (card-of (paper (start .args .s))) made fit (p .room) after is (start .args .plan .count) (p .count) in
+    let r = ranges (paper (start .args .s)) (start .pre .0 .ok) in (
+      start .pre .0,
+      start .pre .1,
+      start .pre .2,
+      lent-room (card-of (paper (start .args .s))) made fit (p .room) after is (start .args .plan .count) (p .count),
+      omega (arith, p .count, p .room, capacity-is (paper (start .args .s))),
       rw l (p .worked),
       rw l (p .need),
       p .enough,
-      c .before .before .before .before .before .before .before .before .before .before .before .before .before .before .before .before .before .before .before .pre .5 .true-counts,
-      c .before .before .before .before .before .before .before .before .before .before .before .before .before .before .before .before .before .before .before .pre .5 .clipped-counts,
-      c .before .before .before .before .before .before .before .before .before .before .before .before .before .before .before .before .before .before .before .pre .5 .buckets,
-      c .before .before .before .before .before .before .before .before .before .before .before .before .before .before .before .before .before .before .before .pre .5 .side-store,
+      start .pre .5 .true-counts,
+      start .pre .5 .clipped-counts,
+      start .pre .5 .buckets,
+      start .pre .5 .side-store,
     )
 
 same-length : tie.Need-same-length
@@ -93,13 +103,17 @@ same-length-5 c = search needs
 
 returns : tie.Need-returns
 returns c =
-    let after : List ℕ = c .before .before .before .before .before .before .before .before .before .before .before .before .before .before .before .before .before .edit-ledger .last .1 .1 .0 in
-    let made : List Record = (next (card-of (paper (c .before .before .before .before .before .before .before .before .before .before .before .before .before .before .before .before .before .before .before .before .before .before .before .before .before .before .before .before .args .s))) (call-of (c .before .before .before .before .before .before .before .before .before .before .before .before .before .before .before .before .before .before .before .before .before .before .before .before .before .before .before .before .args .edit) (c .before .before .before .before .before .before .before .before .before .before .before .before .before .before .before .before .before .before .before .before .before .before .before .before .before .before .before .before .args .key .now) (c .before .before .before .before .before .before .before .before .before .before .before .before .before .before .before .before .before .before .before .before .before .before .before .before .before .before .before .before .args .class)) (ledger-records (card-of (paper (c .before .before .before .before .before .before .before .before .before .before .before .before .before .before .before .before .before .before .before .before .before .before .before .before .before .before .before .before .args .s))) (c .before .before .before .before .before .before .before .before .before .before .before .before .before .before .before .before .before .before .before .before .before .before .before .before .before .before .before .before .args .ledger .now))) in
-    let p = c .before .before .before .before .before .before .before .before .before .before .before .before .before .before .before .before .before .before .before .before .before .before .before .before .before .before .before .before .pre .6 in
-    let fit = plan-fit (c .before .before .before .before .before .before .before .before .before .before .before .before .before .before .before .before .before .before .before .before .before .before .before .before .before .before .before .before .args .s) (c .before .before .before .before .before .before .before .before .before .before .before .before .before .before .before .before .before .before .before .before .before .before .before .before .before .before .before .before .args .m) (c .before .before .before .before .before .before .before .before .before .before .before .before .before .before .before .before .before .before .before .before .before .before .before .before .before .before .before .before .args .edit) (c .before .before .before .before .before .before .before .before .before .before .before .before .before .before .before .before .before .before .before .before .before .before .before .before .before .before .before .before .args .key .now) (c .before .before .before .before .before .before .before .before .before .before .before .before .before .before .before .before .before .before .before .before .before .before .before .before .before .before .before .before .args .class) (c .before .before .before .before .before .before .before .before .before .before .before .before .before .before .before .before .before .before .before .before .before .before .before .before .before .before .before .before .args .ledger .now) (c .before .before .before .before .before .before .before .before .before .before .before .before .before .before .before .before .before .before .before .before .before .before .before .before .before .before .before .before .args .work .now) (c .before .before .before .before .before .before .before .before .before .before .before .before .before .before .before .before .before .before .before .before .before .before .before .before .before .before .before .before .args .plan) (c .before .before .before .before .before .before .before .before .before .before .before .before .before .before .before .before .before .before .before .before .before .before .before .before .before .before .before .before .pre .6) (record { wide = c .before .before .before .before .before .before .before .before .before .before .before .before .before .before .before .before .before .before .before .before .before .before .before .before .before .before .before .before .pre .3; small = c .before .before .before .before .before .before .before .before .before .before .before .before .before .before .before .before .before .before .before .before .before .before .before .before .before .before .before .before .fits .class .fits }) (records-fit-width (card-of (paper (c .before .before .before .before .before .before .before .before .before .before .before .before .before .before .before .before .before .before .before .before .before .before .before .before .before .before .before .before .args .s))) (c .before .before .before .before .before .before .before .before .before .before .before .before .before .before .before .before .before .before .before .before .before .before .before .before .before .before .before .before .args .ledger .now) (c .before .before .before .before .before .before .before .before .before .before .before .before .before .before .before .before .before .before .before .before .before .before .before .before .before .before .before .before .pre .5 .ledger) (p .valid) (bytes-of (c .before .before .before .before .before .before .before .before .before .before .before .before .before .before .before .before .before .before .before .before .before .before .before .before .before .before .before .before .args .ledger .now) (c .before .before .before .before .before .before .before .before .before .before .before .before .before .before .before .before .before .before .before .before .before .before .before .before .before .before .slice-known .given))) in
-    let is : after ≡ counted-places (card-of (paper (c .before .before .before .before .before .before .before .before .before .before .before .before .before .before .before .before .before .before .before .before .before .before .before .before .before .before .before .before .args .s))) ((card-of (paper (c .before .before .before .before .before .before .before .before .before .before .before .before .before .before .before .before .before .before .before .before .before .before .before .before .before .before .before .before .args .s))) .capacity) made = c .before .before .before .before .before .before .before .before .before .before .before .before .before .before .before .before .before .edit-ledger .ensures (record { key = (c .before .before .before .before .before .before .before .before .before .before .before .before .before .before .before .before .before .before .before .before .before .before .before .before .before .before .before .before .args .key .now); class = c .before .before .before .before .before .before .before .before .before .before .before .before .before .before .before .before .before .before .before .before .before .before .before .before .before .before .before .before .args .class }) (sym (c .before .before .before .before .before .before .before .before .before .before .before .before .before .before .before .before .before .before .before .before .before .before .before .before .before .before .before .before .pre .4)) ∙ ap (counted-places (card-of (paper (c .before .before .before .before .before .before .before .before .before .before .before .before .before .before .before .before .before .before .before .before .before .before .before .before .before .before .before .before .args .s))) ((card-of (paper (c .before .before .before .before .before .before .before .before .before .before .before .before .before .before .before .before .before .before .before .before .before .before .before .before .before .before .before .before .args .s))) .capacity)) (sym (p .list)) in
-    let w = c .before .before .before .before .before .before .before .before .write-areas .ensures in
-    laid-out (card-of (paper (c .before .before .before .before .before .before .before .before .before .before .before .before .before .before .before .before .before .before .before .before .before .before .before .before .before .before .before .before .args .s))) made fit (p .room) after is (c .before .before .before .before .before .before .before .before .before .before .before .before .before .before .before .before .before .before .before .before .before .before .before .before .before .before .before .before .args .plan .count) (p .count) _ _ _ _ (w .0) (w .1) (w .2) (w .3)
+    let start = c .before .before .before .before .before .before .before .before .before .before .before .before .before .before .before .before .before .before .before .before .before .before .before .before .before .before .before .before in
+    let slice-known = c .before .before .before .before .before .before .before .before .before .before .before .before .before .before .before .before .before .before .before .before .before .before .before .before .before .before .slice-known in
+    let edit-ledger = c .before .before .before .before .before .before .before .before .before .before .before .before .before .before .before .before .before .edit-ledger in
+    let write-areas = c .before .before .before .before .before .before .before .before .write-areas in
+    let after : List ℕ = edit-ledger .last .1 .1 .0 in
+    let made : List Record = (next (card-of (paper (start .args .s))) (call-of (start .args .edit) (start .args .key .now) (start .args .class)) (ledger-records (card-of (paper (start .args .s))) (start .args .ledger .now))) in
+    let p = start .pre .6 in
+    let fit = plan-fit (start .args .s) (start .args .m) (start .args .edit) (start .args .key .now) (start .args .class) (start .args .ledger .now) (start .args .work .now) (start .args .plan) (start .pre .6) (record { wide = start .pre .3; small = start .fits .class .fits }) (records-fit-width (card-of (paper (start .args .s))) (start .args .ledger .now) (start .pre .5 .ledger) (p .valid) (bytes-of (start .args .ledger .now) (slice-known .given))) in
+    let is : after ≡ counted-places (card-of (paper (start .args .s))) ((card-of (paper (start .args .s))) .capacity) made = edit-ledger .ensures (record { key = (start .args .key .now); class = start .args .class }) (sym (start .pre .4)) ∙ ap (counted-places (card-of (paper (start .args .s))) ((card-of (paper (start .args .s))) .capacity)) (sym (p .list)) in
+    let w = write-areas .ensures in
+    laid-out (card-of (paper (start .args .s))) made fit (p .room) after is (start .args .plan .count) (p .count) _ _ _ _ (w .0) (w .1) (w .2) (w .3)
 
 pub write-new-spec : {M : Type 1} → statement M
 write-new-spec =

@@ -40,8 +40,14 @@ same-length-5 c = search needs
 
 returns : tie.Need-returns
 returns c =
-    cleared (card-of (paper (c .before .before .before .before .before .before .before .before .before .before .before .before .before .before .before .before .before .before .before .before .before .before .before .before .before .args .s))) (c .before .before .before .before .before .before .before .before .before .before .before .before .before .before .before .before .before .before .zero-fill .last .0) (c .before .before .before .before .before .before .before .before .before .before .before .before .before .before .zero-counts .last .0) (c .before .before .before .before .before .before .before .before .before .before .zero-fill2 .last .0) (c .before .before .before .before .before .before .zero-fill3 .last .0) (c .before .before .zero-fill4 .last .0)
-    (c .before .before .before .before .before .before .before .before .before .before .before .before .before .before .before .before .before .before .zero-fill .ensures ∙ ap zeros (c .before .before .before .before .before .before .before .before .before .before .before .before .before .before .before .before .before .before .before .before .before .before .before .before .before .pre .1)) (c .before .before .before .before .before .before .before .before .before .before .before .before .before .before .zero-counts .ensures ∙ ap zeros (c .before .before .before .before .before .before .before .before .before .before .before .before .before .before .before .before .before .before .before .before .before .before .before .before .before .pre .2)) (c .before .before .before .before .before .before .before .before .before .before .zero-fill2 .ensures ∙ ap zeros (c .before .before .before .before .before .before .before .before .before .before .before .before .before .before .before .before .before .before .before .before .before .before .before .before .before .pre .3)) (c .before .before .before .before .before .before .zero-fill3 .ensures ∙ ap zeros (c .before .before .before .before .before .before .before .before .before .before .before .before .before .before .before .before .before .before .before .before .before .before .before .before .before .pre .4)) (c .before .before .zero-fill4 .ensures ∙ ap zeros (c .before .before .before .before .before .before .before .before .before .before .before .before .before .before .before .before .before .before .before .before .before .before .before .before .before .pre .5))
+    let start = c .before .before .before .before .before .before .before .before .before .before .before .before .before .before .before .before .before .before .before .before .before .before .before .before .before in
+    let zero-fill = c .before .before .before .before .before .before .before .before .before .before .before .before .before .before .before .before .before .before .zero-fill in
+    let zero-counts = c .before .before .before .before .before .before .before .before .before .before .before .before .before .before .zero-counts in
+    let zero-fill2 = c .before .before .before .before .before .before .before .before .before .before .zero-fill2 in
+    let zero-fill3 = c .before .before .before .before .before .before .zero-fill3 in
+    let zero-fill4 = c .before .before .zero-fill4 in
+    cleared (card-of (paper (start .args .s))) (zero-fill .last .0) (zero-counts .last .0) (zero-fill2 .last .0) (zero-fill3 .last .0) (zero-fill4 .last .0)
+    (zero-fill .ensures ∙ ap zeros (start .pre .1)) (zero-counts .ensures ∙ ap zeros (start .pre .2)) (zero-fill2 .ensures ∙ ap zeros (start .pre .3)) (zero-fill3 .ensures ∙ ap zeros (start .pre .4)) (zero-fill4 .ensures ∙ ap zeros (start .pre .5))
 
 pub clear-areas-spec : {M : Type 1} → statement M
 clear-areas-spec =

@@ -17,20 +17,26 @@ use Rattle.writing.proofs.write_areas.Statement.{statement}
 use Rattle.writing.proofs.write_areas.Tie as tie
 
 slice-aggregate-copy-counts : tie.Need-slice-aggregate-copy-counts
-slice-aggregate-copy-counts c = sym (length-take-le (c .before .before .before .before .before .before .before .before .before .args .m) (c .before .before .before .before .before .before .before .before .before .args .work .now) (omega (arith, c .before .before .before .before .before .before .before .before .before .pre .2)))
+slice-aggregate-copy-counts c =
+    let start = c .before .before .before .before .before .before .before .before .before in
+    sym (length-take-le (start .args .m) (start .args .work .now) (omega (arith, start .pre .2)))
 
 copy-counts-requires : tie.Need-copy-counts-requires
 copy-counts-requires c κs =
-    c .before .before .before .before .before .before .before .before .before .pre .8 ∙ true-length-is (paper (c .before .before .before .before .before .before .before .before .before .args .s)) ∙ sym (c .before .before .before .before .before .before .before .before .before .pre .1) ∙ sym (length-take-le (c .before .before .before .before .before .before .before .before .before .args .m) (c .before .before .before .before .before .before .before .before .before .args .work .now) (omega (arith, c .before .before .before .before .before .before .before .before .before .pre .2)))
+    let start = c .before .before .before .before .before .before .before .before .before in
+    start .pre .8 ∙ true-length-is (paper (start .args .s)) ∙ sym (start .pre .1) ∙ sym (length-take-le (start .args .m) (start .args .work .now) (omega (arith, start .pre .2)))
 
 slice-aggregate-write-clipped : tie.Need-slice-aggregate-write-clipped
-slice-aggregate-write-clipped c = sym (length-take-le (c .before .before .before .before .before .before .before .before .before .before .before .before .before .before .args .m) (c .before .before .before .before .before .before .before .before .before .before .before .before .before .before .args .work .now) (omega (arith, c .before .before .before .before .before .before .before .before .before .before .before .before .before .before .pre .2)))
+slice-aggregate-write-clipped c =
+    let start = c .before .before .before .before .before .before .before .before .before .before .before .before .before .before in
+    sym (length-take-le (start .args .m) (start .args .work .now) (omega (arith, start .pre .2)))
 
 write-clipped-requires : tie.Need-write-clipped-requires
-write-clipped-requires c κs = (
-  ranges (paper (c .before .before .before .before .before .before .before .before .before .before .before .before .before .before .args .s)) (c .before .before .before .before .before .before .before .before .before .before .before .before .before .before .pre .0 .ok) .top-high,
-  rw (length-take-le (c .before .before .before .before .before .before .before .before .before .before .before .before .before .before .args .m) (c .before .before .before .before .before .before .before .before .before .before .before .before .before .before .args .work .now) (omega (arith, c .before .before .before .before .before .before .before .before .before .before .before .before .before .before .pre .2))) (omega (arith, c .before .before .before .before .before .before .before .before .before .before .before .before .before .before .pre .9, c .before .before .before .before .before .before .before .before .before .before .before .before .before .before .pre .1, clipped-length-is (paper (c .before .before .before .before .before .before .before .before .before .before .before .before .before .before .args .s)))),
-)
+write-clipped-requires c κs =
+    let start = c .before .before .before .before .before .before .before .before .before .before .before .before .before .before in (
+      ranges (paper (start .args .s)) (start .pre .0 .ok) .top-high,
+      rw (length-take-le (start .args .m) (start .args .work .now) (omega (arith, start .pre .2))) (omega (arith, start .pre .9, start .pre .1, clipped-length-is (paper (start .args .s)))),
+    )
 
 write-buckets-requires : tie.Need-write-buckets-requires
 write-buckets-requires c κs = search needs
@@ -52,13 +58,18 @@ same-length-4 c = search needs
 
 returns : tie.Need-returns
 returns c =
-    let counts = counts-are (card-of (paper (c .before .before .before .before .before .before .before .before .before .before .before .before .before .before .before .before .before .before .before .before .before .before .before .before .before .args .s))) (c .before .before .before .before .before .before .before .before .before .before .before .before .before .before .before .before .before .before .before .before .before .before .before .before .before .args .m) (records (card-of (paper (c .before .before .before .before .before .before .before .before .before .before .before .before .before .before .before .before .before .before .before .before .before .before .before .before .before .args .s)) .width) (c .before .before .before .before .before .before .before .before .before .before .before .before .before .before .before .before .before .before .before .before .before .before .before .before .before .args .n) (c .before .before .before .before .before .before .before .before .before .before .before .before .before .before .before .before .before .before .before .before .before .before .before .before .before .args .area .now)) (c .before .before .before .before .before .before .before .before .before .before .before .before .before .before .before .before .before .before .before .before .before .before .before .before .before .args .work .now) (c .before .before .before .before .before .before .before .before .before .before .before .before .before .before .before .before .before .before .before .before .before .before .before .before .before .pre .5) in (
-      c .before .before .before .before .before .before .before .before .before .before .before .before .before .before .before .copy-counts .ensures ∙ true-counts-are (card-of (paper (c .before .before .before .before .before .before .before .before .before .before .before .before .before .before .before .before .before .before .before .before .before .before .before .before .before .args .s))) (c .before .before .before .before .before .before .before .before .before .before .before .before .before .before .before .before .before .before .before .before .before .before .before .before .before .args .m) (records (card-of (paper (c .before .before .before .before .before .before .before .before .before .before .before .before .before .before .before .before .before .before .before .before .before .before .before .before .before .args .s)) .width) (c .before .before .before .before .before .before .before .before .before .before .before .before .before .before .before .before .before .before .before .before .before .before .before .before .before .args .n) (c .before .before .before .before .before .before .before .before .before .before .before .before .before .before .before .before .before .before .before .before .before .before .before .before .before .args .area .now)) (c .before .before .before .before .before .before .before .before .before .before .before .before .before .before .before .before .before .before .before .before .before .before .before .before .before .args .work .now) (c .before .before .before .before .before .before .before .before .before .before .before .before .before .before .before .before .before .before .before .before .before .before .before .before .before .pre .5) (c .before .before .before .before .before .before .before .before .before .before .before .before .before .before .before .before .before .before .before .before .before .before .before .before .before .pre .1) (omega (arith, c .before .before .before .before .before .before .before .before .before .before .before .before .before .before .before .before .before .before .before .before .before .before .before .before .before .pre .2)),
-      c .before .before .before .before .before .before .before .before .before .before .write-clipped .ensures
-          ∙ clipped-all (card-of (paper (c .before .before .before .before .before .before .before .before .before .before .before .before .before .before .before .before .before .before .before .before .before .before .before .before .before .args .s))) (nth (take (c .before .before .before .before .before .before .before .before .before .before .before .before .before .before .before .before .before .before .before .before .before .before .before .before .before .args .m) (c .before .before .before .before .before .before .before .before .before .before .before .before .before .before .before .before .before .before .before .before .before .before .before .before .before .args .work .now))) (c .before .before .before .before .before .before .before .before .before .before .before .before .before .before .before .before .before .before .before .before .before .before .before .before .before .args .s .top) (length (c .before .before .before .before .before .before .before .before .before .before .before .before .before .before .before .before .before .before .before .before .before .before .before .before .before .args .clipped .now)) (sym (top-is (paper (c .before .before .before .before .before .before .before .before .before .before .before .before .before .before .before .before .before .before .before .before .before .before .before .before .before .args .s)))) (c .before .before .before .before .before .before .before .before .before .before .before .before .before .before .before .before .before .before .before .before .before .before .before .before .before .pre .9 ∙ clipped-length-is (paper (c .before .before .before .before .before .before .before .before .before .before .before .before .before .before .before .before .before .before .before .before .before .before .before .before .before .args .s)))
-          ∙ ap (counter-bytes (card-of (paper (c .before .before .before .before .before .before .before .before .before .before .before .before .before .before .before .before .before .before .before .before .before .before .before .before .before .args .s)))) counts,
-      c .before .before .before .before .before .before .write-buckets .ensures,
-      c .before .before .write-side .ensures,
+    let start = c .before .before .before .before .before .before .before .before .before .before .before .before .before .before .before .before .before .before .before .before .before .before .before .before .before in
+    let copy-counts = c .before .before .before .before .before .before .before .before .before .before .before .before .before .before .before .copy-counts in
+    let write-clipped = c .before .before .before .before .before .before .before .before .before .before .write-clipped in
+    let write-buckets = c .before .before .before .before .before .before .write-buckets in
+    let write-side = c .before .before .write-side in
+    let counts = counts-are (card-of (paper (start .args .s))) (start .args .m) (records (card-of (paper (start .args .s)) .width) (start .args .n) (start .args .area .now)) (start .args .work .now) (start .pre .5) in (
+      copy-counts .ensures ∙ true-counts-are (card-of (paper (start .args .s))) (start .args .m) (records (card-of (paper (start .args .s)) .width) (start .args .n) (start .args .area .now)) (start .args .work .now) (start .pre .5) (start .pre .1) (omega (arith, start .pre .2)),
+      write-clipped .ensures
+          ∙ clipped-all (card-of (paper (start .args .s))) (nth (take (start .args .m) (start .args .work .now))) (start .args .s .top) (length (start .args .clipped .now)) (sym (top-is (paper (start .args .s)))) (start .pre .9 ∙ clipped-length-is (paper (start .args .s)))
+          ∙ ap (counter-bytes (card-of (paper (start .args .s)))) counts,
+      write-buckets .ensures,
+      write-side .ensures,
     )
 
 pub write-areas-spec : {M : Type 1} → statement M

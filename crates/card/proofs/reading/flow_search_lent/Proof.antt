@@ -12,7 +12,10 @@ one-number-requires : tie.Need-one-number-requires
 one-number-requires c κs = search needs
 
 returns : tie.Need-returns
-returns c = searched-lent (record { p = c .before .before .before .before .before .before .before .args .p; k = c .before .before .before .before .before .before .before .args .k; room = c .before .before .before .before .before .before .before .args .room; top = c .before .before .before .before .before .before .before .args .top; capacity = c .before .before .before .before .before .before .before .args .capacity; side-places = c .before .before .before .before .before .before .before .args .side-places }) (c .before .before .before .before .before .before .before .args .clipped .now) (c .before .before .before .before .before .before .before .args .buckets .now) (c .before .before .before .before .before .before .before .args .side .now) (c .before .before .before .before .before .before .before .args .key .now) (answer-of (c .before .search-lent .result)) (c .one-number .result) (c .one-number .ensures) (c .before .before .before .before .before .before .before .args .table .now) (c .before .search-lent .ensures)
+returns c =
+    let start = c .before .before .before .before .before .before .before in
+    let search-lent = c .before .search-lent in
+    searched-lent (record { p = start .args .p; k = start .args .k; room = start .args .room; top = start .args .top; capacity = start .args .capacity; side-places = start .args .side-places }) (start .args .clipped .now) (start .args .buckets .now) (start .args .side .now) (start .args .key .now) (answer-of (search-lent .result)) (c .one-number .result) (c .one-number .ensures) (start .args .table .now) (search-lent .ensures)
 
 pub flow-search-lent-spec : {M : Type 1} → statement M
 flow-search-lent-spec = tie.close (tie.spec search-lent-requires one-number-requires returns)

@@ -9,13 +9,23 @@ tally-requires : tie.Need-tally-requires
 tally-requires c κs = search needs
 
 returns : tie.Need-returns
-returns c = tallied-1 (record { p = c .before .before .before .before .before .before .before .args .p; k = c .before .before .before .before .before .before .before .args .k; room = c .before .before .before .before .before .before .before .args .room; top = c .before .before .before .before .before .before .before .args .top; capacity = c .before .before .before .before .before .before .before .args .capacity; side-places = c .before .before .before .before .before .before .before .args .side-places }) (c .before .before .before .before .before .before .before .args .ledger .now) (c .before .before .before .before .before .before .before .args .clipped .now) (c .before .before .before .before .before .before .before .args .buckets .now) (c .before .before .before .before .before .before .before .args .side .now) (c .before .before .before .before .before .before .before .args .totals .now) (totals-of (c .before .tally .result)) (c .before .tally .ensures) (c .if1 .taken)
+returns c =
+    let start = c .before .before .before .before .before .before .before in
+    let tally = c .before .tally in
+    tallied-1 (record { p = start .args .p; k = start .args .k; room = start .args .room; top = start .args .top; capacity = start .args .capacity; side-places = start .args .side-places }) (start .args .ledger .now) (start .args .clipped .now) (start .args .buckets .now) (start .args .side .now) (start .args .totals .now) (totals-of (tally .result)) (tally .ensures) (c .if1 .taken)
 
 returns-2 : tie.Need-returns-2
-returns-2 c = tallied-2 (record { p = c .before .before .before .before .before .before .before .before .args .p; k = c .before .before .before .before .before .before .before .before .args .k; room = c .before .before .before .before .before .before .before .before .args .room; top = c .before .before .before .before .before .before .before .before .args .top; capacity = c .before .before .before .before .before .before .before .before .args .capacity; side-places = c .before .before .before .before .before .before .before .before .args .side-places }) (c .before .before .before .before .before .before .before .before .args .ledger .now) (c .before .before .before .before .before .before .before .before .args .clipped .now) (c .before .before .before .before .before .before .before .before .args .buckets .now) (c .before .before .before .before .before .before .before .before .args .side .now) (c .before .before .before .before .before .before .before .before .args .totals .now) (totals-of (c .before .before .tally .result)) (c .before .before .tally .ensures) (c .before .if1 .left) (c .if2 .taken)
+returns-2 c =
+    let start = c .before .before .before .before .before .before .before .before in
+    let tally = c .before .before .tally in
+    tallied-2 (record { p = start .args .p; k = start .args .k; room = start .args .room; top = start .args .top; capacity = start .args .capacity; side-places = start .args .side-places }) (start .args .ledger .now) (start .args .clipped .now) (start .args .buckets .now) (start .args .side .now) (start .args .totals .now) (totals-of (tally .result)) (tally .ensures) (c .before .if1 .left) (c .if2 .taken)
 
 returns-3 : tie.Need-returns-3
-returns-3 c = tallied-refused (record { p = c .before .before .before .before .before .before .before .before .before .args .p; k = c .before .before .before .before .before .before .before .before .before .args .k; room = c .before .before .before .before .before .before .before .before .before .args .room; top = c .before .before .before .before .before .before .before .before .before .args .top; capacity = c .before .before .before .before .before .before .before .before .before .args .capacity; side-places = c .before .before .before .before .before .before .before .before .before .args .side-places }) (c .before .before .before .before .before .before .before .before .before .args .ledger .now) (c .before .before .before .before .before .before .before .before .before .args .clipped .now) (c .before .before .before .before .before .before .before .before .before .args .buckets .now) (c .before .before .before .before .before .before .before .before .before .args .side .now) (c .before .before .before .before .before .before .before .before .before .args .totals .now) (totals-of (c .before .before .before .tally .result)) (c .before .before .before .tally .ensures) (c .before .before .if1 .left) (c .before .if2 .left) (c .if3 .taken)
+returns-3 c =
+    let start = c .before .before .before .before .before .before .before .before .before in
+    let tally = c .before .before .before .tally in
+    let if1 = c .before .before .if1 in
+    tallied-refused (record { p = start .args .p; k = start .args .k; room = start .args .room; top = start .args .top; capacity = start .args .capacity; side-places = start .args .side-places }) (start .args .ledger .now) (start .args .clipped .now) (start .args .buckets .now) (start .args .side .now) (start .args .totals .now) (totals-of (tally .result)) (tally .ensures) (if1 .left) (c .before .if2 .left) (c .if3 .taken)
 
 write-totals-requires : tie.Need-write-totals-requires
 write-totals-requires c κs = search needs
@@ -24,7 +34,14 @@ same-length : tie.Need-same-length
 same-length c = search needs
 
 returns-4 : tie.Need-returns-4
-returns-4 c = tallied (record { p = c .before .before .before .before .before .before .before .before .before .before .before .before .before .args .p; k = c .before .before .before .before .before .before .before .before .before .before .before .before .before .args .k; room = c .before .before .before .before .before .before .before .before .before .before .before .before .before .args .room; top = c .before .before .before .before .before .before .before .before .before .before .before .before .before .args .top; capacity = c .before .before .before .before .before .before .before .before .before .before .before .before .before .args .capacity; side-places = c .before .before .before .before .before .before .before .before .before .before .before .before .before .args .side-places }) (c .before .before .before .before .before .before .before .before .before .before .before .before .before .args .ledger .now) (c .before .before .before .before .before .before .before .before .before .before .before .before .before .args .clipped .now) (c .before .before .before .before .before .before .before .before .before .before .before .before .before .args .buckets .now) (c .before .before .before .before .before .before .before .before .before .before .before .before .before .args .side .now) (c .before .before .before .before .before .before .before .before .before .before .before .before .before .args .totals .now) (totals-of (c .before .before .before .before .before .before .before .tally .result)) (c .before .before .before .before .before .before .before .tally .ensures) (c .before .before .before .before .before .before .if1 .left) (c .before .before .before .before .before .if2 .left) (c .before .before .before .before .if3 .left) _ (c .before .before .write-totals .ensures)
+returns-4 c =
+    let start = c .before .before .before .before .before .before .before .before .before .before .before .before .before in
+    let tally = c .before .before .before .before .before .before .before .tally in
+    let if1 = c .before .before .before .before .before .before .if1 in
+    let if2 = c .before .before .before .before .before .if2 in
+    let if3 = c .before .before .before .before .if3 in
+    let write-totals = c .before .before .write-totals in
+    tallied (record { p = start .args .p; k = start .args .k; room = start .args .room; top = start .args .top; capacity = start .args .capacity; side-places = start .args .side-places }) (start .args .ledger .now) (start .args .clipped .now) (start .args .buckets .now) (start .args .side .now) (start .args .totals .now) (totals-of (tally .result)) (tally .ensures) (if1 .left) (if2 .left) (if3 .left) _ (write-totals .ensures)
 
 pub flow-tally-spec : {M : Type 1} → statement M
 flow-tally-spec =

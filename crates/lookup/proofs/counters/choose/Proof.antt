@@ -38,7 +38,9 @@ cast-best : tie.Need-cast-best Inv-loop μ-loop
 cast-best c = let b = bounds (paper (c .before .before .before .args .s)) (c .before .before .before .pre .0) in omega (arith, c .buckets .ensures)
 
 add-best : tie.Need-add-best Inv-loop μ-loop
-add-best c = let r = ranges (paper (c .before .before .before .args .s)) (c .before .before .before .pre .0) in let b = bounds (paper (c .before .before .before .args .s)) (c .before .before .before .pre .0) in omega (arith, c .buckets .ensures)
+add-best c =
+    let start = c .before .before .before in
+    let r = ranges (paper (start .args .s)) (start .pre .0) in let b = bounds (paper (start .args .s)) (start .pre .0) in omega (arith, c .buckets .ensures)
 
 loop-holds : tie.Need-loop-holds Inv-loop μ-loop
 loop-holds c = (omega arith, omega arith, refl, refl)
@@ -50,7 +52,10 @@ cast-counter : tie.Need-cast-counter Inv-loop μ-loop
 cast-counter c = search needs
 
 counter-requires : tie.Need-counter-requires Inv-loop μ-loop
-counter-requires c κs = counter-there (paper (c .before .before .before .before .before .before .args .s)) (c .before .before .before .before .before .before .pre .0) (c .before .before .before .before .before .before .args .h) (c .before .before .loop .j) (c .before .before .before .before .before .before .args .clipped .now) (c .before .before .before .before .before .before .pre .1) (c .hash-at .result) (c .hash-at .ensures)
+counter-requires c κs =
+    let start = c .before .before .before .before .before .before in
+    let loop = c .before .before .loop in
+    counter-there (paper (start .args .s)) (start .pre .0) (start .args .h) (loop .j) (start .args .clipped .now) (start .pre .1) (c .hash-at .result) (c .hash-at .ensures)
 
 cast-count : tie.Need-cast-count Inv-loop μ-loop
 cast-count c = search needs
@@ -75,22 +80,33 @@ loop-less c = omega arith
 
 loop-again : tie.Need-loop-again Inv-loop μ-loop
 loop-again c =
-    let step = above-again (2 ^ c .before .before .before .before .before .before .before .before .before .args .s .p) (c .before .before .before .before .before .before .before .before .before .args .h) (c .before .before .before .before .before .loop .j) (c .before .before .before .before .before .before .before .before .before .args .s .k) (c .before .before .before .before .before .before .before .before .before .args .s .top) (c .before .before .before .before .before .before .before .before .before .args .clipped .now) (c .before .before .before .before .before .loop .above) (c .before .before .before .before .before .loop .best) (c .before .before .before .before .loop-test .taken) (c .before .before .before .hash-at .result) (c .before .before .counter .result .0) (c .before .before .before .hash-at .ensures) (c .before .before .counter .ensures) (c .before .before .before .before .before .loop .inv .2) in
-    let low = best-again (2 ^ c .before .before .before .before .before .before .before .before .before .args .s .p) (c .before .before .before .before .before .before .before .before .before .args .h) (c .before .before .before .before .before .loop .j) (c .before .before .before .before .before .before .before .before .before .args .s .k) (c .before .before .before .before .before .before .before .before .before .args .s .top) (c .before .before .before .before .before .before .before .before .before .args .clipped .now) (c .before .before .before .before .before .loop .above) (c .before .before .before .before .before .loop .best) (c .before .before .before .before .loop-test .taken) (c .before .before .before .hash-at .result) (c .before .before .counter .result .0) (c .before .before .before .hash-at .ensures) (c .before .before .counter .ensures) (c .before .before .before .before .before .loop .inv .3) in
-    (omega arith, omega (arith, c .lower .ensures, c .before .before .before .before .before .loop .inv .1), step, rw (c .lower .ensures) low)
+    let start = c .before .before .before .before .before .before .before .before .before in
+    let loop = c .before .before .before .before .before .loop in
+    let loop-test = c .before .before .before .before .loop-test in
+    let hash-at = c .before .before .before .hash-at in
+    let counter = c .before .before .counter in
+    let step = above-again (2 ^ start .args .s .p) (start .args .h) (loop .j) (start .args .s .k) (start .args .s .top) (start .args .clipped .now) (loop .above) (loop .best) (loop-test .taken) (hash-at .result) (counter .result .0) (hash-at .ensures) (counter .ensures) (loop .inv .2) in
+    let low = best-again (2 ^ start .args .s .p) (start .args .h) (loop .j) (start .args .s .k) (start .args .s .top) (start .args .clipped .now) (loop .above) (loop .best) (loop-test .taken) (hash-at .result) (counter .result .0) (hash-at .ensures) (counter .ensures) (loop .inv .3) in
+    (omega arith, omega (arith, c .lower .ensures, loop .inv .1), step, rw (c .lower .ensures) low)
 
 cast-t21 : tie.Need-cast-t21 Inv-loop μ-loop
-cast-t21 c = let r = ranges (paper (c .before .before .before .before .before .args .s)) (c .before .before .before .before .before .pre .0) in let b = bounds (paper (c .before .before .before .before .before .args .s)) (c .before .before .before .before .before .pre .0) in omega (arith, c .before .before .buckets .ensures, c .before .loop .inv .1)
+cast-t21 c =
+    let start = c .before .before .before .before .before in
+    let buckets = c .before .before .buckets in
+    let r = ranges (paper (start .args .s)) (start .pre .0) in let b = bounds (paper (start .args .s)) (start .pre .0) in omega (arith, buckets .ensures, c .before .loop .inv .1)
 
 cast-t14 : tie.Need-cast-t14 Inv-loop μ-loop
 cast-t14 c = search needs
 
 returns : tie.Need-returns Inv-loop μ-loop
 returns c =
-    choice-of (paper (c .before .before .before .before .before .args .s)) (c .before .before .before .before .before .pre .0) (c .before .before .before .before .before .args .h) (c .before .before .before .before .before .args .clipped .now) (c .before .loop .above) (c .before .loop .best)
-    (above-end (2 ^ c .before .before .before .before .before .args .s .p) (c .before .before .before .before .before .args .h) (c .before .loop .j) (c .before .before .before .before .before .args .s .k) (c .before .before .before .before .before .args .s .top) (c .before .before .before .before .before .args .clipped .now) (c .before .loop .above) (c .before .loop .best) (c .loop-test .left) (c .before .loop .inv .2))
-    (best-end (2 ^ c .before .before .before .before .before .args .s .p) (c .before .before .before .before .before .args .h) (c .before .loop .j) (c .before .before .before .before .before .args .s .k) (c .before .before .before .before .before .args .s .top) (c .before .before .before .before .before .args .clipped .now) (c .before .loop .above) (c .before .loop .best) (c .loop-test .left) (c .before .loop .inv .3)
-    ∙ ap (λ (m : ℕ). least ((c .before .before .before .before .before .args .s .top) * 65536 + m) (map (both (counter (c .before .before .before .before .before .args .clipped .now))) (hashes (2 ^ c .before .before .before .before .before .args .s .p) (c .before .before .before .before .before .args .h) 0 (c .before .before .before .before .before .args .s .k)))) (c .before .before .buckets .ensures ∙ buckets-are (paper (c .before .before .before .before .before .args .s))))
+    let start = c .before .before .before .before .before in
+    let buckets = c .before .before .buckets in
+    let loop = c .before .loop in
+    choice-of (paper (start .args .s)) (start .pre .0) (start .args .h) (start .args .clipped .now) (loop .above) (loop .best)
+    (above-end (2 ^ start .args .s .p) (start .args .h) (loop .j) (start .args .s .k) (start .args .s .top) (start .args .clipped .now) (loop .above) (loop .best) (c .loop-test .left) (loop .inv .2))
+    (best-end (2 ^ start .args .s .p) (start .args .h) (loop .j) (start .args .s .k) (start .args .s .top) (start .args .clipped .now) (loop .above) (loop .best) (c .loop-test .left) (loop .inv .3)
+    ∙ ap (λ (m : ℕ). least ((start .args .s .top) * 65536 + m) (map (both (counter (start .args .clipped .now))) (hashes (2 ^ start .args .s .p) (start .args .h) 0 (start .args .s .k)))) (buckets .ensures ∙ buckets-are (paper (start .args .s))))
 
 pub choose-spec : {M : Type 1} → statement M
 choose-spec =

@@ -24,19 +24,35 @@ enum-known-judged : tie.Need-enum-known-judged
 enum-known-judged c = search needs
 
 h-rows-requires : tie.Need-h-rows-requires
-h-rows-requires c κs = let g = fine (record { p = c .before .before .before .before .before .before .before .before .args .p; k = c .before .before .before .before .before .before .before .before .args .k; room = c .before .before .before .before .before .before .before .before .args .room; top = c .before .before .before .before .before .before .before .before .args .top; capacity = c .before .before .before .before .before .before .before .before .args .capacity; side-places = c .before .before .before .before .before .before .before .before .args .side-places }) (c .before .before .before .before .before .before .before .before .args .clipped .now) (c .before .before .before .before .before .before .before .before .args .buckets .now) (c .before .before .before .before .before .before .before .before .args .side .now) (c .before .before .before .before .before .before .before .before .args .key .now) (c .before .judged .given .0 .0) (sym (c .before .before .before .judge .ensures) ∙ c .before .judged .given .1) in g .wide ∙ width-is (paper (c .before .judged .given .0 .0))
+h-rows-requires c κs =
+    let start = c .before .before .before .before .before .before .before .before in
+    let judge = c .before .before .before .judge in
+    let judged = c .before .judged in
+    let g = fine (record { p = start .args .p; k = start .args .k; room = start .args .room; top = start .args .top; capacity = start .args .capacity; side-places = start .args .side-places }) (start .args .clipped .now) (start .args .buckets .now) (start .args .side .now) (start .args .key .now) (judged .given .0 .0) (sym (judge .ensures) ∙ judged .given .1) in g .wide ∙ width-is (paper (judged .given .0 .0))
 
 fetch-at-requires : tie.Need-fetch-at-requires
-fetch-at-requires c κs = let g = fine (record { p = c .before .before .before .before .before .before .before .before .before .args .p; k = c .before .before .before .before .before .before .before .before .before .args .k; room = c .before .before .before .before .before .before .before .before .before .args .room; top = c .before .before .before .before .before .before .before .before .before .args .top; capacity = c .before .before .before .before .before .before .before .before .before .args .capacity; side-places = c .before .before .before .before .before .before .before .before .before .args .side-places }) (c .before .before .before .before .before .before .before .before .before .args .clipped .now) (c .before .before .before .before .before .before .before .before .before .args .buckets .now) (c .before .before .before .before .before .before .before .before .before .args .side .now) (c .before .before .before .before .before .before .before .before .before .args .key .now) (c .before .before .judged .given .0 .0) (sym (c .before .before .before .before .judge .ensures) ∙ c .before .before .judged .given .1) in (g .lent, g .wide)
+fetch-at-requires c κs =
+    let start = c .before .before .before .before .before .before .before .before .before in
+    let judge = c .before .before .before .before .judge in
+    let judged = c .before .before .judged in
+    let g = fine (record { p = start .args .p; k = start .args .k; room = start .args .room; top = start .args .top; capacity = start .args .capacity; side-places = start .args .side-places }) (start .args .clipped .now) (start .args .buckets .now) (start .args .side .now) (start .args .key .now) (judged .given .0 .0) (sym (judge .ensures) ∙ judged .given .1) in (g .lent, g .wide)
 
 returns : tie.Need-returns
-returns c = call-refused (record { p = c .before .before .before .before .before .before .before .before .args .p; k = c .before .before .before .before .before .before .before .before .args .k; room = c .before .before .before .before .before .before .before .before .args .room; top = c .before .before .before .before .before .before .before .before .args .top; capacity = c .before .before .before .before .before .before .before .before .args .capacity; side-places = c .before .before .before .before .before .before .before .before .args .side-places }) (c .before .before .before .before .before .before .before .before .args .clipped .now) (c .before .before .before .before .before .before .before .before .args .buckets) (c .before .before .before .before .before .before .before .before .args .side) (c .before .before .before .before .before .before .before .before .args .key .now) _ refl (c .before .enum-told .given .0 .0) (sym (c .before .before .before .judge .ensures) ∙ c .before .enum-told .given .1)
+returns c =
+    let start = c .before .before .before .before .before .before .before .before in
+    let judge = c .before .before .before .judge in
+    let enum-told = c .before .enum-told in
+    call-refused (record { p = start .args .p; k = start .args .k; room = start .args .room; top = start .args .top; capacity = start .args .capacity; side-places = start .args .side-places }) (start .args .clipped .now) (start .args .buckets) (start .args .side) (start .args .key .now) _ refl (enum-told .given .0 .0) (sym (judge .ensures) ∙ enum-told .given .1)
 
 returns-2 : tie.Need-returns-2
 returns-2 c =
-    let g = fine (record { p = c .before .before .before .before .before .before .before .before .before .before .args .p; k = c .before .before .before .before .before .before .before .before .before .before .args .k; room = c .before .before .before .before .before .before .before .before .before .before .args .room; top = c .before .before .before .before .before .before .before .before .before .before .args .top; capacity = c .before .before .before .before .before .before .before .before .before .before .args .capacity; side-places = c .before .before .before .before .before .before .before .before .before .before .args .side-places }) (c .before .before .before .before .before .before .before .before .before .before .args .clipped .now) (c .before .before .before .before .before .before .before .before .before .before .args .buckets .now) (c .before .before .before .before .before .before .before .before .before .before .args .side .now) (c .before .before .before .before .before .before .before .before .before .before .args .key .now) (c .before .before .before .judged .given .0 .0) (sym (c .before .before .before .before .before .judge .ensures) ∙ c .before .before .before .judged .given .1) in
-    call-fetched (record { p = c .before .before .before .before .before .before .before .before .before .before .args .p; k = c .before .before .before .before .before .before .before .before .before .before .args .k; room = c .before .before .before .before .before .before .before .before .before .before .args .room; top = c .before .before .before .before .before .before .before .before .before .before .args .top; capacity = c .before .before .before .before .before .before .before .before .before .before .args .capacity; side-places = c .before .before .before .before .before .before .before .before .before .before .args .side-places }) (c .before .before .before .before .before .before .before .before .before .before .args .clipped .now) (c .before .before .before .before .before .before .before .before .before .before .args .buckets) (c .before .before .before .before .before .before .before .before .before .before .args .side) (c .before .before .before .before .before .before .before .before .before .before .args .key .now) (c .fetch-at .result) (c .before .before .before .judged .given .0 .0) (sym (c .before .before .before .before .before .judge .ensures) ∙ c .before .before .before .judged .given .1) (c .before .h-rows .result) (c .before .h-rows .ensures)
-    (subst (λ (t : Settings). Fetched (card-at t (c .before .h-rows .result)) (c .before .before .before .before .before .before .before .before .before .before .args .clipped .now) (c .before .before .before .before .before .before .before .before .before .before .args .buckets) (c .before .before .before .before .before .before .before .before .before .before .args .side) (c .before .before .before .before .before .before .before .before .before .before .args .key .now) (c .fetch-at .result)) (g .same) (c .fetch-at .ensures))
+    let start = c .before .before .before .before .before .before .before .before .before .before in
+    let judge = c .before .before .before .before .before .judge in
+    let judged = c .before .before .before .judged in
+    let h-rows = c .before .h-rows in
+    let g = fine (record { p = start .args .p; k = start .args .k; room = start .args .room; top = start .args .top; capacity = start .args .capacity; side-places = start .args .side-places }) (start .args .clipped .now) (start .args .buckets .now) (start .args .side .now) (start .args .key .now) (judged .given .0 .0) (sym (judge .ensures) ∙ judged .given .1) in
+    call-fetched (record { p = start .args .p; k = start .args .k; room = start .args .room; top = start .args .top; capacity = start .args .capacity; side-places = start .args .side-places }) (start .args .clipped .now) (start .args .buckets) (start .args .side) (start .args .key .now) (c .fetch-at .result) (judged .given .0 .0) (sym (judge .ensures) ∙ judged .given .1) (h-rows .result) (h-rows .ensures)
+    (subst (λ (t : Settings). Fetched (card-at t (h-rows .result)) (start .args .clipped .now) (start .args .buckets) (start .args .side) (start .args .key .now) (c .fetch-at .result)) (g .same) (c .fetch-at .ensures))
 
 pub fetch-spec : {M : Type 1} → statement M
 fetch-spec =

@@ -33,16 +33,19 @@ part-record-of-end : tie.Need-part-record-of-end
 part-record-of-end c = search needs
 
 record-of-requires : tie.Need-record-of-requires
-record-of-requires c κs = (
-  bucket-room (paper (c .before .before .before .before .args .s)) (c .before .before .before .before .pre .0) (length (c .before .before .before .before .args .key .now)) (c .before .before .before .before .args .n) (c .before .before .before .before .pre .2) (c .before .before .before .before .args .buckets .now) (c .before .before .before .before .args .from) (c .before .bucket-size .result) (c .before .bucket-size .ensures) (c .before .before .before .before .pre .3) (c .before .before .before .before .pre .4),
-  omega (arith, c .before .before .before .before .pre .2, width-is (paper (c .before .before .before .before .args .s))),
-)
+record-of-requires c κs =
+    let start = c .before .before .before .before in
+    let bucket-size = c .before .bucket-size in (
+      bucket-room (paper (start .args .s)) (start .pre .0) (length (start .args .key .now)) (start .args .n) (start .pre .2) (start .args .buckets .now) (start .args .from) (bucket-size .result) (bucket-size .ensures) (start .pre .3) (start .pre .4),
+      omega (arith, start .pre .2, width-is (paper (start .args .s))),
+    )
 
 returns : tie.Need-returns
 returns c =
-    let len : c .before .before .before .before .before .args .from + (c .before .before .bucket-size .result - 1) - c .before .before .before .before .before .args .from ≡ bucket-size (card-of (paper (c .before .before .before .before .before .args .s))) - 1 = rw (add-sub-cancel-left (c .before .before .before .before .before .args .from) (c .before .before .bucket-size .result - 1), c .before .before .bucket-size .ensures) in
-    subst (λ (z : ℕ). InPart (card-of (paper (c .before .before .before .before .before .args .s))) (take z (drop (c .before .before .before .before .before .args .from) (c .before .before .before .before .before .args .buckets .now))) (c .before .before .before .before .before .args .n) (c .before .before .before .before .before .args .buckets) (c .before .before .before .before .before .args .key .now) (c .record-of .result)) len
-    (in-part (card-of (paper (c .before .before .before .before .before .args .s))) (c .before .before .before .before .before .args .buckets) _ (c .record-of .result) (c .before .before .before .before .before .args .from) (c .before .before .before .before .before .args .from + (c .before .before .bucket-size .result - 1) - c .before .before .before .before .before .args .from) (c .before .before .before .before .before .args .n) (c .before .before .before .before .before .args .key .now) (c .before .before .before .before .before .pre .2) refl refl (c .record-of .ensures))
+    let start = c .before .before .before .before .before in
+    let len : start .args .from + (c .before .before .bucket-size .result - 1) - start .args .from ≡ bucket-size (card-of (paper (start .args .s))) - 1 = rw (add-sub-cancel-left (start .args .from) (c .before .before .bucket-size .result - 1), c .before .before .bucket-size .ensures) in
+    subst (λ (z : ℕ). InPart (card-of (paper (start .args .s))) (take z (drop (start .args .from) (start .args .buckets .now))) (start .args .n) (start .args .buckets) (start .args .key .now) (c .record-of .result)) len
+    (in-part (card-of (paper (start .args .s))) (start .args .buckets) _ (c .record-of .result) (start .args .from) (start .args .from + (c .before .before .bucket-size .result - 1) - start .args .from) (start .args .n) (start .args .key .now) (start .pre .2) refl refl (c .record-of .ensures))
 
 pub record-in-bucket-spec : {M : Type 1} → statement M
 record-in-bucket-spec =

@@ -24,15 +24,17 @@ part-record-of-end : tie.Need-part-record-of-end
 part-record-of-end c = search needs
 
 record-of-requires : tie.Need-record-of-requires
-record-of-requires c κs = (
-  side-room (paper (c .before .before .before .args .s)) (c .before .before .before .pre .0) (length (c .before .before .before .args .key .now)) (c .before .before .before .args .n) (c .before .before .before .pre .2) (c .before .before .before .args .side .now) (c .before .before .before .pre .1) (c .before .before .before .pre .3),
-  omega (arith, c .before .before .before .pre .2, width-is (paper (c .before .before .before .args .s))),
-)
+record-of-requires c κs =
+    let start = c .before .before .before in (
+      side-room (paper (start .args .s)) (start .pre .0) (length (start .args .key .now)) (start .args .n) (start .pre .2) (start .args .side .now) (start .pre .1) (start .pre .3),
+      omega (arith, start .pre .2, width-is (paper (start .args .s))),
+    )
 
 returns : tie.Need-returns
 returns c =
-    subst (λ (x : List ℕ). InPart (card-of (paper (c .before .before .before .before .args .s))) x (c .before .before .before .before .args .n) (c .before .before .before .before .args .side) (c .before .before .before .before .args .key .now) (c .record-of .result)) (to-end (c .before .before .before .before .args .side .now))
-    (in-part (card-of (paper (c .before .before .before .before .args .s))) (c .before .before .before .before .args .side) _ (c .record-of .result) 2 (length (c .before .before .before .before .args .side .now) - 2) (c .before .before .before .before .args .n) (c .before .before .before .before .args .key .now) (c .before .before .before .before .pre .2) refl refl (c .record-of .ensures))
+    let start = c .before .before .before .before in
+    subst (λ (x : List ℕ). InPart (card-of (paper (start .args .s))) x (start .args .n) (start .args .side) (start .args .key .now) (c .record-of .result)) (to-end (start .args .side .now))
+    (in-part (card-of (paper (start .args .s))) (start .args .side) _ (c .record-of .result) 2 (length (start .args .side .now) - 2) (start .args .n) (start .args .key .now) (start .pre .2) refl refl (c .record-of .ensures))
 
 pub record-in-side-spec : {M : Type 1} → statement M
 record-in-side-spec =

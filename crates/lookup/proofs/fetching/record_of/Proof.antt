@@ -29,12 +29,15 @@ part-result-end c = omega (arith, c .before .scan .ensures .room (c .if1 .taken)
 
 returns : tie.Need-returns
 returns c =
-    let w = length (c .before .before .before .before .before .args .key .now) in
-    let at = c .before .before .scan .result .at in
-    let e : find-bytes w (c .before .before .before .before .before .args .n) (c .before .before .before .before .before .args .place .now) (c .before .before .before .before .before .args .key .now) ≡ take (w + 4) (drop at (c .before .before .before .before .before .args .place .now)) = rw (c .before .if1 .taken) at (c .before .before .scan .ensures .part) in
+    let start = c .before .before .before .before .before in
+    let scan = c .before .before .scan in
+    let if1 = c .before .if1 in
+    let w = length (start .args .key .now) in
+    let at = scan .result .at in
+    let e : find-bytes w (start .args .n) (start .args .place .now) (start .args .key .now) ≡ take (w + 4) (drop at (start .args .place .now)) = rw (if1 .taken) at (scan .ensures .part) in
     record {
       is = rw (add-sub-cancel-left at (w + 4)) (sym e);
-      lies = λ some. record { at = at; part = record { inside = c .before .before .scan .ensures .room (c .before .if1 .taken); bytes = rw (add-sub-cancel-left at (w + 4)); there = refl } };
+      lies = λ some. record { at = at; part = record { inside = scan .ensures .room (if1 .taken); bytes = rw (add-sub-cancel-left at (w + 4)); there = refl } };
     }
 
 slice-aggregate-result : tie.Need-slice-aggregate-result

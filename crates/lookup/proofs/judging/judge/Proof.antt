@@ -18,13 +18,24 @@ enum-told : tie.Need-enum-told
 enum-told c = search needs
 
 returns : tie.Need-returns
-returns c = judged-1 (record { p = c .before .before .before .before .before .before .before .args .p; k = c .before .before .before .before .before .before .before .args .k; room = c .before .before .before .before .before .before .before .args .room; top = c .before .before .before .before .before .before .before .args .top; capacity = c .before .before .before .before .before .before .before .args .capacity; side-places = c .before .before .before .before .before .before .before .args .side-places }) (c .before .before .before .before .before .before .before .args .clipped .now) (c .before .before .before .before .before .before .before .args .buckets .now) (c .before .before .before .before .before .before .before .args .side .now) (c .before .before .before .before .before .before .before .args .key .now) (refused-arm (record { p = c .before .before .before .before .before .before .before .args .p; k = c .before .before .before .before .before .before .before .args .k; room = c .before .before .before .before .before .before .before .args .room; top = c .before .before .before .before .before .before .before .args .top; capacity = c .before .before .before .before .before .before .before .args .capacity; side-places = c .before .before .before .before .before .before .before .args .side-places }) (c .before .before .new .result) (c .before .before .new .ensures) (c .enum-told .given .1))
+returns c =
+    let start = c .before .before .before .before .before .before .before in
+    let new = c .before .before .new in
+    judged-1 (record { p = start .args .p; k = start .args .k; room = start .args .room; top = start .args .top; capacity = start .args .capacity; side-places = start .args .side-places }) (start .args .clipped .now) (start .args .buckets .now) (start .args .side .now) (start .args .key .now) (refused-arm (record { p = start .args .p; k = start .args .k; room = start .args .room; top = start .args .top; capacity = start .args .capacity; side-places = start .args .side-places }) (new .result) (new .ensures) (c .enum-told .given .1))
 
 judge-areas-requires : tie.Need-judge-areas-requires
-judge-areas-requires c κs = allowed-settings (record { p = c .before .before .before .before .before .before .before .before .args .p; k = c .before .before .before .before .before .before .before .before .args .k; room = c .before .before .before .before .before .before .before .before .args .room; top = c .before .before .before .before .before .before .before .before .args .top; capacity = c .before .before .before .before .before .before .before .before .args .capacity; side-places = c .before .before .before .before .before .before .before .before .args .side-places }) (c .before .before .before .new .result) (c .before .before .before .new .ensures) (c .before .checked .given .0 .0) (c .before .checked .given .1)
+judge-areas-requires c κs =
+    let start = c .before .before .before .before .before .before .before .before in
+    let new = c .before .before .before .new in
+    let checked = c .before .checked in
+    allowed-settings (record { p = start .args .p; k = start .args .k; room = start .args .room; top = start .args .top; capacity = start .args .capacity; side-places = start .args .side-places }) (new .result) (new .ensures) (checked .given .0 .0) (checked .given .1)
 
 returns-2 : tie.Need-returns-2
-returns-2 c = let arm = allowed-arm (record { p = c .before .before .before .before .before .before .before .before .before .args .p; k = c .before .before .before .before .before .before .before .before .before .args .k; room = c .before .before .before .before .before .before .before .before .before .args .room; top = c .before .before .before .before .before .before .before .before .before .args .top; capacity = c .before .before .before .before .before .before .before .before .before .args .capacity; side-places = c .before .before .before .before .before .before .before .before .before .args .side-places }) (c .before .before .before .before .new .result) (c .before .before .before .before .new .ensures) (c .before .before .checked .given .0 .0) (c .before .before .checked .given .1) in c .judge-areas .ensures ∙ ap (λ (t : Settings). judged-of t (c .before .before .before .before .before .before .before .before .before .args .clipped .now) (c .before .before .before .before .before .before .before .before .before .args .buckets .now) (c .before .before .before .before .before .before .before .before .before .args .side .now) (c .before .before .before .before .before .before .before .before .before .args .key .now)) (arm .1)
+returns-2 c =
+    let start = c .before .before .before .before .before .before .before .before .before in
+    let new = c .before .before .before .before .new in
+    let checked = c .before .before .checked in
+    let arm = allowed-arm (record { p = start .args .p; k = start .args .k; room = start .args .room; top = start .args .top; capacity = start .args .capacity; side-places = start .args .side-places }) (new .result) (new .ensures) (checked .given .0 .0) (checked .given .1) in c .judge-areas .ensures ∙ ap (λ (t : Settings). judged-of t (start .args .clipped .now) (start .args .buckets .now) (start .args .side .now) (start .args .key .now)) (arm .1)
 
 pub judge-spec : {M : Type 1} → statement M
 judge-spec =

@@ -17,16 +17,35 @@ side-length-requires : tie.Need-side-length-requires
 side-length-requires c κs = search needs
 
 returns : tie.Need-returns
-returns c = judged-2 (paper (c .before .before .before .before .before .before .before .before .args .s)) (c .before .before .before .before .before .before .before .before .args .clipped .now) (c .before .before .before .before .before .before .before .before .args .buckets .now) (c .before .before .before .before .before .before .before .before .args .side .now) (c .before .before .before .before .before .before .before .before .args .key .now) (c .before .before .before .before .before .before .before .before .pre) (c .before .before .before .before .before .before .before .before .args .s) refl (c .before .before .before .clipped-length .result) (c .before .before .buckets-length .result) (c .before .side-length .result) (c .before .before .before .clipped-length .ensures) (c .before .before .buckets-length .ensures) (c .before .side-length .ensures) (not-true _ (c .if1 .taken))
+returns c =
+    let start = c .before .before .before .before .before .before .before .before in
+    let clipped-length = c .before .before .before .clipped-length in
+    let buckets-length = c .before .before .buckets-length in
+    let side-length = c .before .side-length in
+    judged-2 (paper (start .args .s)) (start .args .clipped .now) (start .args .buckets .now) (start .args .side .now) (start .args .key .now) (start .pre) (start .args .s) refl (clipped-length .result) (buckets-length .result) (side-length .result) (clipped-length .ensures) (buckets-length .ensures) (side-length .ensures) (not-true _ (c .if1 .taken))
 
 width-requires : tie.Need-width-requires
 width-requires c κs = search needs
 
 returns-2 : tie.Need-returns-2
-returns-2 c = judged-3 (paper (c .before .before .before .before .before .before .before .before .before .before .args .s)) (c .before .before .before .before .before .before .before .before .before .before .args .clipped .now) (c .before .before .before .before .before .before .before .before .before .before .args .buckets .now) (c .before .before .before .before .before .before .before .before .before .before .args .side .now) (c .before .before .before .before .before .before .before .before .before .before .args .key .now) (c .before .before .before .before .before .before .before .before .before .before .pre) (c .before .before .before .before .before .before .before .before .before .before .args .s) refl (c .before .before .before .before .before .clipped-length .result) (c .before .before .before .before .buckets-length .result) (c .before .before .before .side-length .result) (c .before .before .before .before .before .clipped-length .ensures) (c .before .before .before .before .buckets-length .ensures) (c .before .before .before .side-length .ensures) (not-false _ (c .before .before .if1 .left)) (c .before .width .result) (c .before .width .ensures) (c .if2 .taken)
+returns-2 c =
+    let start = c .before .before .before .before .before .before .before .before .before .before in
+    let clipped-length = c .before .before .before .before .before .clipped-length in
+    let buckets-length = c .before .before .before .before .buckets-length in
+    let side-length = c .before .before .before .side-length in
+    let if1 = c .before .before .if1 in
+    let width = c .before .width in
+    judged-3 (paper (start .args .s)) (start .args .clipped .now) (start .args .buckets .now) (start .args .side .now) (start .args .key .now) (start .pre) (start .args .s) refl (clipped-length .result) (buckets-length .result) (side-length .result) (clipped-length .ensures) (buckets-length .ensures) (side-length .ensures) (not-false _ (if1 .left)) (width .result) (width .ensures) (c .if2 .taken)
 
 returns-3 : tie.Need-returns-3
-returns-3 c = judged-ready (paper (c .before .before .before .before .before .before .before .before .before .before .args .s)) (c .before .before .before .before .before .before .before .before .before .before .args .clipped .now) (c .before .before .before .before .before .before .before .before .before .before .args .buckets .now) (c .before .before .before .before .before .before .before .before .before .before .args .side .now) (c .before .before .before .before .before .before .before .before .before .before .args .key .now) (c .before .before .before .before .before .before .before .before .before .before .pre) (c .before .before .before .before .before .before .before .before .before .before .args .s) refl (c .before .before .before .before .before .clipped-length .result) (c .before .before .before .before .buckets-length .result) (c .before .before .before .side-length .result) (c .before .before .before .before .before .clipped-length .ensures) (c .before .before .before .before .buckets-length .ensures) (c .before .before .before .side-length .ensures) (not-false _ (c .before .before .if1 .left)) (c .before .width .result) (c .before .width .ensures) (c .if2 .left)
+returns-3 c =
+    let start = c .before .before .before .before .before .before .before .before .before .before in
+    let clipped-length = c .before .before .before .before .before .clipped-length in
+    let buckets-length = c .before .before .before .before .buckets-length in
+    let side-length = c .before .before .before .side-length in
+    let if1 = c .before .before .if1 in
+    let width = c .before .width in
+    judged-ready (paper (start .args .s)) (start .args .clipped .now) (start .args .buckets .now) (start .args .side .now) (start .args .key .now) (start .pre) (start .args .s) refl (clipped-length .result) (buckets-length .result) (side-length .result) (clipped-length .ensures) (buckets-length .ensures) (side-length .ensures) (not-false _ (if1 .left)) (width .result) (width .ensures) (c .if2 .left)
 
 pub judge-areas-spec : {M : Type 1} → statement M
 judge-areas-spec =

@@ -18,7 +18,10 @@ enum-told : tie.Need-enum-told
 enum-told c = search needs
 
 returns : tie.Need-returns
-returns c = lent-1 (c .before .before .before .before .before .before .before .before .args .table .now) (record { p = c .before .before .before .before .before .before .before .before .args .p; k = c .before .before .before .before .before .before .before .before .args .k; room = c .before .before .before .before .before .before .before .before .args .room; top = c .before .before .before .before .before .before .before .before .args .top; capacity = c .before .before .before .before .before .before .before .before .args .capacity; side-places = c .before .before .before .before .before .before .before .before .args .side-places }) (c .before .before .before .before .before .before .before .before .args .clipped .now) (c .before .before .before .before .before .before .before .before .args .buckets .now) (c .before .before .before .before .before .before .before .before .args .side .now) (c .before .before .before .before .before .before .before .before .args .key .now) (refused-arm (record { p = c .before .before .before .before .before .before .before .before .args .p; k = c .before .before .before .before .before .before .before .before .args .k; room = c .before .before .before .before .before .before .before .before .args .room; top = c .before .before .before .before .before .before .before .before .args .top; capacity = c .before .before .before .before .before .before .before .before .args .capacity; side-places = c .before .before .before .before .before .before .before .before .args .side-places }) (c .before .before .new .result) (c .before .before .new .ensures) (c .enum-told .given .1))
+returns c =
+    let start = c .before .before .before .before .before .before .before .before in
+    let new = c .before .before .new in
+    lent-1 (start .args .table .now) (record { p = start .args .p; k = start .args .k; room = start .args .room; top = start .args .top; capacity = start .args .capacity; side-places = start .args .side-places }) (start .args .clipped .now) (start .args .buckets .now) (start .args .side .now) (start .args .key .now) (refused-arm (record { p = start .args .p; k = start .args .k; room = start .args .room; top = start .args .top; capacity = start .args .capacity; side-places = start .args .side-places }) (new .result) (new .ensures) (c .enum-told .given .1))
 
 width-requires : tie.Need-width-requires
 width-requires c κs = search needs
@@ -27,13 +30,27 @@ mul-if1 : tie.Need-mul-if1
 mul-if1 c = omega (arith, c .width .ensures, width-is (paper (c .before .before .checked .given .0 .0)))
 
 returns-2 : tie.Need-returns-2
-returns-2 c = let arm = allowed-arm (record { p = c .before .before .before .before .before .before .before .before .before .before .before .args .p; k = c .before .before .before .before .before .before .before .before .before .before .before .args .k; room = c .before .before .before .before .before .before .before .before .before .before .before .args .room; top = c .before .before .before .before .before .before .before .before .before .before .before .args .top; capacity = c .before .before .before .before .before .before .before .before .before .before .before .args .capacity; side-places = c .before .before .before .before .before .before .before .before .before .before .before .args .side-places }) (c .before .before .before .before .before .new .result) (c .before .before .before .before .before .new .ensures) (c .before .before .before .checked .given .0 .0) (c .before .before .before .checked .given .1) in lent-2 (c .before .before .before .before .before .before .before .before .before .before .before .args .table .now) (record { p = c .before .before .before .before .before .before .before .before .before .before .before .args .p; k = c .before .before .before .before .before .before .before .before .before .before .before .args .k; room = c .before .before .before .before .before .before .before .before .before .before .before .args .room; top = c .before .before .before .before .before .before .before .before .before .before .before .args .top; capacity = c .before .before .before .before .before .before .before .before .before .before .before .args .capacity; side-places = c .before .before .before .before .before .before .before .before .before .before .before .args .side-places }) (c .before .before .before .before .before .before .before .before .before .before .before .args .clipped .now) (c .before .before .before .before .before .before .before .before .before .before .before .args .buckets .now) (c .before .before .before .before .before .before .before .before .before .before .before .args .side .now) (c .before .before .before .before .before .before .before .before .before .before .before .args .key .now) (arm .0) (c .before .before .before .checked .given .0 .0) (arm .1) (c .before .width .result) (c .before .width .ensures) (c .if1 .taken)
+returns-2 c =
+    let start = c .before .before .before .before .before .before .before .before .before .before .before in
+    let new = c .before .before .before .before .before .new in
+    let checked = c .before .before .before .checked in
+    let width = c .before .width in
+    let arm = allowed-arm (record { p = start .args .p; k = start .args .k; room = start .args .room; top = start .args .top; capacity = start .args .capacity; side-places = start .args .side-places }) (new .result) (new .ensures) (checked .given .0 .0) (checked .given .1) in lent-2 (start .args .table .now) (record { p = start .args .p; k = start .args .k; room = start .args .room; top = start .args .top; capacity = start .args .capacity; side-places = start .args .side-places }) (start .args .clipped .now) (start .args .buckets .now) (start .args .side .now) (start .args .key .now) (arm .0) (checked .given .0 .0) (arm .1) (width .result) (width .ensures) (c .if1 .taken)
 
 judge-areas-requires : tie.Need-judge-areas-requires
-judge-areas-requires c κs = allowed-settings (record { p = c .before .before .before .before .before .before .before .before .before .before .before .args .p; k = c .before .before .before .before .before .before .before .before .before .before .before .args .k; room = c .before .before .before .before .before .before .before .before .before .before .before .args .room; top = c .before .before .before .before .before .before .before .before .before .before .before .args .top; capacity = c .before .before .before .before .before .before .before .before .before .before .before .args .capacity; side-places = c .before .before .before .before .before .before .before .before .before .before .before .args .side-places }) (c .before .before .before .before .before .new .result) (c .before .before .before .before .before .new .ensures) (c .before .before .before .checked .given .0 .0) (c .before .before .before .checked .given .1)
+judge-areas-requires c κs =
+    let start = c .before .before .before .before .before .before .before .before .before .before .before in
+    let new = c .before .before .before .before .before .new in
+    let checked = c .before .before .before .checked in
+    allowed-settings (record { p = start .args .p; k = start .args .k; room = start .args .room; top = start .args .top; capacity = start .args .capacity; side-places = start .args .side-places }) (new .result) (new .ensures) (checked .given .0 .0) (checked .given .1)
 
 returns-3 : tie.Need-returns-3
-returns-3 c = let arm = allowed-arm (record { p = c .before .before .before .before .before .before .before .before .before .before .before .before .args .p; k = c .before .before .before .before .before .before .before .before .before .before .before .before .args .k; room = c .before .before .before .before .before .before .before .before .before .before .before .before .args .room; top = c .before .before .before .before .before .before .before .before .before .before .before .before .args .top; capacity = c .before .before .before .before .before .before .before .before .before .before .before .before .args .capacity; side-places = c .before .before .before .before .before .before .before .before .before .before .before .before .args .side-places }) (c .before .before .before .before .before .before .new .result) (c .before .before .before .before .before .before .new .ensures) (c .before .before .before .before .checked .given .0 .0) (c .before .before .before .before .checked .given .1) in c .judge-areas .ensures ∙ lent-on (c .before .before .before .before .before .before .before .before .before .before .before .before .args .table .now) (record { p = c .before .before .before .before .before .before .before .before .before .before .before .before .args .p; k = c .before .before .before .before .before .before .before .before .before .before .before .before .args .k; room = c .before .before .before .before .before .before .before .before .before .before .before .before .args .room; top = c .before .before .before .before .before .before .before .before .before .before .before .before .args .top; capacity = c .before .before .before .before .before .before .before .before .before .before .before .before .args .capacity; side-places = c .before .before .before .before .before .before .before .before .before .before .before .before .args .side-places }) (c .before .before .before .before .before .before .before .before .before .before .before .before .args .clipped .now) (c .before .before .before .before .before .before .before .before .before .before .before .before .args .buckets .now) (c .before .before .before .before .before .before .before .before .before .before .before .before .args .side .now) (c .before .before .before .before .before .before .before .before .before .before .before .before .args .key .now) (arm .0) (c .before .before .before .before .checked .given .0 .0) (arm .1) (c .before .before .width .result) (c .before .before .width .ensures) (c .before .if1 .left)
+returns-3 c =
+    let start = c .before .before .before .before .before .before .before .before .before .before .before .before in
+    let new = c .before .before .before .before .before .before .new in
+    let checked = c .before .before .before .before .checked in
+    let width = c .before .before .width in
+    let arm = allowed-arm (record { p = start .args .p; k = start .args .k; room = start .args .room; top = start .args .top; capacity = start .args .capacity; side-places = start .args .side-places }) (new .result) (new .ensures) (checked .given .0 .0) (checked .given .1) in c .judge-areas .ensures ∙ lent-on (start .args .table .now) (record { p = start .args .p; k = start .args .k; room = start .args .room; top = start .args .top; capacity = start .args .capacity; side-places = start .args .side-places }) (start .args .clipped .now) (start .args .buckets .now) (start .args .side .now) (start .args .key .now) (arm .0) (checked .given .0 .0) (arm .1) (width .result) (width .ensures) (c .before .if1 .left)
 
 pub judge-lent-spec : {M : Type 1} → statement M
 judge-lent-spec =

@@ -18,33 +18,53 @@ choose-requires : tie.Need-choose-requires
 choose-requires c κs = search needs
 
 returns : tie.Need-returns
-returns c = (λ key. place-above (paper (c .before .before .before .before .before .args .s)) (c .before .before .before .before .before .pre .ok) (c .before .before .before .before .before .args .h) (c .before .before .before .before .before .args .clipped .now) (c .before .before .before .before .before .args .buckets .now) (c .before .before .before .before .before .args .side .now) key (sym (c .before .choose .ensures .above) ∙ c .if1 .taken), tt, λ key. tt)
+returns c =
+    let start = c .before .before .before .before .before in
+    (λ key. place-above (paper (start .args .s)) (start .pre .ok) (start .args .h) (start .args .clipped .now) (start .args .buckets .now) (start .args .side .now) key (sym (c .before .choose .ensures .above) ∙ c .if1 .taken), tt, λ key. tt)
 
 cast-least : tie.Need-cast-least
 cast-least c = search needs
 
 returns-2 : tie.Need-returns-2
-returns-2 c = (λ key. place-zero (paper (c .before .before .before .before .before .before .before .args .s)) (c .before .before .before .before .before .before .before .pre .ok) (c .before .before .before .before .before .before .before .args .h) (c .before .before .before .before .before .before .before .args .clipped .now) (c .before .before .before .before .before .before .before .args .buckets .now) (c .before .before .before .before .before .before .before .args .side .now) key (sym (c .before .before .before .choose .ensures .above) ∙ c .before .before .if1 .left) (sym (c .before .before .before .choose .ensures .least key) ∙ c .if2 .taken), tt, λ key. tt)
+returns-2 c =
+    let start = c .before .before .before .before .before .before .before in
+    let choose = c .before .before .before .choose in
+    let if1 = c .before .before .if1 in
+    (λ key. place-zero (paper (start .args .s)) (start .pre .ok) (start .args .h) (start .args .clipped .now) (start .args .buckets .now) (start .args .side .now) key (sym (choose .ensures .above) ∙ if1 .left) (sym (choose .ensures .least key) ∙ c .if2 .taken), tt, λ key. tt)
 
 side-place-requires : tie.Need-side-place-requires
 side-place-requires c κs = search needs
 
 returns-3 : tie.Need-returns-3
-returns-3 c = (λ key. c .side-place .ensures .0 (c .before .before .before .before .before .before .before .before .before .before .args .buckets .now) ∙ place-top (paper (c .before .before .before .before .before .before .before .before .before .before .args .s)) (c .before .before .before .before .before .before .before .before .before .before .pre .ok) (c .before .before .before .before .before .before .before .before .before .before .args .h) (c .before .before .before .before .before .before .before .before .before .before .args .clipped .now) (c .before .before .before .before .before .before .before .before .before .before .args .buckets .now) (c .before .before .before .before .before .before .before .before .before .before .args .side .now) key (sym (c .before .before .before .before .before .before .choose .ensures .above) ∙ c .before .before .before .before .before .if1 .left) (λ e. c .before .before .before .if2 .left (c .before .before .before .before .before .before .choose .ensures .least key ∙ e)) (sym (c .before .before .before .before .before .before .choose .ensures .least key) ∙ c .before .if3 .taken), c .side-place .ensures .1, λ key. subst (λ (b : Bool). Goes b (c .side-place .result)) (sym (goes-to-side (paper (c .before .before .before .before .before .before .before .before .before .before .args .s)) (c .before .before .before .before .before .before .before .before .before .before .pre .ok) (c .before .before .before .before .before .before .before .before .before .before .args .h) (c .before .before .before .before .before .before .before .before .before .before .args .clipped .now) (c .before .before .before .before .before .before .before .before .before .before .args .buckets .now) (c .before .before .before .before .before .before .before .before .before .before .args .side .now) key (sym (c .before .before .before .before .before .before .choose .ensures .above) ∙ c .before .before .before .before .before .if1 .left) (sym (c .before .before .before .before .before .before .choose .ensures .least key) ∙ c .before .if3 .taken) (λ e. c .before .before .before .if2 .left (c .before .before .before .before .before .before .choose .ensures .least key ∙ e)))) (c .side-place .ensures .2))
+returns-3 c =
+    let start = c .before .before .before .before .before .before .before .before .before .before in
+    let choose = c .before .before .before .before .before .before .choose in
+    let if1 = c .before .before .before .before .before .if1 in
+    let if2 = c .before .before .before .if2 in
+    let if3 = c .before .if3 in
+    (λ key. c .side-place .ensures .0 (start .args .buckets .now) ∙ place-top (paper (start .args .s)) (start .pre .ok) (start .args .h) (start .args .clipped .now) (start .args .buckets .now) (start .args .side .now) key (sym (choose .ensures .above) ∙ if1 .left) (λ e. if2 .left (choose .ensures .least key ∙ e)) (sym (choose .ensures .least key) ∙ if3 .taken), c .side-place .ensures .1, λ key. subst (λ (b : Bool). Goes b (c .side-place .result)) (sym (goes-to-side (paper (start .args .s)) (start .pre .ok) (start .args .h) (start .args .clipped .now) (start .args .buckets .now) (start .args .side .now) key (sym (choose .ensures .above) ∙ if1 .left) (sym (choose .ensures .least key) ∙ if3 .taken) (λ e. if2 .left (choose .ensures .least key ∙ e)))) (c .side-place .ensures .2))
 
 bucket-place-requires : tie.Need-bucket-place-requires
-bucket-place-requires c κs = (c .before .before .before .before .before .before .before .before .before .pre .ok, c .before .before .before .before .before .before .before .before .before .pre .side-size, c .before .before .before .before .before .before .before .before .before .pre .buckets-size, rw (c .before .before .before .before .before .choose .ensures .bucket []) (chosen-there (paper (c .before .before .before .before .before .before .before .before .before .args .s)) (c .before .before .before .before .before .before .before .before .before .pre .ok) (c .before .before .before .before .before .before .before .before .before .args .h) (c .before .before .before .before .before .before .before .before .before .args .clipped .now) (c .before .before .before .before .before .before .before .before .before .args .buckets .now) (c .before .before .before .before .before .before .before .before .before .args .side .now) [] (λ e. c .if3 .left (c .before .before .before .before .before .choose .ensures .least [] ∙ e))))
+bucket-place-requires c κs =
+    let start = c .before .before .before .before .before .before .before .before .before in
+    let choose = c .before .before .before .before .before .choose in
+    (start .pre .ok, start .pre .side-size, start .pre .buckets-size, rw (choose .ensures .bucket []) (chosen-there (paper (start .args .s)) (start .pre .ok) (start .args .h) (start .args .clipped .now) (start .args .buckets .now) (start .args .side .now) [] (λ e. c .if3 .left (choose .ensures .least [] ∙ e))))
 
 returns-4 : tie.Need-returns-4
-returns-4 c = (
-  λ key. c .bucket-place .ensures .0 ∙ ap (λ (b : ℕ). bucket-place (card-of (paper (c .before .before .before .before .before .before .before .before .before .before .args .s))) (bucket-part (card-of (paper (c .before .before .before .before .before .before .before .before .before .before .args .s))) (c .before .before .before .before .before .before .before .before .before .before .args .buckets .now) b) (c .before .before .before .before .before .before .before .before .before .before .args .side .now)) (c .before .before .before .before .before .before .choose .ensures .bucket key)
-      ∙ place-bucket (paper (c .before .before .before .before .before .before .before .before .before .before .args .s)) (c .before .before .before .before .before .before .before .before .before .before .pre .ok) (c .before .before .before .before .before .before .before .before .before .before .args .h) (c .before .before .before .before .before .before .before .before .before .before .args .clipped .now) (c .before .before .before .before .before .before .before .before .before .before .args .buckets .now) (c .before .before .before .before .before .before .before .before .before .before .args .side .now) key (sym (c .before .before .before .before .before .before .choose .ensures .above) ∙ c .before .before .before .before .before .if1 .left) (λ e. c .before .before .before .if2 .left (c .before .before .before .before .before .before .choose .ensures .least key ∙ e)) (λ e. c .before .if3 .left (c .before .before .before .before .before .before .choose .ensures .least key ∙ e)),
-  c .bucket-place .ensures .1,
-  λ key. subst (λ (b : Bool). Goes b (c .bucket-place .result))
-      (sym (goes-by-mark (paper (c .before .before .before .before .before .before .before .before .before .before .args .s)) (c .before .before .before .before .before .before .before .before .before .before .pre .ok) (c .before .before .before .before .before .before .before .before .before .before .args .h) (c .before .before .before .before .before .before .before .before .before .before .args .clipped .now) (c .before .before .before .before .before .before .before .before .before .before .args .buckets .now) (c .before .before .before .before .before .before .before .before .before .before .args .side .now) key (sym (c .before .before .before .before .before .before .choose .ensures .above) ∙ c .before .before .before .before .before .if1 .left) (λ e. c .before .before .before .if2 .left (c .before .before .before .before .before .before .choose .ensures .least key ∙ e)) (λ e. c .before .if3 .left (c .before .before .before .before .before .before .choose .ensures .least key ∙ e))
-      ∙ ap (λ (b : ℕ). not (eqb (getD (bucket-part (card-of (paper (c .before .before .before .before .before .before .before .before .before .before .args .s))) (c .before .before .before .before .before .before .before .before .before .before .args .buckets .now) b) 0 0) 255)) (sym (c .before .before .before .before .before .before .choose .ensures .bucket key))))
-      (c .bucket-place .ensures .2),
-)
+returns-4 c =
+    let start = c .before .before .before .before .before .before .before .before .before .before in
+    let choose = c .before .before .before .before .before .before .choose in
+    let if1 = c .before .before .before .before .before .if1 in
+    let if2 = c .before .before .before .if2 in
+    let if3 = c .before .if3 in (
+      λ key. c .bucket-place .ensures .0 ∙ ap (λ (b : ℕ). bucket-place (card-of (paper (start .args .s))) (bucket-part (card-of (paper (start .args .s))) (start .args .buckets .now) b) (start .args .side .now)) (choose .ensures .bucket key)
+          ∙ place-bucket (paper (start .args .s)) (start .pre .ok) (start .args .h) (start .args .clipped .now) (start .args .buckets .now) (start .args .side .now) key (sym (choose .ensures .above) ∙ if1 .left) (λ e. if2 .left (choose .ensures .least key ∙ e)) (λ e. if3 .left (choose .ensures .least key ∙ e)),
+      c .bucket-place .ensures .1,
+      λ key. subst (λ (b : Bool). Goes b (c .bucket-place .result))
+          (sym (goes-by-mark (paper (start .args .s)) (start .pre .ok) (start .args .h) (start .args .clipped .now) (start .args .buckets .now) (start .args .side .now) key (sym (choose .ensures .above) ∙ if1 .left) (λ e. if2 .left (choose .ensures .least key ∙ e)) (λ e. if3 .left (choose .ensures .least key ∙ e))
+          ∙ ap (λ (b : ℕ). not (eqb (getD (bucket-part (card-of (paper (start .args .s))) (start .args .buckets .now) b) 0 0) 255)) (sym (choose .ensures .bucket key))))
+          (c .bucket-place .ensures .2),
+    )
 
 pub find-place-spec : {M : Type 1} → statement M
 find-place-spec =

@@ -11,10 +11,16 @@ count-at-requires : tie.Need-count-at-requires
 count-at-requires c κs = let b = bounds (paper (c .before .args .s)) (c .before .pre .0) in omega (arith, c .before .pre .1)
 
 returns : tie.Need-returns
-returns c = (λ buckets. side-invalid (paper (c .before .before .before .before .args .s)) (c .before .before .before .before .args .side .now) (c .before .before .before .before .args .read) (omega (arith, c .before .before .count-at .ensures .0)), tt, tt)
+returns c =
+    let start = c .before .before .before .before in
+    let count-at = c .before .before .count-at in
+    (λ buckets. side-invalid (paper (start .args .s)) (start .args .side .now) (start .args .read) (omega (arith, count-at .ensures .0)), tt, tt)
 
 returns-2 : tie.Need-returns-2
-returns-2 c = (λ buckets. rw (c .before .before .count-at .ensures .0) (side-among (paper (c .before .before .before .before .args .s)) (c .before .before .before .before .args .side .now) (c .before .before .before .before .args .read) (omega (arith, c .before .before .count-at .ensures .0))), (omega arith, c .before .before .before .before .pre .2), refl)
+returns-2 c =
+    let start = c .before .before .before .before in
+    let count-at = c .before .before .count-at in
+    (λ buckets. rw (count-at .ensures .0) (side-among (paper (start .args .s)) (start .args .side .now) (start .args .read) (omega (arith, count-at .ensures .0))), (omega arith, start .pre .2), refl)
 
 pub side-place-spec : {M : Type 1} → statement M
 side-place-spec = tie.close (tie.spec count-at-requires returns returns-2)

@@ -19,27 +19,41 @@ loop-holds : tie.Need-loop-holds Inv-loop μ-loop
 loop-holds c = scanning-start (c .before .before .args .key .now) (length (c .before .before .args .key .now)) (c .before .before .args .n) (c .before .before .args .place .now) (c .before .before .pre .0)
 
 add-end : tie.Need-add-end Inv-loop μ-loop
-add-end c = omega (arith, (room-next (c .before .loop .at) (c .before .loop .left) (length (c .before .before .before .before .args .key .now) + 4) (length (c .before .before .before .before .args .place .now)) (c .before .loop .inv .room) (omega arith)))
+add-end c =
+    let start = c .before .before .before .before in
+    let loop = c .before .loop in
+    omega (arith, (room-next (loop .at) (loop .left) (length (start .args .key .now) + 4) (length (start .args .place .now)) (loop .inv .room) (omega arith)))
 
 sub-same-key : tie.Need-sub-same-key Inv-loop μ-loop
 sub-same-key c = omega arith
 
 part-same-key-start : tie.Need-part-same-key-start Inv-loop μ-loop
-part-same-key-start c = omega (arith, (room-next (c .before .loop .at) (c .before .loop .left) (length (c .before .before .before .before .args .key .now) + 4) (length (c .before .before .before .before .args .place .now)) (c .before .loop .inv .room) (omega arith)))
+part-same-key-start c =
+    let start = c .before .before .before .before in
+    let loop = c .before .loop in
+    omega (arith, (room-next (loop .at) (loop .left) (length (start .args .key .now) + 4) (length (start .args .place .now)) (loop .inv .room) (omega arith)))
 
 part-same-key-end : tie.Need-part-same-key-end Inv-loop μ-loop
-part-same-key-end c = omega (arith, (room-next (c .before .loop .at) (c .before .loop .left) (length (c .before .before .before .before .args .key .now) + 4) (length (c .before .before .before .before .args .place .now)) (c .before .loop .inv .room) (omega arith)))
+part-same-key-end c =
+    let start = c .before .before .before .before in
+    let loop = c .before .loop in
+    omega (arith, (room-next (loop .at) (loop .left) (length (start .args .key .now) + 4) (length (start .args .place .now)) (loop .inv .room) (omega arith)))
 
 same-key-requires : tie.Need-same-key-requires Inv-loop μ-loop
-same-key-requires c κs = omega (arith, length-part (c .before .before .before .before .before .args .place .now) (c .before .before .loop .at) (length (c .before .before .before .before .before .args .key .now)) ((room-next (c .before .before .loop .at) (c .before .before .loop .left) (length (c .before .before .before .before .before .args .key .now) + 4) (length (c .before .before .before .before .before .args .place .now)) (c .before .before .loop .inv .room) (omega arith)) .0))
+same-key-requires c κs =
+    let start = c .before .before .before .before .before in
+    let loop = c .before .before .loop in
+    omega (arith, length-part (start .args .place .now) (loop .at) (length (start .args .key .now)) ((room-next (loop .at) (loop .left) (length (start .args .key .now) + 4) (length (start .args .place .now)) (loop .inv .room) (omega arith)) .0))
 
 add-t15 : tie.Need-add-t15 Inv-loop μ-loop
 add-t15 c = omega (arith, c .before .before .before .before .loop .inv .count)
 
 returns : tie.Need-returns Inv-loop μ-loop
 returns c =
-    scanning-hit (c .before .before .before .before .before .before .before .args .key .now) (length (c .before .before .before .before .before .before .before .args .key .now)) (c .before .before .before .before .before .before .before .args .n) (c .before .before .before .before .before .before .before .args .place .now) (c .before .before .before .before .loop .left) (c .before .before .before .before .loop .compared) (c .before .before .before .before .loop .at) (c .before .before .before .before .loop .inv) (omega arith)
-    (rw (add-sub-cancel-left (c .before .before .before .before .loop .at) (length (c .before .before .before .before .before .before .before .args .key .now))) at (sym (c .before .same-key .ensures) ∙ c .if1 .taken))
+    let start = c .before .before .before .before .before .before .before in
+    let loop = c .before .before .before .before .loop in
+    scanning-hit (start .args .key .now) (length (start .args .key .now)) (start .args .n) (start .args .place .now) (loop .left) (loop .compared) (loop .at) (loop .inv) (omega arith)
+    (rw (add-sub-cancel-left (loop .at) (length (start .args .key .now))) at (sym (c .before .same-key .ensures) ∙ c .if1 .taken))
 
 sub-left : tie.Need-sub-left Inv-loop μ-loop
 sub-left c = omega arith
@@ -48,19 +62,27 @@ add-compared : tie.Need-add-compared Inv-loop μ-loop
 add-compared c = omega (arith, c .before .before .before .before .loop .inv .count)
 
 add-at : tie.Need-add-at Inv-loop μ-loop
-add-at c = omega (arith, (room-next (c .before .before .before .before .loop .at) (c .before .before .before .before .loop .left) (length (c .before .before .before .before .before .before .before .args .key .now) + 4) (length (c .before .before .before .before .before .before .before .args .place .now)) (c .before .before .before .before .loop .inv .room) (omega arith)))
+add-at c =
+    let start = c .before .before .before .before .before .before .before in
+    let loop = c .before .before .before .before .loop in
+    omega (arith, (room-next (loop .at) (loop .left) (length (start .args .key .now) + 4) (length (start .args .place .now)) (loop .inv .room) (omega arith)))
 
 loop-less : tie.Need-loop-less Inv-loop μ-loop
 loop-less c = omega arith
 
 loop-again : tie.Need-loop-again Inv-loop μ-loop
 loop-again c =
-    rw (add-assoc (c .before .before .before .before .loop .at) (length (c .before .before .before .before .before .before .before .args .key .now)) 4)
-    (scanning-on (c .before .before .before .before .before .before .before .args .key .now) (length (c .before .before .before .before .before .before .before .args .key .now)) (c .before .before .before .before .before .before .before .args .n) (c .before .before .before .before .before .before .before .args .place .now) (c .before .before .before .before .loop .left) (c .before .before .before .before .loop .compared) (c .before .before .before .before .loop .at) (c .before .before .before .before .loop .inv) (omega arith)
-    (rw (add-sub-cancel-left (c .before .before .before .before .loop .at) (length (c .before .before .before .before .before .before .before .args .key .now))) at (sym (c .before .same-key .ensures) ∙ c .if1 .left)))
+    let start = c .before .before .before .before .before .before .before in
+    let loop = c .before .before .before .before .loop in
+    rw (add-assoc (loop .at) (length (start .args .key .now)) 4)
+    (scanning-on (start .args .key .now) (length (start .args .key .now)) (start .args .n) (start .args .place .now) (loop .left) (loop .compared) (loop .at) (loop .inv) (omega arith)
+    (rw (add-sub-cancel-left (loop .at) (length (start .args .key .now))) at (sym (c .before .same-key .ensures) ∙ c .if1 .left)))
 
 returns-2 : tie.Need-returns-2 Inv-loop μ-loop
-returns-2 c = scanning-end (c .before .before .before .before .args .key .now) (length (c .before .before .before .before .args .key .now)) (c .before .before .before .before .args .n) (c .before .before .before .before .args .place .now) (c .before .loop .left) (c .before .loop .compared) (c .before .loop .at) (c .before .loop .inv) (omega arith)
+returns-2 c =
+    let start = c .before .before .before .before in
+    let loop = c .before .loop in
+    scanning-end (start .args .key .now) (length (start .args .key .now)) (start .args .n) (start .args .place .now) (loop .left) (loop .compared) (loop .at) (loop .inv) (omega arith)
 
 pub scan-spec : {M : Type 1} → statement M
 scan-spec =

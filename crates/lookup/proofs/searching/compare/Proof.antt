@@ -21,8 +21,11 @@ class-at-requires c κs = omega (arith, c .before .before .before .scan .ensures
 
 returns : tie.Need-returns
 returns c =
-    let e = c .before .before .before .before .scan .ensures in
-    rw (e .finds, e .compares, c .before .before .if1 .taken, c .class-at .ensures) (unfold record-at in rw (drop-drop (length (c .before .before .before .before .before .before .before .args .key .now)) (c .before .before .before .before .scan .result .at) (c .before .before .before .before .before .before .before .args .place .now)))
+    let start = c .before .before .before .before .before .before .before in
+    let scan = c .before .before .before .before .scan in
+    let if1 = c .before .before .if1 in
+    let e = scan .ensures in
+    rw (e .finds, e .compares, if1 .taken, c .class-at .ensures) (unfold record-at in rw (drop-drop (length (start .args .key .now)) (scan .result .at) (start .args .place .now)))
 
 returns-2 : tie.Need-returns-2
 returns-2 c = let e = c .before .before .scan .ensures in rw (e .finds, e .compares, c .if1 .left)

@@ -32,16 +32,20 @@ part-compare-end c = search needs
 
 compare-requires : tie.Need-compare-requires
 compare-requires c κs =
-    let r = ranges (paper (c .before .before .before .before .args .s)) (c .before .before .before .before .pre .0) in (
-      bucket-room (paper (c .before .before .before .before .args .s)) (c .before .before .before .before .pre .0) (length (c .before .before .before .before .args .key .now)) (c .before .before .before .before .args .n) (c .before .before .before .before .pre .2) (c .before .before .before .before .args .buckets .now) (c .before .before .before .before .args .from) (c .before .bucket-size .result) (c .before .bucket-size .ensures) (c .before .before .before .before .pre .3) (c .before .before .before .before .pre .4),
-      omega (arith, c .before .before .before .before .pre .2, width-is (paper (c .before .before .before .before .args .s))),
-      omega (arith, c .before .before .before .before .pre .4),
+    let start = c .before .before .before .before in
+    let bucket-size = c .before .bucket-size in
+    let r = ranges (paper (start .args .s)) (start .pre .0) in (
+      bucket-room (paper (start .args .s)) (start .pre .0) (length (start .args .key .now)) (start .args .n) (start .pre .2) (start .args .buckets .now) (start .args .from) (bucket-size .result) (bucket-size .ensures) (start .pre .3) (start .pre .4),
+      omega (arith, start .pre .2, width-is (paper (start .args .s))),
+      omega (arith, start .pre .4),
     )
 
 returns : tie.Need-returns
 unfolding answer-at
 returns c =
-    rw (c .compare .ensures, c .before .before .before .before .before .pre .2, add-sub-cancel-left (c .before .before .before .before .before .args .from) (c .before .before .bucket-size .result - 1), c .before .before .bucket-size .ensures)
+    let start = c .before .before .before .before .before in
+    let bucket-size = c .before .before .bucket-size in
+    rw (c .compare .ensures, start .pre .2, add-sub-cancel-left (start .args .from) (bucket-size .result - 1), bucket-size .ensures)
 
 pub compare-bucket-spec : {M : Type 1} → statement M
 compare-bucket-spec =

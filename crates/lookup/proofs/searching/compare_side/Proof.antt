@@ -21,10 +21,11 @@ part-compare-end c = search needs
 
 compare-requires : tie.Need-compare-requires
 compare-requires c κs =
-    let r = ranges (paper (c .before .before .before .args .s)) (c .before .before .before .pre .0) in (
-      side-room (paper (c .before .before .before .args .s)) (c .before .before .before .pre .0) (length (c .before .before .before .args .key .now)) (c .before .before .before .args .n) (c .before .before .before .pre .2) (c .before .before .before .args .side .now) (c .before .before .before .pre .1) (c .before .before .before .pre .3),
-      omega (arith, c .before .before .before .pre .2, width-is (paper (c .before .before .before .args .s))),
-      omega (arith, c .before .before .before .pre .3),
+    let start = c .before .before .before in
+    let r = ranges (paper (start .args .s)) (start .pre .0) in (
+      side-room (paper (start .args .s)) (start .pre .0) (length (start .args .key .now)) (start .args .n) (start .pre .2) (start .args .side .now) (start .pre .1) (start .pre .3),
+      omega (arith, start .pre .2, width-is (paper (start .args .s))),
+      omega (arith, start .pre .3),
     )
 
 returns : tie.Need-returns

@@ -24,21 +24,37 @@ enum-known-judged-2 : tie.Need-enum-known-judged-2
 enum-known-judged-2 c = search needs
 
 h-rows-requires : tie.Need-h-rows-requires
-h-rows-requires c κs = let g = fine (record { p = c .before .before .before .before .before .before .before .before .args .p; k = c .before .before .before .before .before .before .before .before .args .k; room = c .before .before .before .before .before .before .before .before .args .room; top = c .before .before .before .before .before .before .before .before .args .top; capacity = c .before .before .before .before .before .before .before .before .args .capacity; side-places = c .before .before .before .before .before .before .before .before .args .side-places }) (c .before .before .before .before .before .before .before .before .args .clipped .now) (c .before .before .before .before .before .before .before .before .args .buckets .now) (c .before .before .before .before .before .before .before .before .args .side .now) (c .before .before .before .before .before .before .before .before .args .key .now) (c .before .judged2 .given .0 .0) (sym (c .before .before .before .judge .ensures) ∙ c .before .judged2 .given .1) in g .wide ∙ width-is (paper (c .before .judged2 .given .0 .0))
+h-rows-requires c κs =
+    let start = c .before .before .before .before .before .before .before .before in
+    let judge = c .before .before .before .judge in
+    let judged2 = c .before .judged2 in
+    let g = fine (record { p = start .args .p; k = start .args .k; room = start .args .room; top = start .args .top; capacity = start .args .capacity; side-places = start .args .side-places }) (start .args .clipped .now) (start .args .buckets .now) (start .args .side .now) (start .args .key .now) (judged2 .given .0 .0) (sym (judge .ensures) ∙ judged2 .given .1) in g .wide ∙ width-is (paper (judged2 .given .0 .0))
 
 search-at-requires : tie.Need-search-at-requires
-search-at-requires c κs = let g = fine (record { p = c .before .before .before .before .before .before .before .before .before .args .p; k = c .before .before .before .before .before .before .before .before .before .args .k; room = c .before .before .before .before .before .before .before .before .before .args .room; top = c .before .before .before .before .before .before .before .before .before .args .top; capacity = c .before .before .before .before .before .before .before .before .before .args .capacity; side-places = c .before .before .before .before .before .before .before .before .before .args .side-places }) (c .before .before .before .before .before .before .before .before .before .args .clipped .now) (c .before .before .before .before .before .before .before .before .before .args .buckets .now) (c .before .before .before .before .before .before .before .before .before .args .side .now) (c .before .before .before .before .before .before .before .before .before .args .key .now) (c .before .before .judged2 .given .0 .0) (sym (c .before .before .before .before .judge .ensures) ∙ c .before .before .judged2 .given .1) in (g .lent, g .wide)
+search-at-requires c κs =
+    let start = c .before .before .before .before .before .before .before .before .before in
+    let judge = c .before .before .before .before .judge in
+    let judged2 = c .before .before .judged2 in
+    let g = fine (record { p = start .args .p; k = start .args .k; room = start .args .room; top = start .args .top; capacity = start .args .capacity; side-places = start .args .side-places }) (start .args .clipped .now) (start .args .buckets .now) (start .args .side .now) (start .args .key .now) (judged2 .given .0 .0) (sym (judge .ensures) ∙ judged2 .given .1) in (g .lent, g .wide)
 
 returns : tie.Need-returns
-returns c = search-performs (record { p = c .before .before .before .before .before .before .before .before .before .args .p; k = c .before .before .before .before .before .before .before .before .before .args .k; room = c .before .before .before .before .before .before .before .before .before .args .room; top = c .before .before .before .before .before .before .before .before .before .args .top; capacity = c .before .before .before .before .before .before .before .before .before .args .capacity; side-places = c .before .before .before .before .before .before .before .before .before .args .side-places }) (c .before .before .before .before .before .before .before .before .before .args .clipped .now) (c .before .before .before .before .before .before .before .before .before .args .buckets .now) (c .before .before .before .before .before .before .before .before .before .args .side .now) (c .before .before .before .before .before .before .before .before .before .args .key .now) (answer-of (c .bare .result)) (refused-is (record { p = c .before .before .before .before .before .before .before .before .before .args .p; k = c .before .before .before .before .before .before .before .before .before .args .k; room = c .before .before .before .before .before .before .before .before .before .args .room; top = c .before .before .before .before .before .before .before .before .before .args .top; capacity = c .before .before .before .before .before .before .before .before .before .args .capacity; side-places = c .before .before .before .before .before .before .before .before .before .args .side-places }) (c .before .before .before .before .before .before .before .before .before .args .clipped .now) (c .before .before .before .before .before .before .before .before .before .args .buckets .now) (c .before .before .before .before .before .before .before .before .before .args .side .now) (c .before .before .before .before .before .before .before .before .before .args .key .now) bare (search-areas (card-of (record { p = c .before .before .before .before .before .before .before .before .before .args .p; k = c .before .before .before .before .before .before .before .before .before .args .k; room = c .before .before .before .before .before .before .before .before .before .args .room; top = c .before .before .before .before .before .before .before .before .before .args .top; capacity = c .before .before .before .before .before .before .before .before .before .args .capacity; side-places = c .before .before .before .before .before .before .before .before .before .args .side-places })) (c .before .before .before .before .before .before .before .before .before .args .clipped .now) (c .before .before .before .before .before .before .before .before .before .args .buckets .now) (c .before .before .before .before .before .before .before .before .before .args .side .now) (c .before .before .before .before .before .before .before .before .before .args .key .now)) (c .before .before .judged .given .0 .0) (sym (c .before .before .before .before .judge .ensures) ∙ c .before .before .judged .given .1) ∙ sym (c .bare .ensures))
+returns c =
+    let start = c .before .before .before .before .before .before .before .before .before in
+    let judge = c .before .before .before .before .judge in
+    let judged = c .before .before .judged in
+    search-performs (record { p = start .args .p; k = start .args .k; room = start .args .room; top = start .args .top; capacity = start .args .capacity; side-places = start .args .side-places }) (start .args .clipped .now) (start .args .buckets .now) (start .args .side .now) (start .args .key .now) (answer-of (c .bare .result)) (refused-is (record { p = start .args .p; k = start .args .k; room = start .args .room; top = start .args .top; capacity = start .args .capacity; side-places = start .args .side-places }) (start .args .clipped .now) (start .args .buckets .now) (start .args .side .now) (start .args .key .now) bare (search-areas (card-of (record { p = start .args .p; k = start .args .k; room = start .args .room; top = start .args .top; capacity = start .args .capacity; side-places = start .args .side-places })) (start .args .clipped .now) (start .args .buckets .now) (start .args .side .now) (start .args .key .now)) (judged .given .0 .0) (sym (judge .ensures) ∙ judged .given .1) ∙ sym (c .bare .ensures))
 
 returns-2 : tie.Need-returns-2
 returns-2 c =
-    let e = sym (c .before .before .before .before .before .judge .ensures) ∙ c .before .before .before .judged2 .given .1 in
-    let g = fine (record { p = c .before .before .before .before .before .before .before .before .before .before .args .p; k = c .before .before .before .before .before .before .before .before .before .before .args .k; room = c .before .before .before .before .before .before .before .before .before .before .args .room; top = c .before .before .before .before .before .before .before .before .before .before .args .top; capacity = c .before .before .before .before .before .before .before .before .before .before .args .capacity; side-places = c .before .before .before .before .before .before .before .before .before .before .args .side-places }) (c .before .before .before .before .before .before .before .before .before .before .args .clipped .now) (c .before .before .before .before .before .before .before .before .before .before .args .buckets .now) (c .before .before .before .before .before .before .before .before .before .before .args .side .now) (c .before .before .before .before .before .before .before .before .before .before .args .key .now) (c .before .before .before .judged2 .given .0 .0) e in
-    search-performs (record { p = c .before .before .before .before .before .before .before .before .before .before .args .p; k = c .before .before .before .before .before .before .before .before .before .before .args .k; room = c .before .before .before .before .before .before .before .before .before .before .args .room; top = c .before .before .before .before .before .before .before .before .before .before .args .top; capacity = c .before .before .before .before .before .before .before .before .before .before .args .capacity; side-places = c .before .before .before .before .before .before .before .before .before .before .args .side-places }) (c .before .before .before .before .before .before .before .before .before .before .args .clipped .now) (c .before .before .before .before .before .before .before .before .before .before .args .buckets .now) (c .before .before .before .before .before .before .before .before .before .before .args .side .now) (c .before .before .before .before .before .before .before .before .before .before .args .key .now) (answer-of (c .search-at .result))
-    (passes (record { p = c .before .before .before .before .before .before .before .before .before .before .args .p; k = c .before .before .before .before .before .before .before .before .before .before .args .k; room = c .before .before .before .before .before .before .before .before .before .before .args .room; top = c .before .before .before .before .before .before .before .before .before .before .args .top; capacity = c .before .before .before .before .before .before .before .before .before .before .args .capacity; side-places = c .before .before .before .before .before .before .before .before .before .before .args .side-places }) (c .before .before .before .before .before .before .before .before .before .before .args .clipped .now) (c .before .before .before .before .before .before .before .before .before .before .args .buckets .now) (c .before .before .before .before .before .before .before .before .before .before .args .side .now) (c .before .before .before .before .before .before .before .before .before .before .args .key .now) (c .before .before .before .judged2 .given .0 .0) e bare (search-areas (card-of (record { p = c .before .before .before .before .before .before .before .before .before .before .args .p; k = c .before .before .before .before .before .before .before .before .before .before .args .k; room = c .before .before .before .before .before .before .before .before .before .before .args .room; top = c .before .before .before .before .before .before .before .before .before .before .args .top; capacity = c .before .before .before .before .before .before .before .before .before .before .args .capacity; side-places = c .before .before .before .before .before .before .before .before .before .before .args .side-places })) (c .before .before .before .before .before .before .before .before .before .before .args .clipped .now) (c .before .before .before .before .before .before .before .before .before .before .args .buckets .now) (c .before .before .before .before .before .before .before .before .before .before .args .side .now) (c .before .before .before .before .before .before .before .before .before .before .args .key .now))
-    ∙ sym (c .search-at .ensures ∙ hashed (paper (c .before .before .before .judged2 .given .0 .0)) (c .before .before .before .before .before .before .before .before .before .before .args .clipped .now) (c .before .before .before .before .before .before .before .before .before .before .args .buckets .now) (c .before .before .before .before .before .before .before .before .before .before .args .side .now) (c .before .before .before .before .before .before .before .before .before .before .args .key .now) (c .before .h-rows .result) (c .before .h-rows .ensures) ∙ ap (λ (t : Settings). search-areas (card-of t) (c .before .before .before .before .before .before .before .before .before .before .args .clipped .now) (c .before .before .before .before .before .before .before .before .before .before .args .buckets .now) (c .before .before .before .before .before .before .before .before .before .before .args .side .now) (c .before .before .before .before .before .before .before .before .before .before .args .key .now)) (g .same)))
+    let start = c .before .before .before .before .before .before .before .before .before .before in
+    let judge = c .before .before .before .before .before .judge in
+    let judged2 = c .before .before .before .judged2 in
+    let h-rows = c .before .h-rows in
+    let e = sym (judge .ensures) ∙ judged2 .given .1 in
+    let g = fine (record { p = start .args .p; k = start .args .k; room = start .args .room; top = start .args .top; capacity = start .args .capacity; side-places = start .args .side-places }) (start .args .clipped .now) (start .args .buckets .now) (start .args .side .now) (start .args .key .now) (judged2 .given .0 .0) e in
+    search-performs (record { p = start .args .p; k = start .args .k; room = start .args .room; top = start .args .top; capacity = start .args .capacity; side-places = start .args .side-places }) (start .args .clipped .now) (start .args .buckets .now) (start .args .side .now) (start .args .key .now) (answer-of (c .search-at .result))
+    (passes (record { p = start .args .p; k = start .args .k; room = start .args .room; top = start .args .top; capacity = start .args .capacity; side-places = start .args .side-places }) (start .args .clipped .now) (start .args .buckets .now) (start .args .side .now) (start .args .key .now) (judged2 .given .0 .0) e bare (search-areas (card-of (record { p = start .args .p; k = start .args .k; room = start .args .room; top = start .args .top; capacity = start .args .capacity; side-places = start .args .side-places })) (start .args .clipped .now) (start .args .buckets .now) (start .args .side .now) (start .args .key .now))
+    ∙ sym (c .search-at .ensures ∙ hashed (paper (judged2 .given .0 .0)) (start .args .clipped .now) (start .args .buckets .now) (start .args .side .now) (start .args .key .now) (h-rows .result) (h-rows .ensures) ∙ ap (λ (t : Settings). search-areas (card-of t) (start .args .clipped .now) (start .args .buckets .now) (start .args .side .now) (start .args .key .now)) (g .same)))
 
 pub search-spec : {M : Type 1} → statement M
 search-spec =

@@ -29,31 +29,51 @@ enum-known-place : tie.Need-enum-known-place
 enum-known-place c = search needs
 
 compare-bucket-requires : tie.Need-compare-bucket-requires
-compare-bucket-requires c κs = let i = subst (Inside (paper (c .before .before .before .before .before .before .before .before .args .s))) (c .before .place .given .1) (c .before .before .before .find-place .ensures .1) in (c .before .before .before .before .before .before .before .before .pre .0 .ok, c .before .before .before .before .before .before .before .before .pre .0 .buckets-size, c .before .before .before .before .before .before .before .before .pre .1, omega (arith, i .0, c .before .before .before .before .before .before .before .before .pre .0 .buckets-size), i .1)
+compare-bucket-requires c κs =
+    let start = c .before .before .before .before .before .before .before .before in
+    let find-place = c .before .before .before .find-place in
+    let i = subst (Inside (paper (start .args .s))) (c .before .place .given .1) (find-place .ensures .1) in (start .pre .0 .ok, start .pre .0 .buckets-size, start .pre .1, omega (arith, i .0, start .pre .0 .buckets-size), i .1)
 
 enum-known-place-2 : tie.Need-enum-known-place-2
 enum-known-place-2 c = search needs
 
 compare-side-requires : tie.Need-compare-side-requires
-compare-side-requires c κs = let i = subst (Inside (paper (c .before .before .before .before .before .before .before .before .args .s))) (c .before .place2 .given .1) (c .before .before .before .find-place .ensures .1) in (c .before .before .before .before .before .before .before .before .pre .0 .ok, c .before .before .before .before .before .before .before .before .pre .0 .side-size, c .before .before .before .before .before .before .before .before .pre .1, i .0)
+compare-side-requires c κs =
+    let start = c .before .before .before .before .before .before .before .before in
+    let find-place = c .before .before .before .find-place in
+    let i = subst (Inside (paper (start .args .s))) (c .before .place2 .given .1) (find-place .ensures .1) in (start .pre .0 .ok, start .pre .0 .side-size, start .pre .1, i .0)
 
 returns : tie.Need-returns
 unfolding answer-at
-returns c = c .bare .ensures ∙ search-is (paper (c .before .before .before .before .before .before .before .before .args .s)) (c .before .before .before .before .before .before .before .before .args .h) (c .before .before .before .before .before .before .before .before .args .clipped .now) (c .before .before .before .before .before .before .before .before .args .buckets .now) (c .before .before .before .before .before .before .before .before .args .side .now) (c .before .before .before .before .before .before .before .before .args .key .now) invalid
-    (ap (place-of (card-of (paper (c .before .before .before .before .before .before .before .before .args .s))) (c .before .before .before .before .before .before .before .before .args .buckets .now) (c .before .before .before .before .before .before .before .before .args .side .now)) (sym (c .before .enum-told .given .1)) ∙ c .before .before .before .find-place .ensures .0 (c .before .before .before .before .before .before .before .before .args .key .now))
+returns c =
+    let start = c .before .before .before .before .before .before .before .before in
+    let find-place = c .before .before .before .find-place in
+    c .bare .ensures ∙ search-is (paper (start .args .s)) (start .args .h) (start .args .clipped .now) (start .args .buckets .now) (start .args .side .now) (start .args .key .now) invalid
+    (ap (place-of (card-of (paper (start .args .s))) (start .args .buckets .now) (start .args .side .now)) (sym (c .before .enum-told .given .1)) ∙ find-place .ensures .0 (start .args .key .now))
 
 returns-2 : tie.Need-returns-2
 unfolding answer-at
-returns-2 c = c .bare2 .ensures ∙ search-is (paper (c .before .before .before .before .before .before .before .before .args .s)) (c .before .before .before .before .before .before .before .before .args .h) (c .before .before .before .before .before .before .before .before .args .clipped .now) (c .before .before .before .before .before .before .before .before .args .buckets .now) (c .before .before .before .before .before .before .before .before .args .side .now) (c .before .before .before .before .before .before .before .before .args .key .now) nowhere
-    (ap (place-of (card-of (paper (c .before .before .before .before .before .before .before .before .args .s))) (c .before .before .before .before .before .before .before .before .args .buckets .now) (c .before .before .before .before .before .before .before .before .args .side .now)) (sym (c .before .enum-told2 .given .1)) ∙ c .before .before .before .find-place .ensures .0 (c .before .before .before .before .before .before .before .before .args .key .now))
+returns-2 c =
+    let start = c .before .before .before .before .before .before .before .before in
+    let find-place = c .before .before .before .find-place in
+    c .bare2 .ensures ∙ search-is (paper (start .args .s)) (start .args .h) (start .args .clipped .now) (start .args .buckets .now) (start .args .side .now) (start .args .key .now) nowhere
+    (ap (place-of (card-of (paper (start .args .s))) (start .args .buckets .now) (start .args .side .now)) (sym (c .before .enum-told2 .given .1)) ∙ find-place .ensures .0 (start .args .key .now))
 
 returns-3 : tie.Need-returns-3
-returns-3 c = c .compare-bucket .ensures ∙ search-is (paper (c .before .before .before .before .before .before .before .before .before .args .s)) (c .before .before .before .before .before .before .before .before .before .args .h) (c .before .before .before .before .before .before .before .before .before .args .clipped .now) (c .before .before .before .before .before .before .before .before .before .args .buckets .now) (c .before .before .before .before .before .before .before .before .before .args .side .now) (c .before .before .before .before .before .before .before .before .before .args .key .now) _
-    (ap (place-of (card-of (paper (c .before .before .before .before .before .before .before .before .before .args .s))) (c .before .before .before .before .before .before .before .before .before .args .buckets .now) (c .before .before .before .before .before .before .before .before .before .args .side .now)) (sym (c .before .before .place .given .1)) ∙ c .before .before .before .before .find-place .ensures .0 (c .before .before .before .before .before .before .before .before .before .args .key .now))
+returns-3 c =
+    let start = c .before .before .before .before .before .before .before .before .before in
+    let find-place = c .before .before .before .before .find-place in
+    let place = c .before .before .place in
+    c .compare-bucket .ensures ∙ search-is (paper (start .args .s)) (start .args .h) (start .args .clipped .now) (start .args .buckets .now) (start .args .side .now) (start .args .key .now) _
+    (ap (place-of (card-of (paper (start .args .s))) (start .args .buckets .now) (start .args .side .now)) (sym (place .given .1)) ∙ find-place .ensures .0 (start .args .key .now))
 
 returns-4 : tie.Need-returns-4
-returns-4 c = c .compare-side .ensures ∙ search-is (paper (c .before .before .before .before .before .before .before .before .before .args .s)) (c .before .before .before .before .before .before .before .before .before .args .h) (c .before .before .before .before .before .before .before .before .before .args .clipped .now) (c .before .before .before .before .before .before .before .before .before .args .buckets .now) (c .before .before .before .before .before .before .before .before .before .args .side .now) (c .before .before .before .before .before .before .before .before .before .args .key .now) _
-    (ap (place-of (card-of (paper (c .before .before .before .before .before .before .before .before .before .args .s))) (c .before .before .before .before .before .before .before .before .before .args .buckets .now) (c .before .before .before .before .before .before .before .before .before .args .side .now)) (sym (c .before .before .place2 .given .1)) ∙ c .before .before .before .before .find-place .ensures .0 (c .before .before .before .before .before .before .before .before .before .args .key .now))
+returns-4 c =
+    let start = c .before .before .before .before .before .before .before .before .before in
+    let find-place = c .before .before .before .before .find-place in
+    let place2 = c .before .before .place2 in
+    c .compare-side .ensures ∙ search-is (paper (start .args .s)) (start .args .h) (start .args .clipped .now) (start .args .buckets .now) (start .args .side .now) (start .args .key .now) _
+    (ap (place-of (card-of (paper (start .args .s))) (start .args .buckets .now) (start .args .side .now)) (sym (place2 .given .1)) ∙ find-place .ensures .0 (start .args .key .now))
 
 pub search-at-spec : {M : Type 1} → statement M
 search-at-spec =

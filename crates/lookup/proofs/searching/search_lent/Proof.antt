@@ -26,21 +26,37 @@ enum-known-judged-2 : tie.Need-enum-known-judged-2
 enum-known-judged-2 c = search needs
 
 h-lent-requires : tie.Need-h-lent-requires
-h-lent-requires c κs = let e = sym (c .before .before .before .judge-lent .ensures) ∙ c .before .judged2 .given .1 in let q = lent-ready (c .before .before .before .before .before .before .before .before .before .args .table .now) (record { p = c .before .before .before .before .before .before .before .before .before .args .p; k = c .before .before .before .before .before .before .before .before .before .args .k; room = c .before .before .before .before .before .before .before .before .before .args .room; top = c .before .before .before .before .before .before .before .before .before .args .top; capacity = c .before .before .before .before .before .before .before .before .before .args .capacity; side-places = c .before .before .before .before .before .before .before .before .before .args .side-places }) (c .before .before .before .before .before .before .before .before .before .args .clipped .now) (c .before .before .before .before .before .before .before .before .before .args .buckets .now) (c .before .before .before .before .before .before .before .before .before .args .side .now) (c .before .before .before .before .before .before .before .before .before .args .key .now) (c .before .judged2 .given .0 .0) e in let g = fine (record { p = c .before .before .before .before .before .before .before .before .before .args .p; k = c .before .before .before .before .before .before .before .before .before .args .k; room = c .before .before .before .before .before .before .before .before .before .args .room; top = c .before .before .before .before .before .before .before .before .before .args .top; capacity = c .before .before .before .before .before .before .before .before .before .args .capacity; side-places = c .before .before .before .before .before .before .before .before .before .args .side-places }) (c .before .before .before .before .before .before .before .before .before .args .clipped .now) (c .before .before .before .before .before .before .before .before .before .args .buckets .now) (c .before .before .before .before .before .before .before .before .before .args .side .now) (c .before .before .before .before .before .before .before .before .before .args .key .now) (c .before .judged2 .given .0 .0) (q .1) in omega (arith, q .0, g .wide, ap (λ (t : Settings). card-of t .width) (g .same))
+h-lent-requires c κs =
+    let start = c .before .before .before .before .before .before .before .before .before in
+    let judge-lent = c .before .before .before .judge-lent in
+    let judged2 = c .before .judged2 in
+    let e = sym (judge-lent .ensures) ∙ judged2 .given .1 in let q = lent-ready (start .args .table .now) (record { p = start .args .p; k = start .args .k; room = start .args .room; top = start .args .top; capacity = start .args .capacity; side-places = start .args .side-places }) (start .args .clipped .now) (start .args .buckets .now) (start .args .side .now) (start .args .key .now) (judged2 .given .0 .0) e in let g = fine (record { p = start .args .p; k = start .args .k; room = start .args .room; top = start .args .top; capacity = start .args .capacity; side-places = start .args .side-places }) (start .args .clipped .now) (start .args .buckets .now) (start .args .side .now) (start .args .key .now) (judged2 .given .0 .0) (q .1) in omega (arith, q .0, g .wide, ap (λ (t : Settings). card-of t .width) (g .same))
 
 search-at-requires : tie.Need-search-at-requires
-search-at-requires c κs = let e = sym (c .before .before .before .before .judge-lent .ensures) ∙ c .before .before .judged2 .given .1 in let q = lent-ready (c .before .before .before .before .before .before .before .before .before .before .args .table .now) (record { p = c .before .before .before .before .before .before .before .before .before .before .args .p; k = c .before .before .before .before .before .before .before .before .before .before .args .k; room = c .before .before .before .before .before .before .before .before .before .before .args .room; top = c .before .before .before .before .before .before .before .before .before .before .args .top; capacity = c .before .before .before .before .before .before .before .before .before .before .args .capacity; side-places = c .before .before .before .before .before .before .before .before .before .before .args .side-places }) (c .before .before .before .before .before .before .before .before .before .before .args .clipped .now) (c .before .before .before .before .before .before .before .before .before .before .args .buckets .now) (c .before .before .before .before .before .before .before .before .before .before .args .side .now) (c .before .before .before .before .before .before .before .before .before .before .args .key .now) (c .before .before .judged2 .given .0 .0) e in let g = fine (record { p = c .before .before .before .before .before .before .before .before .before .before .args .p; k = c .before .before .before .before .before .before .before .before .before .before .args .k; room = c .before .before .before .before .before .before .before .before .before .before .args .room; top = c .before .before .before .before .before .before .before .before .before .before .args .top; capacity = c .before .before .before .before .before .before .before .before .before .before .args .capacity; side-places = c .before .before .before .before .before .before .before .before .before .before .args .side-places }) (c .before .before .before .before .before .before .before .before .before .before .args .clipped .now) (c .before .before .before .before .before .before .before .before .before .before .args .buckets .now) (c .before .before .before .before .before .before .before .before .before .before .args .side .now) (c .before .before .before .before .before .before .before .before .before .before .args .key .now) (c .before .before .judged2 .given .0 .0) (q .1) in (g .lent, g .wide)
+search-at-requires c κs =
+    let start = c .before .before .before .before .before .before .before .before .before .before in
+    let judge-lent = c .before .before .before .before .judge-lent in
+    let judged2 = c .before .before .judged2 in
+    let e = sym (judge-lent .ensures) ∙ judged2 .given .1 in let q = lent-ready (start .args .table .now) (record { p = start .args .p; k = start .args .k; room = start .args .room; top = start .args .top; capacity = start .args .capacity; side-places = start .args .side-places }) (start .args .clipped .now) (start .args .buckets .now) (start .args .side .now) (start .args .key .now) (judged2 .given .0 .0) e in let g = fine (record { p = start .args .p; k = start .args .k; room = start .args .room; top = start .args .top; capacity = start .args .capacity; side-places = start .args .side-places }) (start .args .clipped .now) (start .args .buckets .now) (start .args .side .now) (start .args .key .now) (judged2 .given .0 .0) (q .1) in (g .lent, g .wide)
 
 returns : tie.Need-returns
-returns c = rw (c .bare .ensures) (lent-refused (c .before .before .before .before .before .before .before .before .before .before .args .table .now) (record { p = c .before .before .before .before .before .before .before .before .before .before .args .p; k = c .before .before .before .before .before .before .before .before .before .before .args .k; room = c .before .before .before .before .before .before .before .before .before .before .args .room; top = c .before .before .before .before .before .before .before .before .before .before .args .top; capacity = c .before .before .before .before .before .before .before .before .before .before .args .capacity; side-places = c .before .before .before .before .before .before .before .before .before .before .args .side-places }) (c .before .before .before .before .before .before .before .before .before .before .args .clipped .now) (c .before .before .before .before .before .before .before .before .before .before .args .buckets .now) (c .before .before .before .before .before .before .before .before .before .before .args .side .now) (c .before .before .before .before .before .before .before .before .before .before .args .key .now) (c .before .before .judged .given .0 .0) (sym (c .before .before .before .before .judge-lent .ensures) ∙ c .before .before .judged .given .1))
+returns c =
+    let start = c .before .before .before .before .before .before .before .before .before .before in
+    let judge-lent = c .before .before .before .before .judge-lent in
+    let judged = c .before .before .judged in
+    rw (c .bare .ensures) (lent-refused (start .args .table .now) (record { p = start .args .p; k = start .args .k; room = start .args .room; top = start .args .top; capacity = start .args .capacity; side-places = start .args .side-places }) (start .args .clipped .now) (start .args .buckets .now) (start .args .side .now) (start .args .key .now) (judged .given .0 .0) (sym (judge-lent .ensures) ∙ judged .given .1))
 
 returns-2 : tie.Need-returns-2
 returns-2 c =
-    let e = sym (c .before .before .before .before .before .judge-lent .ensures) ∙ c .before .before .before .judged2 .given .1 in let q = lent-ready (c .before .before .before .before .before .before .before .before .before .before .before .args .table .now) (record { p = c .before .before .before .before .before .before .before .before .before .before .before .args .p; k = c .before .before .before .before .before .before .before .before .before .before .before .args .k; room = c .before .before .before .before .before .before .before .before .before .before .before .args .room; top = c .before .before .before .before .before .before .before .before .before .before .before .args .top; capacity = c .before .before .before .before .before .before .before .before .before .before .before .args .capacity; side-places = c .before .before .before .before .before .before .before .before .before .before .before .args .side-places }) (c .before .before .before .before .before .before .before .before .before .before .before .args .clipped .now) (c .before .before .before .before .before .before .before .before .before .before .before .args .buckets .now) (c .before .before .before .before .before .before .before .before .before .before .before .args .side .now) (c .before .before .before .before .before .before .before .before .before .before .before .args .key .now) (c .before .before .before .judged2 .given .0 .0) e in let g = fine (record { p = c .before .before .before .before .before .before .before .before .before .before .before .args .p; k = c .before .before .before .before .before .before .before .before .before .before .before .args .k; room = c .before .before .before .before .before .before .before .before .before .before .before .args .room; top = c .before .before .before .before .before .before .before .before .before .before .before .args .top; capacity = c .before .before .before .before .before .before .before .before .before .before .before .args .capacity; side-places = c .before .before .before .before .before .before .before .before .before .before .before .args .side-places }) (c .before .before .before .before .before .before .before .before .before .before .before .args .clipped .now) (c .before .before .before .before .before .before .before .before .before .before .before .args .buckets .now) (c .before .before .before .before .before .before .before .before .before .before .before .args .side .now) (c .before .before .before .before .before .before .before .before .before .before .before .args .key .now) (c .before .before .before .judged2 .given .0 .0) (q .1) in
-    lent-answers (c .before .before .before .before .before .before .before .before .before .before .before .args .table .now) (record { p = c .before .before .before .before .before .before .before .before .before .before .before .args .p; k = c .before .before .before .before .before .before .before .before .before .before .before .args .k; room = c .before .before .before .before .before .before .before .before .before .before .before .args .room; top = c .before .before .before .before .before .before .before .before .before .before .before .args .top; capacity = c .before .before .before .before .before .before .before .before .before .before .before .args .capacity; side-places = c .before .before .before .before .before .before .before .before .before .before .before .args .side-places }) (c .before .before .before .before .before .before .before .before .before .before .before .args .clipped .now) (c .before .before .before .before .before .before .before .before .before .before .before .args .buckets .now) (c .before .before .before .before .before .before .before .before .before .before .before .args .side .now) (c .before .before .before .before .before .before .before .before .before .before .before .args .key .now) (c .before .before .before .judged2 .given .0 .0) e (answer-of (c .search-at .result))
+    let start = c .before .before .before .before .before .before .before .before .before .before .before in
+    let judge-lent = c .before .before .before .before .before .judge-lent in
+    let judged2 = c .before .before .before .judged2 in
+    let h-lent = c .before .h-lent in
+    let e = sym (judge-lent .ensures) ∙ judged2 .given .1 in let q = lent-ready (start .args .table .now) (record { p = start .args .p; k = start .args .k; room = start .args .room; top = start .args .top; capacity = start .args .capacity; side-places = start .args .side-places }) (start .args .clipped .now) (start .args .buckets .now) (start .args .side .now) (start .args .key .now) (judged2 .given .0 .0) e in let g = fine (record { p = start .args .p; k = start .args .k; room = start .args .room; top = start .args .top; capacity = start .args .capacity; side-places = start .args .side-places }) (start .args .clipped .now) (start .args .buckets .now) (start .args .side .now) (start .args .key .now) (judged2 .given .0 .0) (q .1) in
+    lent-answers (start .args .table .now) (record { p = start .args .p; k = start .args .k; room = start .args .room; top = start .args .top; capacity = start .args .capacity; side-places = start .args .side-places }) (start .args .clipped .now) (start .args .buckets .now) (start .args .side .now) (start .args .key .now) (judged2 .given .0 .0) e (answer-of (c .search-at .result))
     (λ right. c .search-at .ensures
-    ∙ hashed (paper (c .before .before .before .judged2 .given .0 .0)) (c .before .before .before .before .before .before .before .before .before .before .before .args .clipped .now) (c .before .before .before .before .before .before .before .before .before .before .before .args .buckets .now) (c .before .before .before .before .before .before .before .before .before .before .before .args .side .now) (c .before .before .before .before .before .before .before .before .before .before .before .args .key .now) (c .before .h-lent .result) (c .before .h-lent .ensures (subst (λ (w : ℕ). TableRight w (c .before .before .before .before .before .before .before .before .before .before .before .args .table .now)) (sym (g .wide ∙ ap (λ (t : Settings). card-of t .width) (g .same))) right))
-    ∙ ap (λ (t : Settings). search-areas (card-of t) (c .before .before .before .before .before .before .before .before .before .before .before .args .clipped .now) (c .before .before .before .before .before .before .before .before .before .before .before .args .buckets .now) (c .before .before .before .before .before .before .before .before .before .before .before .args .side .now) (c .before .before .before .before .before .before .before .before .before .before .before .args .key .now)) (g .same))
+    ∙ hashed (paper (judged2 .given .0 .0)) (start .args .clipped .now) (start .args .buckets .now) (start .args .side .now) (start .args .key .now) (h-lent .result) (h-lent .ensures (subst (λ (w : ℕ). TableRight w (start .args .table .now)) (sym (g .wide ∙ ap (λ (t : Settings). card-of t .width) (g .same))) right))
+    ∙ ap (λ (t : Settings). search-areas (card-of t) (start .args .clipped .now) (start .args .buckets .now) (start .args .side .now) (start .args .key .now)) (g .same))
 
 pub search-lent-spec : {M : Type 1} → statement M
 search-lent-spec =

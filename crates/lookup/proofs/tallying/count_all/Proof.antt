@@ -17,17 +17,25 @@ cast-t7 : tie.Need-cast-t7
 cast-t7 c = search needs
 
 count-at-requires-2 : tie.Need-count-at-requires-2
-count-at-requires-2 c κs = let b = bounds (paper (c .before .before .before .before .before .args .s)) (c .before .before .before .before .before .pre .0) in omega (arith, c .before .before .before .before .before .pre .1)
+count-at-requires-2 c κs =
+    let start = c .before .before .before .before .before in
+    let b = bounds (paper (start .args .s)) (start .pre .0) in omega (arith, start .pre .1)
 
 buckets-requires : tie.Need-buckets-requires
 buckets-requires c κs = search needs
 
 fill-requires : tie.Need-fill-requires
-fill-requires c κs = let b = bounds (paper (c .before .before .before .before .before .before .before .args .s)) (c .before .before .before .before .before .before .before .pre .0) in (omega (arith, c .before .count-at2 .ensures .1), omega (arith, c .buckets .ensures), omega (arith, c .buckets .ensures))
+fill-requires c κs =
+    let start = c .before .before .before .before .before .before .before in
+    let b = bounds (paper (start .args .s)) (start .pre .0) in (omega (arith, c .before .count-at2 .ensures .1), omega (arith, c .buckets .ensures), omega (arith, c .buckets .ensures))
 
 returns : tie.Need-returns
 unfolding totals-of
-returns c = rw (c .before .before .before .before .sum-marks .ensures .0, c .before .before .before .before .sum-marks .ensures .1, c .before .before .before .count-at .ensures .0, c .fill .ensures, c .before .before .count-at2 .ensures .0, c .before .buckets .ensures)
+returns c =
+    let sum-marks = c .before .before .before .before .sum-marks in
+    let count-at = c .before .before .before .count-at in
+    let count-at2 = c .before .before .count-at2 in
+    rw (sum-marks .ensures .0, sum-marks .ensures .1, count-at .ensures .0, c .fill .ensures, count-at2 .ensures .0, c .before .buckets .ensures)
 
 pub count-all-spec : {M : Type 1} → statement M
 count-all-spec =

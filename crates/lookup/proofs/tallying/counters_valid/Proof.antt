@@ -26,15 +26,22 @@ loop-holds : tie.Need-loop-holds Inv-loop μ-loop
 loop-holds c = (omega arith, ap (λ (l : List ℕ). any (λ x. ltb (c .before .before .args .s .top) x) (map (counter (c .before .before .args .clipped .now)) l)) (rest-all (c .buckets .result)))
 
 counter-requires : tie.Need-counter-requires Inv-loop μ-loop
-counter-requires c κs = counter-in (paper (c .before .before .before .before .args .s)) (c .before .before .before .before .pre .0) (c .before .before .before .before .args .clipped .now) (c .before .loop .b) (c .before .before .buckets .result) (c .loop-test .taken) (c .before .before .buckets .ensures) (c .before .before .before .before .pre .1)
+counter-requires c κs =
+    let start = c .before .before .before .before in
+    let buckets = c .before .before .buckets in
+    counter-in (paper (start .args .s)) (start .pre .0) (start .args .clipped .now) (c .before .loop .b) (buckets .result) (c .loop-test .taken) (buckets .ensures) (start .pre .1)
 
 cast-if1 : tie.Need-cast-if1 Inv-loop μ-loop
 cast-if1 c = search needs
 
 returns : tie.Need-returns Inv-loop μ-loop
 returns c =
-    let e = any-here (counter (c .before .before .before .before .before .before .before .args .clipped .now)) (λ x. ltb (c .before .before .before .before .before .before .before .args .s .top) x) (c .before .before .before .before .loop .b) (c .before .before .before .before .before .buckets .result) (c .before .before .before .loop-test .taken) (rw (← c .before .before .counter .ensures) (lt-ltb _ _ (c .if1 .taken))) (c .before .before .before .before .loop .inv .1) in
-    rw (← c .before .before .before .before .before .buckets .ensures, ← any-map (λ x. ltb (c .before .before .before .before .before .before .before .args .s .top) x) (counter (c .before .before .before .before .before .before .before .args .clipped .now)) (upto 0 (c .before .before .before .before .before .buckets .result)), e)
+    let start = c .before .before .before .before .before .before .before in
+    let buckets = c .before .before .before .before .before .buckets in
+    let loop = c .before .before .before .before .loop in
+    let loop-test = c .before .before .before .loop-test in
+    let e = any-here (counter (start .args .clipped .now)) (λ x. ltb (start .args .s .top) x) (loop .b) (buckets .result) (loop-test .taken) (rw (← c .before .before .counter .ensures) (lt-ltb _ _ (c .if1 .taken))) (loop .inv .1) in
+    rw (← buckets .ensures, ← any-map (λ x. ltb (start .args .s .top) x) (counter (start .args .clipped .now)) (upto 0 (buckets .result)), e)
 
 add-b : tie.Need-add-b Inv-loop μ-loop
 add-b c = omega arith
@@ -43,12 +50,20 @@ loop-less : tie.Need-loop-less Inv-loop μ-loop
 loop-less c = omega arith
 
 loop-again : tie.Need-loop-again Inv-loop μ-loop
-loop-again c = (omega arith, any-on (counter (c .before .before .before .before .before .before .before .args .clipped .now)) (λ x. ltb (c .before .before .before .before .before .before .before .args .s .top) x) (c .before .before .before .before .loop .b) (c .before .before .before .before .before .buckets .result) (c .before .before .before .loop-test .taken) (rw (← c .before .before .counter .ensures) (le-ltb _ _ (c .if1 .left))) (c .before .before .before .before .loop .inv .1))
+loop-again c =
+    let start = c .before .before .before .before .before .before .before in
+    let buckets = c .before .before .before .before .before .buckets in
+    let loop = c .before .before .before .before .loop in
+    let loop-test = c .before .before .before .loop-test in
+    (omega arith, any-on (counter (start .args .clipped .now)) (λ x. ltb (start .args .s .top) x) (loop .b) (buckets .result) (loop-test .taken) (rw (← c .before .before .counter .ensures) (le-ltb _ _ (c .if1 .left))) (loop .inv .1))
 
 returns-2 : tie.Need-returns-2 Inv-loop μ-loop
 returns-2 c =
-    let e = any-none-left (counter (c .before .before .before .before .args .clipped .now)) (λ x. ltb (c .before .before .before .before .args .s .top) x) (c .before .loop .b) (c .before .before .buckets .result) (c .loop-test .left) (c .before .loop .inv .1) in
-    rw (← c .before .before .buckets .ensures, ← any-map (λ x. ltb (c .before .before .before .before .args .s .top) x) (counter (c .before .before .before .before .args .clipped .now)) (upto 0 (c .before .before .buckets .result)), e)
+    let start = c .before .before .before .before in
+    let buckets = c .before .before .buckets in
+    let loop = c .before .loop in
+    let e = any-none-left (counter (start .args .clipped .now)) (λ x. ltb (start .args .s .top) x) (loop .b) (buckets .result) (c .loop-test .left) (loop .inv .1) in
+    rw (← buckets .ensures, ← any-map (λ x. ltb (start .args .s .top) x) (counter (start .args .clipped .now)) (upto 0 (buckets .result)), e)
 
 pub counters-valid-spec : {M : Type 1} → statement M
 counters-valid-spec =

@@ -19,19 +19,36 @@ counters-valid-requires : tie.Need-counters-valid-requires
 counters-valid-requires c κs = search needs
 
 returns : tie.Need-returns
-returns c = λ ledger. let v = negated-false (c .before .counters-valid .result) (any (λ b. ltb (c .before .before .before .before .before .args .s .top) (counter (c .before .before .before .before .before .args .clipped .now) b)) (upto 0 (card-of (paper (c .before .before .before .before .before .args .s)) .buckets))) (c .before .counters-valid .ensures) (not-true _ (c .if1 .taken)) in rw (invalid-is (paper (c .before .before .before .before .before .args .s)) ledger (c .before .before .before .before .before .args .clipped .now) (c .before .before .before .before .before .args .buckets .now) (c .before .before .before .before .before .args .side .now), v)
+returns c =
+    let start = c .before .before .before .before .before in
+    let counters-valid = c .before .counters-valid in
+    λ ledger. let v = negated-false (counters-valid .result) (any (λ b. ltb (start .args .s .top) (counter (start .args .clipped .now) b)) (upto 0 (card-of (paper (start .args .s)) .buckets))) (counters-valid .ensures) (not-true _ (c .if1 .taken)) in rw (invalid-is (paper (start .args .s)) ledger (start .args .clipped .now) (start .args .buckets .now) (start .args .side .now), v)
 
 marks-valid-requires : tie.Need-marks-valid-requires
 marks-valid-requires c κs = search needs
 
 returns-2 : tie.Need-returns-2
-returns-2 c = λ ledger. let u = negated-true (c .before .before .before .counters-valid .result) (any (λ b. ltb (c .before .before .before .before .before .before .before .args .s .top) (counter (c .before .before .before .before .before .before .before .args .clipped .now) b)) (upto 0 (card-of (paper (c .before .before .before .before .before .before .before .args .s)) .buckets))) (c .before .before .before .counters-valid .ensures) (not-false _ (c .before .before .if1 .left)) in let v = negated-false (c .before .marks-valid .result) (any (λ x. ltb (c .before .before .before .before .before .before .before .args .s .room) x && not (eqb x 255)) (marks (card-of (paper (c .before .before .before .before .before .before .before .args .s))) (c .before .before .before .before .before .before .before .args .buckets .now))) (c .before .marks-valid .ensures) (not-true _ (c .if2 .taken)) in rw (invalid-is (paper (c .before .before .before .before .before .before .before .args .s)) ledger (c .before .before .before .before .before .before .before .args .clipped .now) (c .before .before .before .before .before .before .before .args .buckets .now) (c .before .before .before .before .before .before .before .args .side .now), u, v)
+returns-2 c =
+    let start = c .before .before .before .before .before .before .before in
+    let counters-valid = c .before .before .before .counters-valid in
+    let if1 = c .before .before .if1 in
+    let marks-valid = c .before .marks-valid in
+    λ ledger. let u = negated-true (counters-valid .result) (any (λ b. ltb (start .args .s .top) (counter (start .args .clipped .now) b)) (upto 0 (card-of (paper (start .args .s)) .buckets))) (counters-valid .ensures) (not-false _ (if1 .left)) in let v = negated-false (marks-valid .result) (any (λ x. ltb (start .args .s .room) x && not (eqb x 255)) (marks (card-of (paper (start .args .s))) (start .args .buckets .now))) (marks-valid .ensures) (not-true _ (c .if2 .taken)) in rw (invalid-is (paper (start .args .s)) ledger (start .args .clipped .now) (start .args .buckets .now) (start .args .side .now), u, v)
 
 count-at-requires : tie.Need-count-at-requires
-count-at-requires c κs = let b = bounds (paper (c .before .before .before .before .before .before .before .args .s)) (c .before .before .before .before .before .before .before .pre .ok) in omega (arith, c .before .before .before .before .before .before .before .pre .side-size)
+count-at-requires c κs =
+    let start = c .before .before .before .before .before .before .before in
+    let b = bounds (paper (start .args .s)) (start .pre .ok) in omega (arith, start .pre .side-size)
 
 returns-3 : tie.Need-returns-3
-returns-3 c = λ ledger. let u = negated-true (c .before .before .before .before .before .counters-valid .result) (any (λ b. ltb (c .before .before .before .before .before .before .before .before .before .args .s .top) (counter (c .before .before .before .before .before .before .before .before .before .args .clipped .now) b)) (upto 0 (card-of (paper (c .before .before .before .before .before .before .before .before .before .args .s)) .buckets))) (c .before .before .before .before .before .counters-valid .ensures) (not-false _ (c .before .before .before .before .if1 .left)) in let v = negated-true (c .before .before .before .marks-valid .result) (any (λ x. ltb (c .before .before .before .before .before .before .before .before .before .args .s .room) x && not (eqb x 255)) (marks (card-of (paper (c .before .before .before .before .before .before .before .before .before .args .s))) (c .before .before .before .before .before .before .before .before .before .args .buckets .now))) (c .before .before .before .marks-valid .ensures) (not-false _ (c .before .before .if2 .left)) in rw (invalid-is (paper (c .before .before .before .before .before .before .before .before .before .args .s)) ledger (c .before .before .before .before .before .before .before .before .before .args .clipped .now) (c .before .before .before .before .before .before .before .before .before .args .buckets .now) (c .before .before .before .before .before .before .before .before .before .args .side .now), u, v, ← c .before .count-at .ensures .0) (leb-not-ltb (c .before .count-at .result) (c .before .before .before .before .before .before .before .before .before .args .s .«side_places»))
+returns-3 c =
+    let start = c .before .before .before .before .before .before .before .before .before in
+    let counters-valid = c .before .before .before .before .before .counters-valid in
+    let if1 = c .before .before .before .before .if1 in
+    let marks-valid = c .before .before .before .marks-valid in
+    let if2 = c .before .before .if2 in
+    let count-at = c .before .count-at in
+    λ ledger. let u = negated-true (counters-valid .result) (any (λ b. ltb (start .args .s .top) (counter (start .args .clipped .now) b)) (upto 0 (card-of (paper (start .args .s)) .buckets))) (counters-valid .ensures) (not-false _ (if1 .left)) in let v = negated-true (marks-valid .result) (any (λ x. ltb (start .args .s .room) x && not (eqb x 255)) (marks (card-of (paper (start .args .s))) (start .args .buckets .now))) (marks-valid .ensures) (not-false _ (if2 .left)) in rw (invalid-is (paper (start .args .s)) ledger (start .args .clipped .now) (start .args .buckets .now) (start .args .side .now), u, v, ← count-at .ensures .0) (leb-not-ltb (count-at .result) (start .args .s .«side_places»))
 
 pub lookup-valid-spec : {M : Type 1} → statement M
 lookup-valid-spec =

@@ -25,21 +25,39 @@ bucket-size-requires : tie.Need-bucket-size-requires Inv-loop μ-loop
 bucket-size-requires c κs = c .before .before .pre .0
 
 loop-holds : tie.Need-loop-holds Inv-loop μ-loop
-loop-holds c = (omega arith, omega arith, ap (λ (l : List ℕ). any (λ x. ltb (c .before .before .before .args .s .room) x && not (eqb x 255)) (map (mark-at (c .before .before .before .args .buckets .now) (c .bucket-size .result)) l)) (rest-all (c .before .buckets .result)))
+loop-holds c =
+    let start = c .before .before .before in
+    (omega arith, omega arith, ap (λ (l : List ℕ). any (λ x. ltb (start .args .s .room) x && not (eqb x 255)) (map (mark-at (start .args .buckets .now) (c .bucket-size .result)) l)) (rest-all (c .before .buckets .result)))
 
 shared-slice-read-mark : tie.Need-shared-slice-read-mark Inv-loop μ-loop
-shared-slice-read-mark c = let b = bounds (paper (c .before .before .before .before .before .before .args .s)) (c .before .before .before .before .before .before .pre .0) in omega (arith, (mark-there (paper (c .before .before .before .before .before .before .args .s)) (c .before .before .before .before .before .before .pre .0) (c .before .before .before .before .before .before .args .buckets .now) (c .before .before .loop .b) (c .before .before .before .before .buckets .result) (c .before .before .before .bucket-size .result) (c .before .loop-test .taken) (c .before .before .before .before .buckets .ensures) (c .before .before .before .bucket-size .ensures) (c .before .before .before .before .before .before .pre .1)), c .before .before .loop .inv .1, c .before .before .before .bucket-size .ensures)
+shared-slice-read-mark c =
+    let start = c .before .before .before .before .before .before in
+    let buckets = c .before .before .before .before .buckets in
+    let bucket-size = c .before .before .before .bucket-size in
+    let loop = c .before .before .loop in
+    let b = bounds (paper (start .args .s)) (start .pre .0) in omega (arith, (mark-there (paper (start .args .s)) (start .pre .0) (start .args .buckets .now) (loop .b) (buckets .result) (bucket-size .result) (c .before .loop-test .taken) (buckets .ensures) (bucket-size .ensures) (start .pre .1)), loop .inv .1, bucket-size .ensures)
 
 cast-mark : tie.Need-cast-mark Inv-loop μ-loop
 cast-mark c = omega (arith, c .before .before .before .before .before .shared-slice-known .given (c .before .before .loop .at))
 
 returns : tie.Need-returns Inv-loop μ-loop
 returns c =
-    let e = any-here (mark-at (c .before .before .before .before .before .before .before .args .buckets .now) (c .before .before .before .before .bucket-size .result)) (λ x. ltb (c .before .before .before .before .before .before .before .args .s .room) x && not (eqb x 255)) (c .before .before .before .loop .b) (c .before .before .before .before .before .buckets .result) (c .before .before .loop-test .taken) (rw (← c .before .before .before .loop .inv .1) (c .if1 .taken)) (c .before .before .before .loop .inv .2) in
-    rw (marks-are (paper (c .before .before .before .before .before .before .before .args .s)) (c .before .before .before .before .before .before .before .pre .0) (c .before .before .before .before .before .before .before .args .buckets .now), ← c .before .before .before .before .bucket-size .ensures, ← c .before .before .before .before .before .buckets .ensures, e)
+    let start = c .before .before .before .before .before .before .before in
+    let buckets = c .before .before .before .before .before .buckets in
+    let bucket-size = c .before .before .before .before .bucket-size in
+    let loop = c .before .before .before .loop in
+    let loop-test = c .before .before .loop-test in
+    let e = any-here (mark-at (start .args .buckets .now) (bucket-size .result)) (λ x. ltb (start .args .s .room) x && not (eqb x 255)) (loop .b) (buckets .result) (loop-test .taken) (rw (← loop .inv .1) (c .if1 .taken)) (loop .inv .2) in
+    rw (marks-are (paper (start .args .s)) (start .pre .0) (start .args .buckets .now), ← bucket-size .ensures, ← buckets .ensures, e)
 
 add-at : tie.Need-add-at Inv-loop μ-loop
-add-at c = omega (arith, (mark-there (paper (c .before .before .before .before .before .before .before .args .s)) (c .before .before .before .before .before .before .before .pre .0) (c .before .before .before .before .before .before .before .args .buckets .now) (c .before .before .before .loop .b) (c .before .before .before .before .before .buckets .result) (c .before .before .before .before .bucket-size .result) (c .before .before .loop-test .taken) (c .before .before .before .before .before .buckets .ensures) (c .before .before .before .before .bucket-size .ensures) (c .before .before .before .before .before .before .before .pre .1)), c .before .before .before .loop .inv .1)
+add-at c =
+    let start = c .before .before .before .before .before .before .before in
+    let buckets = c .before .before .before .before .before .buckets in
+    let bucket-size = c .before .before .before .before .bucket-size in
+    let loop = c .before .before .before .loop in
+    let loop-test = c .before .before .loop-test in
+    omega (arith, (mark-there (paper (start .args .s)) (start .pre .0) (start .args .buckets .now) (loop .b) (buckets .result) (bucket-size .result) (loop-test .taken) (buckets .ensures) (bucket-size .ensures) (start .pre .1)), loop .inv .1)
 
 add-b : tie.Need-add-b Inv-loop μ-loop
 add-b c = omega arith
@@ -48,12 +66,22 @@ loop-less : tie.Need-loop-less Inv-loop μ-loop
 loop-less c = omega arith
 
 loop-again : tie.Need-loop-again Inv-loop μ-loop
-loop-again c = (omega arith, omega (arith, c .before .before .before .loop .inv .1), any-on (mark-at (c .before .before .before .before .before .before .before .args .buckets .now) (c .before .before .before .before .bucket-size .result)) (λ x. ltb (c .before .before .before .before .before .before .before .args .s .room) x && not (eqb x 255)) (c .before .before .before .loop .b) (c .before .before .before .before .before .buckets .result) (c .before .before .loop-test .taken) (rw (← c .before .before .before .loop .inv .1) (c .if1 .left)) (c .before .before .before .loop .inv .2))
+loop-again c =
+    let start = c .before .before .before .before .before .before .before in
+    let buckets = c .before .before .before .before .before .buckets in
+    let bucket-size = c .before .before .before .before .bucket-size in
+    let loop = c .before .before .before .loop in
+    let loop-test = c .before .before .loop-test in
+    (omega arith, omega (arith, loop .inv .1), any-on (mark-at (start .args .buckets .now) (bucket-size .result)) (λ x. ltb (start .args .s .room) x && not (eqb x 255)) (loop .b) (buckets .result) (loop-test .taken) (rw (← loop .inv .1) (c .if1 .left)) (loop .inv .2))
 
 returns-2 : tie.Need-returns-2 Inv-loop μ-loop
 returns-2 c =
-    let e = any-none-left (mark-at (c .before .before .before .before .before .args .buckets .now) (c .before .before .bucket-size .result)) (λ x. ltb (c .before .before .before .before .before .args .s .room) x && not (eqb x 255)) (c .before .loop .b) (c .before .before .before .buckets .result) (c .loop-test .left) (c .before .loop .inv .2) in
-    rw (marks-are (paper (c .before .before .before .before .before .args .s)) (c .before .before .before .before .before .pre .0) (c .before .before .before .before .before .args .buckets .now), ← c .before .before .bucket-size .ensures, ← c .before .before .before .buckets .ensures, e)
+    let start = c .before .before .before .before .before in
+    let buckets = c .before .before .before .buckets in
+    let bucket-size = c .before .before .bucket-size in
+    let loop = c .before .loop in
+    let e = any-none-left (mark-at (start .args .buckets .now) (bucket-size .result)) (λ x. ltb (start .args .s .room) x && not (eqb x 255)) (loop .b) (buckets .result) (c .loop-test .left) (loop .inv .2) in
+    rw (marks-are (paper (start .args .s)) (start .pre .0) (start .args .buckets .now), ← bucket-size .ensures, ← buckets .ensures, e)
 
 pub marks-valid-spec : {M : Type 1} → statement M
 marks-valid-spec =

@@ -32,16 +32,34 @@ bucket-size-requires : tie.Need-bucket-size-requires Inv-loop μ-loop
 bucket-size-requires c κs = c .before .before .pre .0
 
 loop-holds : tie.Need-loop-holds Inv-loop μ-loop
-loop-holds c = (omega arith, omega arith, omega arith, omega arith, ap (λ (l : List ℕ). 0 + sum (filter (λ x. not (eqb x 255)) (map (mark-at (c .before .before .before .args .buckets .now) (c .bucket-size .result)) l))) (rest-all (c .before .buckets .result)) ∙ zero-add _, ap (λ (l : List ℕ). 0 + length (filter (λ x. eqb x 255) (map (mark-at (c .before .before .before .args .buckets .now) (c .bucket-size .result)) l))) (rest-all (c .before .buckets .result)) ∙ zero-add _)
+loop-holds c =
+    let start = c .before .before .before in
+    let buckets = c .before .buckets in
+    (omega arith, omega arith, omega arith, omega arith, ap (λ (l : List ℕ). 0 + sum (filter (λ x. not (eqb x 255)) (map (mark-at (start .args .buckets .now) (c .bucket-size .result)) l))) (rest-all (buckets .result)) ∙ zero-add _, ap (λ (l : List ℕ). 0 + length (filter (λ x. eqb x 255) (map (mark-at (start .args .buckets .now) (c .bucket-size .result)) l))) (rest-all (buckets .result)) ∙ zero-add _)
 
 shared-slice-read-with-mark : tie.Need-shared-slice-read-with-mark Inv-loop μ-loop
-shared-slice-read-with-mark c = let b = bounds (paper (c .before .before .before .before .before .before .args .s)) (c .before .before .before .before .before .before .pre .0) in omega (arith, (mark-there (paper (c .before .before .before .before .before .before .args .s)) (c .before .before .before .before .before .before .pre .0) (c .before .before .before .before .before .before .args .buckets .now) (c .before .before .loop .b) (c .before .before .before .before .buckets .result) (c .before .before .before .bucket-size .result) (c .before .loop-test .taken) (c .before .before .before .before .buckets .ensures) (c .before .before .before .bucket-size .ensures) (c .before .before .before .before .before .before .pre .1)), c .before .before .loop .inv .1, c .before .before .before .bucket-size .ensures)
+shared-slice-read-with-mark c =
+    let start = c .before .before .before .before .before .before in
+    let buckets = c .before .before .before .before .buckets in
+    let bucket-size = c .before .before .before .bucket-size in
+    let loop = c .before .before .loop in
+    let b = bounds (paper (start .args .s)) (start .pre .0) in omega (arith, (mark-there (paper (start .args .s)) (start .pre .0) (start .args .buckets .now) (loop .b) (buckets .result) (bucket-size .result) (c .before .loop-test .taken) (buckets .ensures) (bucket-size .ensures) (start .pre .1)), loop .inv .1, bucket-size .ensures)
 
 with-mark-requires : tie.Need-with-mark-requires Inv-loop μ-loop
-with-mark-requires c κs = let b = bounds (paper (c .before .before .before .before .before .before .args .s)) (c .before .before .before .before .before .before .pre .0) in (omega (arith, c .before .before .loop .inv .2, c .before .before .before .before .buckets .ensures), omega (arith, c .before .before .loop .inv .3, c .before .before .before .before .buckets .ensures))
+with-mark-requires c κs =
+    let start = c .before .before .before .before .before .before in
+    let buckets = c .before .before .before .before .buckets in
+    let loop = c .before .before .loop in
+    let b = bounds (paper (start .args .s)) (start .pre .0) in (omega (arith, loop .inv .2, buckets .ensures), omega (arith, loop .inv .3, buckets .ensures))
 
 add-at : tie.Need-add-at Inv-loop μ-loop
-add-at c = omega (arith, (mark-there (paper (c .before .before .before .before .before .before .before .args .s)) (c .before .before .before .before .before .before .before .pre .0) (c .before .before .before .before .before .before .before .args .buckets .now) (c .before .before .before .loop .b) (c .before .before .before .before .before .buckets .result) (c .before .before .before .before .bucket-size .result) (c .before .before .loop-test .taken) (c .before .before .before .before .before .buckets .ensures) (c .before .before .before .before .bucket-size .ensures) (c .before .before .before .before .before .before .before .pre .1)), c .before .before .before .loop .inv .1)
+add-at c =
+    let start = c .before .before .before .before .before .before .before in
+    let buckets = c .before .before .before .before .before .buckets in
+    let bucket-size = c .before .before .before .before .bucket-size in
+    let loop = c .before .before .before .loop in
+    let loop-test = c .before .before .loop-test in
+    omega (arith, (mark-there (paper (start .args .s)) (start .pre .0) (start .args .buckets .now) (loop .b) (buckets .result) (bucket-size .result) (loop-test .taken) (buckets .ensures) (bucket-size .ensures) (start .pre .1)), loop .inv .1)
 
 add-b : tie.Need-add-b Inv-loop μ-loop
 add-b c = omega arith
@@ -51,21 +69,31 @@ loop-less c = omega arith
 
 loop-again : tie.Need-loop-again Inv-loop μ-loop
 loop-again c =
-    let x = getD (c .before .before .before .before .before .before .before .args .buckets .now) (c .before .before .before .loop .at) 0 in
-    let byte : x < 256 = (c .before .before .before .before .before .before .shared-slice-known .given (c .before .before .before .loop .at)) .fits in
+    let start = c .before .before .before .before .before .before .before in
+    let shared-slice-known = c .before .before .before .before .before .before .shared-slice-known in
+    let buckets = c .before .before .before .before .before .buckets in
+    let bucket-size = c .before .before .before .before .bucket-size in
+    let loop = c .before .before .before .loop in
+    let loop-test = c .before .before .loop-test in
+    let x = getD (start .args .buckets .now) (loop .at) 0 in
+    let byte : x < 256 = (shared-slice-known .given (loop .at)) .fits in
     let m = c .with-mark .ensures in (
       omega arith,
-      omega (arith, c .before .before .before .loop .inv .1),
-      more-marks (c .before .before .before .loop .sums .«in_buckets») (c .with-mark .result .«in_buckets») (c .before .before .before .loop .b) x byte (m .0) (c .before .before .before .loop .inv .2),
-      more-255 (c .before .before .before .loop .sums .«marked_255») (c .with-mark .result .«marked_255») (c .before .before .before .loop .b) x (m .1) (c .before .before .before .loop .inv .3),
-      rw (m .0, c .before .before .before .loop .inv .1) (not-255 (c .before .before .before .loop .sums .«in_buckets») (mark-at (c .before .before .before .before .before .before .before .args .buckets .now) (c .before .before .before .before .bucket-size .result) (c .before .before .before .loop .b)) _ (sum-on (mark-at (c .before .before .before .before .before .before .before .args .buckets .now) (c .before .before .before .before .bucket-size .result)) (λ x. not (eqb x 255)) (c .before .before .before .loop .b) (c .before .before .before .before .before .buckets .result) (c .before .before .before .loop .sums .«in_buckets») (c .before .before .loop-test .taken) (c .before .before .before .loop .inv .4))),
-      rw (m .1, c .before .before .before .loop .inv .1) (count-on (mark-at (c .before .before .before .before .before .before .before .args .buckets .now) (c .before .before .before .before .bucket-size .result)) (λ x. eqb x 255) (c .before .before .before .loop .b) (c .before .before .before .before .before .buckets .result) (c .before .before .before .loop .sums .«marked_255») (c .before .before .loop-test .taken) (c .before .before .before .loop .inv .5)),
+      omega (arith, loop .inv .1),
+      more-marks (loop .sums .«in_buckets») (c .with-mark .result .«in_buckets») (loop .b) x byte (m .0) (loop .inv .2),
+      more-255 (loop .sums .«marked_255») (c .with-mark .result .«marked_255») (loop .b) x (m .1) (loop .inv .3),
+      rw (m .0, loop .inv .1) (not-255 (loop .sums .«in_buckets») (mark-at (start .args .buckets .now) (bucket-size .result) (loop .b)) _ (sum-on (mark-at (start .args .buckets .now) (bucket-size .result)) (λ x. not (eqb x 255)) (loop .b) (buckets .result) (loop .sums .«in_buckets») (loop-test .taken) (loop .inv .4))),
+      rw (m .1, loop .inv .1) (count-on (mark-at (start .args .buckets .now) (bucket-size .result)) (λ x. eqb x 255) (loop .b) (buckets .result) (loop .sums .«marked_255») (loop-test .taken) (loop .inv .5)),
     )
 
 returns : tie.Need-returns Inv-loop μ-loop
 returns c =
-    rw (marks-are (paper (c .before .before .before .before .before .args .s)) (c .before .before .before .before .before .pre .0) (c .before .before .before .before .before .args .buckets .now), ← c .before .before .bucket-size .ensures, ← c .before .before .before .buckets .ensures)
-    (sum-end (mark-at (c .before .before .before .before .before .args .buckets .now) (c .before .before .bucket-size .result)) (λ x. not (eqb x 255)) (c .before .loop .b) (c .before .before .before .buckets .result) (c .before .loop .sums .«in_buckets») (c .loop-test .left) (c .before .loop .inv .4), count-end (mark-at (c .before .before .before .before .before .args .buckets .now) (c .before .before .bucket-size .result)) (λ x. eqb x 255) (c .before .loop .b) (c .before .before .before .buckets .result) (c .before .loop .sums .«marked_255») (c .loop-test .left) (c .before .loop .inv .5))
+    let start = c .before .before .before .before .before in
+    let buckets = c .before .before .before .buckets in
+    let bucket-size = c .before .before .bucket-size in
+    let loop = c .before .loop in
+    rw (marks-are (paper (start .args .s)) (start .pre .0) (start .args .buckets .now), ← bucket-size .ensures, ← buckets .ensures)
+    (sum-end (mark-at (start .args .buckets .now) (bucket-size .result)) (λ x. not (eqb x 255)) (loop .b) (buckets .result) (loop .sums .«in_buckets») (c .loop-test .left) (loop .inv .4), count-end (mark-at (start .args .buckets .now) (bucket-size .result)) (λ x. eqb x 255) (loop .b) (buckets .result) (loop .sums .«marked_255») (c .loop-test .left) (loop .inv .5))
 
 pub sum-marks-spec : {M : Type 1} → statement M
 sum-marks-spec =

@@ -17,7 +17,10 @@ no-totals-requires c κs = search needs
 
 returns : tie.Need-returns
 unfolding tally-areas
-returns c = let v = negated-false (c .before .before .valid .result) (ledger-invalid (card-of (paper (c .before .before .before .before .before .before .before .args .s))) (c .before .before .before .before .before .before .before .args .ledger .now)) (c .before .before .valid .ensures) (not-true _ (c .before .if1 .taken)) in rw (c .no-totals .ensures, v)
+returns c =
+    let start = c .before .before .before .before .before .before .before in
+    let valid = c .before .before .valid in
+    let v = negated-false (valid .result) (ledger-invalid (card-of (paper (start .args .s))) (start .args .ledger .now)) (valid .ensures) (not-true _ (c .before .if1 .taken)) in rw (c .no-totals .ensures, v)
 
 lookup-valid-requires : tie.Need-lookup-valid-requires
 lookup-valid-requires c κs = search needs
@@ -27,14 +30,24 @@ no-totals-requires-2 c κs = search needs
 
 returns-2 : tie.Need-returns-2
 unfolding tally-areas
-returns-2 c = let u = negated-true (c .before .before .before .before .valid .result) (ledger-invalid (card-of (paper (c .before .before .before .before .before .before .before .before .before .args .s))) (c .before .before .before .before .before .before .before .before .before .args .ledger .now)) (c .before .before .before .before .valid .ensures) (not-false _ (c .before .before .before .if1 .left)) in let v = negated-false (c .before .before .lookup-valid .result) (lookup-invalid (card-of (paper (c .before .before .before .before .before .before .before .before .before .args .s))) (read-areas (c .before .before .before .before .before .before .before .before .before .args .ledger .now) (c .before .before .before .before .before .before .before .before .before .args .clipped .now) (c .before .before .before .before .before .before .before .before .before .args .buckets .now) (c .before .before .before .before .before .before .before .before .before .args .side .now))) (c .before .before .lookup-valid .ensures (c .before .before .before .before .before .before .before .before .before .args .ledger .now)) (not-true _ (c .before .if2 .taken)) in rw (c .no-totals2 .ensures, u, v)
+returns-2 c =
+    let start = c .before .before .before .before .before .before .before .before .before in
+    let valid = c .before .before .before .before .valid in
+    let if1 = c .before .before .before .if1 in
+    let lookup-valid = c .before .before .lookup-valid in
+    let u = negated-true (valid .result) (ledger-invalid (card-of (paper (start .args .s))) (start .args .ledger .now)) (valid .ensures) (not-false _ (if1 .left)) in let v = negated-false (lookup-valid .result) (lookup-invalid (card-of (paper (start .args .s))) (read-areas (start .args .ledger .now) (start .args .clipped .now) (start .args .buckets .now) (start .args .side .now))) (lookup-valid .ensures (start .args .ledger .now)) (not-true _ (c .before .if2 .taken)) in rw (c .no-totals2 .ensures, u, v)
 
 count-all-requires : tie.Need-count-all-requires
 count-all-requires c κs = search needs
 
 returns-3 : tie.Need-returns-3
 unfolding tally-areas
-returns-3 c = let u = negated-true (c .before .before .before .before .valid .result) (ledger-invalid (card-of (paper (c .before .before .before .before .before .before .before .before .before .args .s))) (c .before .before .before .before .before .before .before .before .before .args .ledger .now)) (c .before .before .before .before .valid .ensures) (not-false _ (c .before .before .before .if1 .left)) in let v = negated-true (c .before .before .lookup-valid .result) (lookup-invalid (card-of (paper (c .before .before .before .before .before .before .before .before .before .args .s))) (read-areas (c .before .before .before .before .before .before .before .before .before .args .ledger .now) (c .before .before .before .before .before .before .before .before .before .args .clipped .now) (c .before .before .before .before .before .before .before .before .before .args .buckets .now) (c .before .before .before .before .before .before .before .before .before .args .side .now))) (c .before .before .lookup-valid .ensures (c .before .before .before .before .before .before .before .before .before .args .ledger .now)) (not-false _ (c .before .if2 .left)) in rw (c .count-all .ensures, u, v)
+returns-3 c =
+    let start = c .before .before .before .before .before .before .before .before .before in
+    let valid = c .before .before .before .before .valid in
+    let if1 = c .before .before .before .if1 in
+    let lookup-valid = c .before .before .lookup-valid in
+    let u = negated-true (valid .result) (ledger-invalid (card-of (paper (start .args .s))) (start .args .ledger .now)) (valid .ensures) (not-false _ (if1 .left)) in let v = negated-true (lookup-valid .result) (lookup-invalid (card-of (paper (start .args .s))) (read-areas (start .args .ledger .now) (start .args .clipped .now) (start .args .buckets .now) (start .args .side .now))) (lookup-valid .ensures (start .args .ledger .now)) (not-false _ (c .before .if2 .left)) in rw (c .count-all .ensures, u, v)
 
 pub tally-lent-spec : {M : Type 1} → statement M
 tally-lent-spec =

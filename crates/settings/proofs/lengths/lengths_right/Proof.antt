@@ -19,7 +19,12 @@ side-length-requires : tie.Need-side-length-requires
 side-length-requires c κs = search needs
 
 returns : tie.Need-returns
-returns c = rw (c .before .before .before .before .before .before .before .before .before .ledger-length .ensures, c .before .before .before .before .before .before .before .true-length .ensures, c .before .before .before .before .before .clipped-length .ensures, c .before .before .before .buckets-length .ensures, c .before .side-length .ensures)
+returns c =
+    let ledger-length = c .before .before .before .before .before .before .before .before .before .ledger-length in
+    let true-length = c .before .before .before .before .before .before .before .true-length in
+    let clipped-length = c .before .before .before .before .before .clipped-length in
+    let buckets-length = c .before .before .before .buckets-length in
+    rw (ledger-length .ensures, true-length .ensures, clipped-length .ensures, buckets-length .ensures, c .before .side-length .ensures)
 
 pub lengths-right-spec : {M : Type 1} → statement M
 lengths-right-spec =

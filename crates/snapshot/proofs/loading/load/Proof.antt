@@ -24,7 +24,10 @@ not-loaded-requires : tie.Need-not-loaded-requires
 not-loaded-requires c κs = search needs
 
 returns : tie.Need-returns
-returns c = (c .not-loaded .ensures (record { ledger = c .before .before .before .before .before .before .before .before .before .before .args .ledger .now; true-counts = c .before .before .before .before .before .before .before .before .before .before .args .true-counts .now; clipped-counts = c .before .before .before .before .before .before .before .before .before .before .args .clipped .now; buckets = c .before .before .before .before .before .before .before .before .before .before .args .buckets .now; side-store = c .before .before .before .before .before .before .before .before .before .before .args .side .now })) ∙ loads-12 (c .before .before .before .before .before .before .before .before .before .before .args .file .now) (length (c .before .before .before .before .before .before .before .before .before .before .args .work .now)) (record { ledger = c .before .before .before .before .before .before .before .before .before .before .args .ledger .now; true-counts = c .before .before .before .before .before .before .before .before .before .before .args .true-counts .now; clipped-counts = c .before .before .before .before .before .before .before .before .before .before .args .clipped .now; buckets = c .before .before .before .before .before .before .before .before .before .before .args .buckets .now; side-store = c .before .before .before .before .before .before .before .before .before .before .args .side .now }) (sym (c .before .before .head-wrong .ensures) ∙ (c .before .if1 .taken))
+returns c =
+    let start = c .before .before .before .before .before .before .before .before .before .before in
+    let head-wrong = c .before .before .head-wrong in
+    (c .not-loaded .ensures (record { ledger = start .args .ledger .now; true-counts = start .args .true-counts .now; clipped-counts = start .args .clipped .now; buckets = start .args .buckets .now; side-store = start .args .side .now })) ∙ loads-12 (start .args .file .now) (length (start .args .work .now)) (record { ledger = start .args .ledger .now; true-counts = start .args .true-counts .now; clipped-counts = start .args .clipped .now; buckets = start .args .buckets .now; side-store = start .args .side .now }) (sym (head-wrong .ensures) ∙ (c .before .if1 .taken))
 
 read-settings-requires : tie.Need-read-settings-requires
 read-settings-requires c κs = head-long (c .before .before .before .before .before .before .before .before .before .args .file .now) (sym (c .before .head-wrong .ensures) ∙ (c .if1 .left))
@@ -39,19 +42,40 @@ not-loaded-requires-2 : tie.Need-not-loaded-requires-2
 not-loaded-requires-2 c κs = search needs
 
 returns-2 : tie.Need-returns-2
-returns-2 c = (c .not-loaded2 .ensures (record { ledger = c .before .before .before .before .before .before .before .before .before .before .before .before .before .args .ledger .now; true-counts = c .before .before .before .before .before .before .before .before .before .before .before .before .before .args .true-counts .now; clipped-counts = c .before .before .before .before .before .before .before .before .before .before .before .before .before .args .clipped .now; buckets = c .before .before .before .before .before .before .before .before .before .before .before .before .before .args .buckets .now; side-store = c .before .before .before .before .before .before .before .before .before .before .before .before .before .args .side .now })) ∙ loads-1 (c .before .before .before .before .before .before .before .before .before .before .before .before .before .args .file .now) (length (c .before .before .before .before .before .before .before .before .before .before .before .before .before .args .work .now)) (record { ledger = c .before .before .before .before .before .before .before .before .before .before .before .before .before .args .ledger .now; true-counts = c .before .before .before .before .before .before .before .before .before .before .before .before .before .args .true-counts .now; clipped-counts = c .before .before .before .before .before .before .before .before .before .before .before .before .before .args .clipped .now; buckets = c .before .before .before .before .before .before .before .before .before .before .before .before .before .args .buckets .now; side-store = c .before .before .before .before .before .before .before .before .before .before .before .before .before .args .side .now }) (sym (c .before .before .before .before .before .head-wrong .ensures) ∙ (c .before .before .before .before .if1 .left)) (refused-arm (file-settings (c .before .before .before .before .before .before .before .before .before .before .before .before .before .args .file .now)) (c .before .before .before .read-settings .result) (c .before .before .before .read-settings .ensures) (c .before .enum-told .given .1))
+returns-2 c =
+    let start = c .before .before .before .before .before .before .before .before .before .before .before .before .before in
+    let head-wrong = c .before .before .before .before .before .head-wrong in
+    let if1 = c .before .before .before .before .if1 in
+    let read-settings = c .before .before .before .read-settings in
+    (c .not-loaded2 .ensures (record { ledger = start .args .ledger .now; true-counts = start .args .true-counts .now; clipped-counts = start .args .clipped .now; buckets = start .args .buckets .now; side-store = start .args .side .now })) ∙ loads-1 (start .args .file .now) (length (start .args .work .now)) (record { ledger = start .args .ledger .now; true-counts = start .args .true-counts .now; clipped-counts = start .args .clipped .now; buckets = start .args .buckets .now; side-store = start .args .side .now }) (sym (head-wrong .ensures) ∙ (if1 .left)) (refused-arm (file-settings (start .args .file .now)) (read-settings .result) (read-settings .ensures) (c .before .enum-told .given .1))
 
 work-length-requires : tie.Need-work-length-requires
-work-length-requires c κs = allowed-settings (file-settings (c .before .before .before .before .before .before .before .before .before .before .before .before .before .args .file .now)) (c .before .before .before .read-settings .result) (c .before .before .before .read-settings .ensures) (c .before .checked .given .0 .0) (c .before .checked .given .1)
+work-length-requires c κs =
+    let start = c .before .before .before .before .before .before .before .before .before .before .before .before .before in
+    let read-settings = c .before .before .before .read-settings in
+    let checked = c .before .checked in
+    allowed-settings (file-settings (start .args .file .now)) (read-settings .result) (read-settings .ensures) (checked .given .0 .0) (checked .given .1)
 
 lengths-right-requires : tie.Need-lengths-right-requires
-lengths-right-requires c κs = allowed-settings (file-settings (c .before .before .before .before .before .before .before .before .before .before .before .before .before .before .args .file .now)) (c .before .before .before .before .read-settings .result) (c .before .before .before .before .read-settings .ensures) (c .before .before .checked .given .0 .0) (c .before .before .checked .given .1)
+lengths-right-requires c κs =
+    let start = c .before .before .before .before .before .before .before .before .before .before .before .before .before .before in
+    let read-settings = c .before .before .before .before .read-settings in
+    let checked = c .before .before .checked in
+    allowed-settings (file-settings (start .args .file .now)) (read-settings .result) (read-settings .ensures) (checked .given .0 .0) (checked .given .1)
 
 not-loaded-requires-3 : tie.Need-not-loaded-requires-3
 not-loaded-requires-3 c κs = search needs
 
 returns-3 : tie.Need-returns-3
-returns-3 c = let arm = allowed-arm (file-settings (c .before .before .before .before .before .before .before .before .before .before .before .before .before .before .before .before .before .args .file .now)) (c .before .before .before .before .before .before .before .read-settings .result) (c .before .before .before .before .before .before .before .read-settings .ensures) (c .before .before .before .before .before .checked .given .0 .0) (c .before .before .before .before .before .checked .given .1) in (c .not-loaded3 .ensures (record { ledger = c .before .before .before .before .before .before .before .before .before .before .before .before .before .before .before .before .before .args .ledger .now; true-counts = c .before .before .before .before .before .before .before .before .before .before .before .before .before .before .before .before .before .args .true-counts .now; clipped-counts = c .before .before .before .before .before .before .before .before .before .before .before .before .before .before .before .before .before .args .clipped .now; buckets = c .before .before .before .before .before .before .before .before .before .before .before .before .before .before .before .before .before .args .buckets .now; side-store = c .before .before .before .before .before .before .before .before .before .before .before .before .before .before .before .before .before .args .side .now })) ∙ loads-2 (c .before .before .before .before .before .before .before .before .before .before .before .before .before .before .before .before .before .args .file .now) (length (c .before .before .before .before .before .before .before .before .before .before .before .before .before .before .before .before .before .args .work .now)) (record { ledger = c .before .before .before .before .before .before .before .before .before .before .before .before .before .before .before .before .before .args .ledger .now; true-counts = c .before .before .before .before .before .before .before .before .before .before .before .before .before .before .before .before .before .args .true-counts .now; clipped-counts = c .before .before .before .before .before .before .before .before .before .before .before .before .before .before .before .before .before .args .clipped .now; buckets = c .before .before .before .before .before .before .before .before .before .before .before .before .before .before .before .before .before .args .buckets .now; side-store = c .before .before .before .before .before .before .before .before .before .before .before .before .before .before .before .before .before .args .side .now }) (sym (c .before .before .before .before .before .before .before .before .before .head-wrong .ensures) ∙ (c .before .before .before .before .before .before .before .before .if1 .left)) (arm .0) (c .before .before .before .before .before .checked .given .0 .0) (arm .1) (c .before .before .before .work-length .result) (c .before .before .before .work-length .ensures) (ap (λ (b : Bool). (eqb (length (c .before .before .before .before .before .before .before .before .before .before .before .before .before .before .before .before .before .args .work .now)) (c .before .before .before .work-length .result)) && b) (sym (c .before .before .lengths-right .ensures)) ∙ not-true _ (c .before .if2 .taken))
+returns-3 c =
+    let start = c .before .before .before .before .before .before .before .before .before .before .before .before .before .before .before .before .before in
+    let head-wrong = c .before .before .before .before .before .before .before .before .before .head-wrong in
+    let if1 = c .before .before .before .before .before .before .before .before .if1 in
+    let read-settings = c .before .before .before .before .before .before .before .read-settings in
+    let checked = c .before .before .before .before .before .checked in
+    let work-length = c .before .before .before .work-length in
+    let lengths-right = c .before .before .lengths-right in
+    let arm = allowed-arm (file-settings (start .args .file .now)) (read-settings .result) (read-settings .ensures) (checked .given .0 .0) (checked .given .1) in (c .not-loaded3 .ensures (record { ledger = start .args .ledger .now; true-counts = start .args .true-counts .now; clipped-counts = start .args .clipped .now; buckets = start .args .buckets .now; side-store = start .args .side .now })) ∙ loads-2 (start .args .file .now) (length (start .args .work .now)) (record { ledger = start .args .ledger .now; true-counts = start .args .true-counts .now; clipped-counts = start .args .clipped .now; buckets = start .args .buckets .now; side-store = start .args .side .now }) (sym (head-wrong .ensures) ∙ (if1 .left)) (arm .0) (checked .given .0 .0) (arm .1) (work-length .result) (work-length .ensures) (ap (λ (b : Bool). (eqb (length (start .args .work .now)) (work-length .result)) && b) (sym (lengths-right .ensures)) ∙ not-true _ (c .before .if2 .taken))
 
 table-requires : tie.Need-table-requires
 table-requires c κs = search needs
@@ -60,13 +84,23 @@ slice-aggregate-load-lent : tie.Need-slice-aggregate-load-lent
 slice-aggregate-load-lent c = search needs
 
 load-lent-requires : tie.Need-load-lent-requires
-load-lent-requires c κs = let arm = allowed-arm (file-settings (c .before .before .before .before .before .before .before .before .before .before .before .before .before .before .before .before .before .before .before .before .before .before .before .before .args .file .now)) (c .before .before .before .before .before .before .before .before .before .before .before .before .before .before .read-settings .result) (c .before .before .before .before .before .before .before .before .before .before .before .before .before .before .read-settings .ensures) (c .before .before .before .before .before .before .before .before .before .before .before .before .checked .given .0 .0) (c .before .before .before .before .before .before .before .before .before .before .before .before .checked .given .1) in
-    let v = (ap (λ (b : Bool). (eqb (length (c .before .before .before .before .before .before .before .before .before .before .before .before .before .before .before .before .before .before .before .before .before .before .before .before .args .work .now)) (c .before .before .before .before .before .before .before .before .before .before .work-length .result)) && b) (sym (c .before .before .before .before .before .before .before .before .before .lengths-right .ensures)) ∙ not-false _ (c .before .before .before .before .before .before .before .before .if2 .left)) in (
-      ready (c .before .before .before .before .before .before .before .before .before .before .before .before .checked .given .0 .0) (allowed-settings (file-settings (c .before .before .before .before .before .before .before .before .before .before .before .before .before .before .before .before .before .before .before .before .before .before .before .before .args .file .now)) (c .before .before .before .before .before .before .before .before .before .before .before .before .before .before .read-settings .result) (c .before .before .before .before .before .before .before .before .before .before .before .before .before .before .read-settings .ensures) (c .before .before .before .before .before .before .before .before .before .before .before .before .checked .given .0 .0) (c .before .before .before .before .before .before .before .before .before .before .before .before .checked .given .1)) (c .before .before .before .before .before .before .before .table .result) (c .before .before .before .before .before .before .before .table .ensures) (search needs),
-      (sym (c .before .before .before .before .before .before .before .before .before .before .before .before .before .before .before .before .head-wrong .ensures) ∙ (c .before .before .before .before .before .before .before .before .before .before .before .before .before .before .before .if1 .left)),
+load-lent-requires c κs =
+    let start = c .before .before .before .before .before .before .before .before .before .before .before .before .before .before .before .before .before .before .before .before .before .before .before .before in
+    let head-wrong = c .before .before .before .before .before .before .before .before .before .before .before .before .before .before .before .before .head-wrong in
+    let if1 = c .before .before .before .before .before .before .before .before .before .before .before .before .before .before .before .if1 in
+    let read-settings = c .before .before .before .before .before .before .before .before .before .before .before .before .before .before .read-settings in
+    let checked = c .before .before .before .before .before .before .before .before .before .before .before .before .checked in
+    let work-length = c .before .before .before .before .before .before .before .before .before .before .work-length in
+    let lengths-right = c .before .before .before .before .before .before .before .before .before .lengths-right in
+    let if2 = c .before .before .before .before .before .before .before .before .if2 in
+    let table = c .before .before .before .before .before .before .before .table in
+    let arm = allowed-arm (file-settings (start .args .file .now)) (read-settings .result) (read-settings .ensures) (checked .given .0 .0) (checked .given .1) in
+    let v = (ap (λ (b : Bool). (eqb (length (start .args .work .now)) (work-length .result)) && b) (sym (lengths-right .ensures)) ∙ not-false _ (if2 .left)) in (
+      ready (checked .given .0 .0) (allowed-settings (file-settings (start .args .file .now)) (read-settings .result) (read-settings .ensures) (checked .given .0 .0) (checked .given .1)) (table .result) (table .ensures) (search needs),
+      (sym (head-wrong .ensures) ∙ (if1 .left)),
       arm .1,
-      eqb-true _ _ (and-left (eqb (length (c .before .before .before .before .before .before .before .before .before .before .before .before .before .before .before .before .before .before .before .before .before .before .before .before .args .work .now)) (c .before .before .before .before .before .before .before .before .before .before .work-length .result)) _ v) ∙ c .before .before .before .before .before .before .before .before .before .before .work-length .ensures,
-      sized-by (card-of (paper (c .before .before .before .before .before .before .before .before .before .before .before .before .checked .given .0 .0))) (record { ledger = c .before .before .before .before .before .before .before .before .before .before .before .before .before .before .before .before .before .before .before .before .before .before .before .before .args .ledger .now; true-counts = c .before .before .before .before .before .before .before .before .before .before .before .before .before .before .before .before .before .before .before .before .before .before .before .before .args .true-counts .now; clipped-counts = c .before .before .before .before .before .before .before .before .before .before .before .before .before .before .before .before .before .before .before .before .before .before .before .before .args .clipped .now; buckets = c .before .before .before .before .before .before .before .before .before .before .before .before .before .before .before .before .before .before .before .before .before .before .before .before .args .buckets .now; side-store = c .before .before .before .before .before .before .before .before .before .before .before .before .before .before .before .before .before .before .before .before .before .before .before .before .args .side .now }) (and-right (eqb (length (c .before .before .before .before .before .before .before .before .before .before .before .before .before .before .before .before .before .before .before .before .before .before .before .before .args .work .now)) (c .before .before .before .before .before .before .before .before .before .before .work-length .result)) _ v),
+      eqb-true _ _ (and-left (eqb (length (start .args .work .now)) (work-length .result)) _ v) ∙ work-length .ensures,
+      sized-by (card-of (paper (checked .given .0 .0))) (record { ledger = start .args .ledger .now; true-counts = start .args .true-counts .now; clipped-counts = start .args .clipped .now; buckets = start .args .buckets .now; side-store = start .args .side .now }) (and-right (eqb (length (start .args .work .now)) (work-length .result)) _ v),
     )
 
 same-length : tie.Need-same-length

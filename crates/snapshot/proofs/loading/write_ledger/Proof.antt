@@ -13,13 +13,20 @@ record-size-requires : tie.Need-record-size-requires
 record-size-requires c κs = search needs
 
 mul-end : tie.Need-mul-end
-mul-end c = omega (arith, ends-within (card-of (paper (c .before .before .before .args .s))) (c .before .before .before .args .area .now) (c .before .before .before .args .n) (c .before .before .before .pre .2) (c .before .before .before .pre .3) (c .before .before .before .args .ledger .now) (c .before .before .before .pre .1) (c .record-size .result) (c .record-size .ensures))
+mul-end c =
+    let start = c .before .before .before in
+    omega (arith, ends-within (card-of (paper (start .args .s))) (start .args .area .now) (start .args .n) (start .pre .2) (start .pre .3) (start .args .ledger .now) (start .pre .1) (c .record-size .result) (c .record-size .ensures))
 
 add-end : tie.Need-add-end
-add-end c = omega (arith, ends-within (card-of (paper (c .before .before .before .args .s))) (c .before .before .before .args .area .now) (c .before .before .before .args .n) (c .before .before .before .pre .2) (c .before .before .before .pre .3) (c .before .before .before .args .ledger .now) (c .before .before .before .pre .1) (c .record-size .result) (c .record-size .ensures))
+add-end c =
+    let start = c .before .before .before in
+    omega (arith, ends-within (card-of (paper (start .args .s))) (start .args .area .now) (start .args .n) (start .pre .2) (start .pre .3) (start .args .ledger .now) (start .pre .1) (c .record-size .result) (c .record-size .ensures))
 
 write-number-requires : tie.Need-write-number-requires
-write-number-requires c κs = (omega (arith, ends-within (card-of (paper (c .before .before .before .before .args .s))) (c .before .before .before .before .args .area .now) (c .before .before .before .before .args .n) (c .before .before .before .before .pre .2) (c .before .before .before .before .pre .3) (c .before .before .before .before .args .ledger .now) (c .before .before .before .before .pre .1) (c .before .record-size .result) (c .before .record-size .ensures)), omega (arith, c .before .before .before .before .pre .2, sound (paper (c .before .before .before .before .args .s)) (c .before .before .before .before .pre .0) .capacity-small))
+write-number-requires c κs =
+    let start = c .before .before .before .before in
+    let record-size = c .before .record-size in
+    (omega (arith, ends-within (card-of (paper (start .args .s))) (start .args .area .now) (start .args .n) (start .pre .2) (start .pre .3) (start .args .ledger .now) (start .pre .1) (record-size .result) (record-size .ensures)), omega (arith, start .pre .2, sound (paper (start .args .s)) (start .pre .0) .capacity-small))
 
 sub-copy : tie.Need-sub-copy
 sub-copy c = search needs
@@ -28,16 +35,34 @@ part-copy-start : tie.Need-part-copy-start
 part-copy-start c = search needs
 
 part-copy-end : tie.Need-part-copy-end
-part-copy-end c = copy-end (card-of (paper (c .before .before .before .before .before .before .before .args .s))) (c .before .before .before .before .before .before .before .args .area .now) (c .before .before .before .before .before .before .before .args .n) (c .before .before .before .before .before .before .before .pre .2) (c .before .before .before .before .before .before .before .pre .3) (c .before .before .before .before .before .before .before .args .ledger .now) (c .before .before .before .before .before .before .before .pre .1) (c .before .before .before .before .record-size .result) (c .before .before .before .before .record-size .ensures) (c .before .before .write-number .last .0) (c .before .before .write-number .ensures)
+part-copy-end c =
+    let start = c .before .before .before .before .before .before .before in
+    let record-size = c .before .before .before .before .record-size in
+    let write-number = c .before .before .write-number in
+    copy-end (card-of (paper (start .args .s))) (start .args .area .now) (start .args .n) (start .pre .2) (start .pre .3) (start .args .ledger .now) (start .pre .1) (record-size .result) (record-size .ensures) (write-number .last .0) (write-number .ensures)
 
 copy-requires : tie.Need-copy-requires
-copy-requires c κs = copy-room (card-of (paper (c .before .before .before .before .before .before .before .before .args .s))) (c .before .before .before .before .before .before .before .before .args .area .now) (c .before .before .before .before .before .before .before .before .args .n) (c .before .before .before .before .before .before .before .before .pre .2) (c .before .before .before .before .before .before .before .before .pre .3) (c .before .before .before .before .before .before .before .before .args .ledger .now) (c .before .before .before .before .before .before .before .before .pre .1) (c .before .before .before .before .before .record-size .result) (c .before .before .before .before .before .record-size .ensures) (c .before .before .before .write-number .last .0) (c .before .before .before .write-number .ensures)
+copy-requires c κs =
+    let start = c .before .before .before .before .before .before .before .before in
+    let record-size = c .before .before .before .before .before .record-size in
+    let write-number = c .before .before .before .write-number in
+    copy-room (card-of (paper (start .args .s))) (start .args .area .now) (start .args .n) (start .pre .2) (start .pre .3) (start .args .ledger .now) (start .pre .1) (record-size .result) (record-size .ensures) (write-number .last .0) (write-number .ensures)
 
 sub-zero-fill : tie.Need-sub-zero-fill
-sub-zero-fill c = zeros-start (card-of (paper (c .before .before .before .before .before .before .before .before .before .before .before .args .s))) (c .before .before .before .before .before .before .before .before .before .before .before .args .area .now) (c .before .before .before .before .before .before .before .before .before .before .before .args .n) (c .before .before .before .before .before .before .before .before .before .before .before .pre .2) (c .before .before .before .before .before .before .before .before .before .before .before .pre .3) (c .before .before .before .before .before .before .before .before .before .before .before .args .ledger .now) (c .before .before .before .before .before .before .before .before .before .before .before .pre .1) (c .before .before .before .before .before .before .before .before .record-size .result) (c .before .before .before .before .before .before .before .before .record-size .ensures) (c .before .before .before .before .before .before .write-number .last .0) (c .before .before .before .before .before .before .write-number .ensures) (c .before .before .copy .last .0) (c .before .before .copy .ensures)
+sub-zero-fill c =
+    let start = c .before .before .before .before .before .before .before .before .before .before .before in
+    let record-size = c .before .before .before .before .before .before .before .before .record-size in
+    let write-number = c .before .before .before .before .before .before .write-number in
+    let copy = c .before .before .copy in
+    zeros-start (card-of (paper (start .args .s))) (start .args .area .now) (start .args .n) (start .pre .2) (start .pre .3) (start .args .ledger .now) (start .pre .1) (record-size .result) (record-size .ensures) (write-number .last .0) (write-number .ensures) (copy .last .0) (copy .ensures)
 
 part-zero-fill-start : tie.Need-part-zero-fill-start
-part-zero-fill-start c = zeros-start (card-of (paper (c .before .before .before .before .before .before .before .before .before .before .before .args .s))) (c .before .before .before .before .before .before .before .before .before .before .before .args .area .now) (c .before .before .before .before .before .before .before .before .before .before .before .args .n) (c .before .before .before .before .before .before .before .before .before .before .before .pre .2) (c .before .before .before .before .before .before .before .before .before .before .before .pre .3) (c .before .before .before .before .before .before .before .before .before .before .before .args .ledger .now) (c .before .before .before .before .before .before .before .before .before .before .before .pre .1) (c .before .before .before .before .before .before .before .before .record-size .result) (c .before .before .before .before .before .before .before .before .record-size .ensures) (c .before .before .before .before .before .before .write-number .last .0) (c .before .before .before .before .before .before .write-number .ensures) (c .before .before .copy .last .0) (c .before .before .copy .ensures)
+part-zero-fill-start c =
+    let start = c .before .before .before .before .before .before .before .before .before .before .before in
+    let record-size = c .before .before .before .before .before .before .before .before .record-size in
+    let write-number = c .before .before .before .before .before .before .write-number in
+    let copy = c .before .before .copy in
+    zeros-start (card-of (paper (start .args .s))) (start .args .area .now) (start .args .n) (start .pre .2) (start .pre .3) (start .args .ledger .now) (start .pre .1) (record-size .result) (record-size .ensures) (write-number .last .0) (write-number .ensures) (copy .last .0) (copy .ensures)
 
 part-zero-fill-end : tie.Need-part-zero-fill-end
 part-zero-fill-end c = search needs
@@ -49,7 +74,14 @@ same-length : tie.Need-same-length
 same-length c = search needs
 
 returns : tie.Need-returns
-returns c = ledger-written (card-of (paper (c .before .before .before .before .before .before .before .before .before .before .before .before .before .before .before .args .s))) (c .before .before .before .before .before .before .before .before .before .before .before .before .before .before .before .args .area .now) (c .before .before .before .before .before .before .before .before .before .before .before .before .before .before .before .args .n) (c .before .before .before .before .before .before .before .before .before .before .before .before .before .before .before .pre .2) (c .before .before .before .before .before .before .before .before .before .before .before .before .before .before .before .pre .3) (c .before .before .before .before .before .before .before .before .before .before .before .before .before .before .before .args .ledger .now) (c .before .before .before .before .before .before .before .before .before .before .before .before .before .before .before .pre .1) (c .before .before .before .before .before .before .before .before .before .before .before .before .record-size .result) (c .before .before .before .before .before .before .before .before .before .before .before .before .record-size .ensures) (c .before .before .before .before .before .before .before .before .before .before .write-number .last .0) (c .before .before .before .before .before .before .before .before .before .before .write-number .ensures) (c .before .before .before .before .before .before .copy .last .0) (c .before .before .before .before .before .before .copy .ensures) (bytes-of (c .before .before .before .before .before .before .before .before .before .before .before .before .before .before .before .args .area .now) (c .before .before .before .before .before .before .before .before .before .before .before .before .before .shared-slice-known .given)) (c .before .before .zero-fill .last .0) (c .before .before .zero-fill .ensures)
+returns c =
+    let start = c .before .before .before .before .before .before .before .before .before .before .before .before .before .before .before in
+    let shared-slice-known = c .before .before .before .before .before .before .before .before .before .before .before .before .before .shared-slice-known in
+    let record-size = c .before .before .before .before .before .before .before .before .before .before .before .before .record-size in
+    let write-number = c .before .before .before .before .before .before .before .before .before .before .write-number in
+    let copy = c .before .before .before .before .before .before .copy in
+    let zero-fill = c .before .before .zero-fill in
+    ledger-written (card-of (paper (start .args .s))) (start .args .area .now) (start .args .n) (start .pre .2) (start .pre .3) (start .args .ledger .now) (start .pre .1) (record-size .result) (record-size .ensures) (write-number .last .0) (write-number .ensures) (copy .last .0) (copy .ensures) (bytes-of (start .args .area .now) (shared-slice-known .given)) (zero-fill .last .0) (zero-fill .ensures)
 
 pub write-ledger-spec : {M : Type 1} → statement M
 write-ledger-spec =

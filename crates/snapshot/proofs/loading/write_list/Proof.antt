@@ -12,23 +12,27 @@ use Rattle.snapshot.proofs.loading.write_list.Statement.{statement}
 use Rattle.snapshot.proofs.loading.write_list.Tie as tie
 
 write-ledger-requires : tie.Need-write-ledger-requires
-write-ledger-requires c κs = (c .before .before .before .before .before .before .before .before .before .pre .0 .ok, c .before .before .before .before .before .before .before .before .before .pre .8 .ledger, c .before .before .before .before .before .before .before .before .before .pre .3, c .before .before .before .before .before .before .before .before .before .pre .4)
+write-ledger-requires c κs =
+    let start = c .before .before .before .before .before .before .before .before .before in
+    (start .pre .0 .ok, start .pre .8 .ledger, start .pre .3, start .pre .4)
 
 write-areas-requires : tie.Need-write-areas-requires
-write-areas-requires c κs = let r = ranges (paper (c .before .before .before .before .before .before .before .before .before .before .before .before .before .before .before .before .args .s)) (c .before .before .before .before .before .before .before .before .before .before .before .before .before .before .before .before .pre .0 .ok) in (
-  c .before .before .before .before .before .before .before .before .before .before .before .before .before .before .before .before .pre .0,
-  c .before .before .before .before .before .before .before .before .before .before .before .before .before .before .before .before .pre .1,
-  c .before .before .before .before .before .before .before .before .before .before .before .before .before .before .before .before .pre .2,
-  le-of-eq (filled (card-of (paper (c .before .before .before .before .before .before .before .before .before .before .before .before .before .before .before .before .args .s))) (c .before .before .before .before .before .before .before .before .before .before .before .before .before .before .before .before .args .area .now) (c .before .before .before .before .before .before .before .before .before .before .before .before .before .before .before .before .args .n) (c .before .before .before .before .before .before .before .before .before .before .before .before .before .before .before .before .pre .3) (c .before .before .before .before .before .before .before .before .before .before .before .before .before .before .before .before .pre .4)),
-  omega (arith, c .before .before .before .before .before .before .before .before .before .before .before .before .before .before .before .before .pre .3, capacity-is (paper (c .before .before .before .before .before .before .before .before .before .before .before .before .before .before .before .before .args .s)), r .capacity-high),
-  c .before .before .before .before .before .before .before .before .before .before .before .before .before .before .before .before .pre .5,
-  c .before .before .before .before .before .before .before .before .before .before .before .before .before .before .before .before .pre .6,
-  c .before .before .before .before .before .before .before .before .before .before .before .before .before .before .before .before .pre .7,
-  c .before .before .before .before .before .before .before .before .before .before .before .before .before .before .before .before .pre .8 .true-counts,
-  c .before .before .before .before .before .before .before .before .before .before .before .before .before .before .before .before .pre .8 .clipped-counts,
-  c .before .before .before .before .before .before .before .before .before .before .before .before .before .before .before .before .pre .8 .buckets,
-  c .before .before .before .before .before .before .before .before .before .before .before .before .before .before .before .before .pre .8 .side-store,
-)
+write-areas-requires c κs =
+    let start = c .before .before .before .before .before .before .before .before .before .before .before .before .before .before .before .before in
+    let r = ranges (paper (start .args .s)) (start .pre .0 .ok) in (
+      start .pre .0,
+      start .pre .1,
+      start .pre .2,
+      le-of-eq (filled (card-of (paper (start .args .s))) (start .args .area .now) (start .args .n) (start .pre .3) (start .pre .4)),
+      omega (arith, start .pre .3, capacity-is (paper (start .args .s)), r .capacity-high),
+      start .pre .5,
+      start .pre .6,
+      start .pre .7,
+      start .pre .8 .true-counts,
+      start .pre .8 .clipped-counts,
+      start .pre .8 .buckets,
+      start .pre .8 .side-store,
+    )
 
 same-length : tie.Need-same-length
 same-length c = search needs
@@ -46,7 +50,11 @@ same-length-5 : tie.Need-same-length-5
 same-length-5 c = search needs
 
 returns : tie.Need-returns
-returns c = let w = c .before .before .before .before .before .before .before .before .write-areas .ensures in laid-out (card-of (paper (c .before .before .before .before .before .before .before .before .before .before .before .before .before .before .before .before .before .before .before .before .before .before .before .before .before .args .s))) (records ((card-of (paper (c .before .before .before .before .before .before .before .before .before .before .before .before .before .before .before .before .before .before .before .before .before .before .before .before .before .args .s))) .width) (c .before .before .before .before .before .before .before .before .before .before .before .before .before .before .before .before .before .before .before .before .before .before .before .before .before .args .n) (c .before .before .before .before .before .before .before .before .before .before .before .before .before .before .before .before .before .before .before .before .before .before .before .before .before .args .area .now)) _ _ _ _ _ (c .before .before .before .before .before .before .before .before .before .before .before .before .before .before .before .write-ledger .ensures) (w .0) (w .1) (w .2) (w .3)
+returns c =
+    let start = c .before .before .before .before .before .before .before .before .before .before .before .before .before .before .before .before .before .before .before .before .before .before .before .before .before in
+    let write-ledger = c .before .before .before .before .before .before .before .before .before .before .before .before .before .before .before .write-ledger in
+    let write-areas = c .before .before .before .before .before .before .before .before .write-areas in
+    let w = write-areas .ensures in laid-out (card-of (paper (start .args .s))) (records ((card-of (paper (start .args .s))) .width) (start .args .n) (start .args .area .now)) _ _ _ _ _ (write-ledger .ensures) (w .0) (w .1) (w .2) (w .3)
 
 pub write-list-spec : {M : Type 1} → statement M
 write-list-spec =

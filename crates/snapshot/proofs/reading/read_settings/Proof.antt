@@ -27,7 +27,15 @@ new-requires : tie.Need-new-requires
 new-requires c κs = search needs
 
 returns : tie.Need-returns
-returns c = (c .new .ensures) ∙ settings-read (c .before .before .before .before .before .before .before .before .args .file .now) (c .before .before .before .before .before .before .setting .result) (c .before .before .before .before .before .setting2 .result) (c .before .before .before .before .setting3 .result) (c .before .before .before .setting4 .result) (c .before .before .setting5 .result) (c .before .setting6 .result) (c .before .before .before .before .before .before .setting .ensures) (c .before .before .before .before .before .setting2 .ensures) (c .before .before .before .before .setting3 .ensures) (c .before .before .before .setting4 .ensures) (c .before .before .setting5 .ensures) (c .before .setting6 .ensures)
+returns c =
+    let start = c .before .before .before .before .before .before .before .before in
+    let setting = c .before .before .before .before .before .before .setting in
+    let setting2 = c .before .before .before .before .before .setting2 in
+    let setting3 = c .before .before .before .before .setting3 in
+    let setting4 = c .before .before .before .setting4 in
+    let setting5 = c .before .before .setting5 in
+    let setting6 = c .before .setting6 in
+    (c .new .ensures) ∙ settings-read (start .args .file .now) (setting .result) (setting2 .result) (setting3 .result) (setting4 .result) (setting5 .result) (setting6 .result) (setting .ensures) (setting2 .ensures) (setting3 .ensures) (setting4 .ensures) (setting5 .ensures) (setting6 .ensures)
 
 pub read-settings-spec : {M : Type 1} → statement M
 read-settings-spec =

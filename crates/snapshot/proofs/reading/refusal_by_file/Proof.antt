@@ -20,19 +20,33 @@ count-at-requires : tie.Need-count-at-requires
 count-at-requires c κs = search needs
 
 returns : tie.Need-returns
-returns c = file-8 (c .before .before .before .before .before .args .file .now) (paper (c .before .before .before .before .before .args .s)) (c .before .before .count-at .result) (count-lent (c .before .before .before .before .before .args .file .now) (c .before .before .before .before .before .pre .1) (c .before .before .count-at .result) (c .before .before .count-at .ensures .0)) (c .if1 .taken)
+returns c =
+    let start = c .before .before .before .before .before in
+    let count-at = c .before .before .count-at in
+    file-8 (start .args .file .now) (paper (start .args .s)) (count-at .result) (count-lent (start .args .file .now) (start .pre .1) (count-at .result) (count-at .ensures .0)) (c .if1 .taken)
 
 record-size-requires : tie.Need-record-size-requires
 record-size-requires c κs = search needs
 
 mul-if2 : tie.Need-mul-if2
-mul-if2 c = omega (arith, few-bytes (paper (c .before .before .before .before .before .before .args .s)) (c .before .before .before .before .before .before .pre .0) (c .record-size .result) (c .before .before .before .count-at .result) (c .record-size .ensures) (c .before .if1 .left))
+mul-if2 c =
+    let start = c .before .before .before .before .before .before in
+    let count-at = c .before .before .before .count-at in
+    omega (arith, few-bytes (paper (start .args .s)) (start .pre .0) (c .record-size .result) (count-at .result) (c .record-size .ensures) (c .before .if1 .left))
 
 add-if2 : tie.Need-add-if2
-add-if2 c = omega (arith, few-bytes (paper (c .before .before .before .before .before .before .args .s)) (c .before .before .before .before .before .before .pre .0) (c .record-size .result) (c .before .before .before .count-at .result) (c .record-size .ensures) (c .before .if1 .left))
+add-if2 c =
+    let start = c .before .before .before .before .before .before in
+    let count-at = c .before .before .before .count-at in
+    omega (arith, few-bytes (paper (start .args .s)) (start .pre .0) (c .record-size .result) (count-at .result) (c .record-size .ensures) (c .before .if1 .left))
 
 returns-2 : tie.Need-returns-2
-returns-2 c = file-12 (c .before .before .before .before .before .before .before .args .file .now) (paper (c .before .before .before .before .before .before .before .args .s)) (c .before .before .before .before .count-at .result) (count-lent (c .before .before .before .before .before .before .before .args .file .now) (c .before .before .before .before .before .before .before .pre .1) (c .before .before .before .before .count-at .result) (c .before .before .before .before .count-at .ensures .0)) (c .before .before .if1 .left) (c .before .record-size .result) (c .before .record-size .ensures) (c .if2 .taken)
+returns-2 c =
+    let start = c .before .before .before .before .before .before .before in
+    let count-at = c .before .before .before .before .count-at in
+    let if1 = c .before .before .if1 in
+    let record-size = c .before .record-size in
+    file-12 (start .args .file .now) (paper (start .args .s)) (count-at .result) (count-lent (start .args .file .now) (start .pre .1) (count-at .result) (count-at .ensures .0)) (if1 .left) (record-size .result) (record-size .ensures) (c .if2 .taken)
 
 sub-keys-rise : tie.Need-sub-keys-rise
 sub-keys-rise c = search needs
@@ -47,13 +61,35 @@ width-requires : tie.Need-width-requires
 width-requires c κs = search needs
 
 keys-rise-requires : tie.Need-keys-rise-requires
-keys-rise-requires c κs = rw (c .width .ensures) (lent-fits (c .before .before .before .before .before .before .before .before .before .args .file .now) (paper (c .before .before .before .before .before .before .before .before .before .args .s)) (c .before .before .before .before .before .before .count-at .result) (count-lent (c .before .before .before .before .before .before .before .before .before .args .file .now) (c .before .before .before .before .before .before .before .before .before .pre .1) (c .before .before .before .before .before .before .count-at .result) (c .before .before .before .before .before .before .count-at .ensures .0)) (c .before .before .before .before .if1 .left) (c .before .before .before .record-size .result) (c .before .before .before .record-size .ensures) (c .before .before .if2 .left))
+keys-rise-requires c κs =
+    let start = c .before .before .before .before .before .before .before .before .before in
+    let count-at = c .before .before .before .before .before .before .count-at in
+    let if1 = c .before .before .before .before .if1 in
+    let record-size = c .before .before .before .record-size in
+    let if2 = c .before .before .if2 in
+    rw (c .width .ensures) (lent-fits (start .args .file .now) (paper (start .args .s)) (count-at .result) (count-lent (start .args .file .now) (start .pre .1) (count-at .result) (count-at .ensures .0)) (if1 .left) (record-size .result) (record-size .ensures) (if2 .left))
 
 returns-3 : tie.Need-returns-3
-returns-3 c = file-13 (c .before .before .before .before .before .before .before .before .before .before .before .args .file .now) (paper (c .before .before .before .before .before .before .before .before .before .before .before .args .s)) (c .before .before .before .before .before .before .before .before .count-at .result) (count-lent (c .before .before .before .before .before .before .before .before .before .before .before .args .file .now) (c .before .before .before .before .before .before .before .before .before .before .before .pre .1) (c .before .before .before .before .before .before .before .before .count-at .result) (c .before .before .before .before .before .before .before .before .count-at .ensures .0)) (c .before .before .before .before .before .before .if1 .left) (c .before .before .before .before .before .record-size .result) (c .before .before .before .before .before .record-size .ensures) (c .before .before .before .before .if2 .left) (c .before .before .width .result) (c .before .before .width .ensures) (c .before .keys-rise .result) (c .before .keys-rise .ensures) (not-true _ (c .if3 .taken))
+returns-3 c =
+    let start = c .before .before .before .before .before .before .before .before .before .before .before in
+    let count-at = c .before .before .before .before .before .before .before .before .count-at in
+    let if1 = c .before .before .before .before .before .before .if1 in
+    let record-size = c .before .before .before .before .before .record-size in
+    let if2 = c .before .before .before .before .if2 in
+    let width = c .before .before .width in
+    let keys-rise = c .before .keys-rise in
+    file-13 (start .args .file .now) (paper (start .args .s)) (count-at .result) (count-lent (start .args .file .now) (start .pre .1) (count-at .result) (count-at .ensures .0)) (if1 .left) (record-size .result) (record-size .ensures) (if2 .left) (width .result) (width .ensures) (keys-rise .result) (keys-rise .ensures) (not-true _ (c .if3 .taken))
 
 returns-4 : tie.Need-returns-4
-returns-4 c = file-0 (c .before .before .before .before .before .before .before .before .before .before .before .args .file .now) (paper (c .before .before .before .before .before .before .before .before .before .before .before .args .s)) (c .before .before .before .before .before .before .before .before .count-at .result) (count-lent (c .before .before .before .before .before .before .before .before .before .before .before .args .file .now) (c .before .before .before .before .before .before .before .before .before .before .before .pre .1) (c .before .before .before .before .before .before .before .before .count-at .result) (c .before .before .before .before .before .before .before .before .count-at .ensures .0)) (c .before .before .before .before .before .before .if1 .left) (c .before .before .before .before .before .record-size .result) (c .before .before .before .before .before .record-size .ensures) (c .before .before .before .before .if2 .left) (c .before .before .width .result) (c .before .before .width .ensures) (c .before .keys-rise .result) (c .before .keys-rise .ensures) (not-false _ (c .if3 .left))
+returns-4 c =
+    let start = c .before .before .before .before .before .before .before .before .before .before .before in
+    let count-at = c .before .before .before .before .before .before .before .before .count-at in
+    let if1 = c .before .before .before .before .before .before .if1 in
+    let record-size = c .before .before .before .before .before .record-size in
+    let if2 = c .before .before .before .before .if2 in
+    let width = c .before .before .width in
+    let keys-rise = c .before .keys-rise in
+    file-0 (start .args .file .now) (paper (start .args .s)) (count-at .result) (count-lent (start .args .file .now) (start .pre .1) (count-at .result) (count-at .ensures .0)) (if1 .left) (record-size .result) (record-size .ensures) (if2 .left) (width .result) (width .ensures) (keys-rise .result) (keys-rise .ensures) (not-false _ (c .if3 .left))
 
 pub refusal-by-file-spec : {M : Type 1} → statement M
 refusal-by-file-spec =

@@ -25,7 +25,9 @@ count-at-requires : tie.Need-count-at-requires
 count-at-requires c κs = search needs
 
 returns : tie.Need-returns
-returns c = number-lent (c .before .before .before .args .file .now) (2 + 2 * (c .before .before .before .args .i)) (omega (arith, c .before .before .before .pre .0, c .before .before .before .pre .1)) (c .count-at .result) (c .count-at .ensures .0)
+returns c =
+    let start = c .before .before .before in
+    number-lent (start .args .file .now) (2 + 2 * (start .args .i)) (omega (arith, start .pre .0, start .pre .1)) (c .count-at .result) (c .count-at .ensures .0)
 
 pub setting-spec : {M : Type 1} → statement M
 setting-spec =

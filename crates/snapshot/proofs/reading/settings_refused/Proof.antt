@@ -23,10 +23,20 @@ enum-told-2 : tie.Need-enum-told-2
 enum-told-2 c = search needs
 
 returns-2 : tie.Need-returns-2
-returns-2 c = rw (sym (c .before .before .before .before .head-wrong .ensures) ∙ (c .before .before .before .if1 .left), refused-arm (file-settings (c .before .before .before .before .before .before .args .file .now)) (c .before .before .read-settings .result) (c .before .before .read-settings .ensures) (c .enum-told2 .given .1))
+returns-2 c =
+    let start = c .before .before .before .before .before .before in
+    let head-wrong = c .before .before .before .before .head-wrong in
+    let if1 = c .before .before .before .if1 in
+    let read-settings = c .before .before .read-settings in
+    rw (sym (head-wrong .ensures) ∙ (if1 .left), refused-arm (file-settings (start .args .file .now)) (read-settings .result) (read-settings .ensures) (c .enum-told2 .given .1))
 
 returns-3 : tie.Need-returns-3
-returns-3 c = rw (sym (c .before .before .before .before .head-wrong .ensures) ∙ (c .before .before .before .if1 .left), allowed-arm (file-settings (c .before .before .before .before .before .before .args .file .now)) (c .before .before .read-settings .result) (c .before .before .read-settings .ensures) (c .enum-told .given .0 .0) (c .enum-told .given .1) .0)
+returns-3 c =
+    let start = c .before .before .before .before .before .before in
+    let head-wrong = c .before .before .before .before .head-wrong in
+    let if1 = c .before .before .before .if1 in
+    let read-settings = c .before .before .read-settings in
+    rw (sym (head-wrong .ensures) ∙ (if1 .left), allowed-arm (file-settings (start .args .file .now)) (read-settings .result) (read-settings .ensures) (c .enum-told .given .0 .0) (c .enum-told .given .1) .0)
 
 pub settings-refused-spec : {M : Type 1} → statement M
 settings-refused-spec =

@@ -20,7 +20,10 @@ same-length : tie.Need-same-length
 same-length c = search needs
 
 returns : tie.Need-returns
-returns c = put-back (c .before .before .before .before .before .args .at) (c .before .before .before .before .before .args .n) (c .before .before .before .before .before .args .to .now) (c .before .before .write-number .last .0) (c .before .before .before .before .before .pre .0) (c .before .before .write-number .ensures)
+returns c =
+    let start = c .before .before .before .before .before in
+    let write-number = c .before .before .write-number in
+    put-back (start .args .at) (start .args .n) (start .args .to .now) (write-number .last .0) (start .pre .0) (write-number .ensures)
 
 pub put-number-spec : {M : Type 1} → statement M
 put-number-spec =

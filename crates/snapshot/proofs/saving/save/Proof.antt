@@ -24,16 +24,33 @@ enum-told : tie.Need-enum-told
 enum-told c = search needs
 
 returns : tie.Need-returns
-returns c = saves-1 (record { p = c .before .before .before .before .before .before .args .p; k = c .before .before .before .before .before .before .args .k; room = c .before .before .before .before .before .before .args .room; top = c .before .before .before .before .before .before .args .top; capacity = c .before .before .before .before .before .before .args .capacity; side-places = c .before .before .before .before .before .before .args .side-places }) (c .before .before .before .before .before .before .args .ledger .now) (length (c .before .before .before .before .before .before .args .work .now)) (c .before .before .before .before .before .before .args .target .now) (refused-arm (record { p = c .before .before .before .before .before .before .args .p; k = c .before .before .before .before .before .before .args .k; room = c .before .before .before .before .before .before .args .room; top = c .before .before .before .before .before .before .args .top; capacity = c .before .before .before .before .before .before .args .capacity; side-places = c .before .before .before .before .before .before .args .side-places }) (c .before .before .new .result) (c .before .before .new .ensures) (c .enum-told .given .1))
+returns c =
+    let start = c .before .before .before .before .before .before in
+    let new = c .before .before .new in
+    saves-1 (record { p = start .args .p; k = start .args .k; room = start .args .room; top = start .args .top; capacity = start .args .capacity; side-places = start .args .side-places }) (start .args .ledger .now) (length (start .args .work .now)) (start .args .target .now) (refused-arm (record { p = start .args .p; k = start .args .k; room = start .args .room; top = start .args .top; capacity = start .args .capacity; side-places = start .args .side-places }) (new .result) (new .ensures) (c .enum-told .given .1))
 
 work-length-requires : tie.Need-work-length-requires
-work-length-requires c κs = allowed-settings (record { p = c .before .before .before .before .before .before .before .args .p; k = c .before .before .before .before .before .before .before .args .k; room = c .before .before .before .before .before .before .before .args .room; top = c .before .before .before .before .before .before .before .args .top; capacity = c .before .before .before .before .before .before .before .args .capacity; side-places = c .before .before .before .before .before .before .before .args .side-places }) (c .before .before .before .new .result) (c .before .before .before .new .ensures) (c .before .checked .given .0 .0) (c .before .checked .given .1)
+work-length-requires c κs =
+    let start = c .before .before .before .before .before .before .before in
+    let new = c .before .before .before .new in
+    let checked = c .before .checked in
+    allowed-settings (record { p = start .args .p; k = start .args .k; room = start .args .room; top = start .args .top; capacity = start .args .capacity; side-places = start .args .side-places }) (new .result) (new .ensures) (checked .given .0 .0) (checked .given .1)
 
 ledger-length-requires : tie.Need-ledger-length-requires
-ledger-length-requires c κs = allowed-settings (record { p = c .before .before .before .before .before .before .before .before .args .p; k = c .before .before .before .before .before .before .before .before .args .k; room = c .before .before .before .before .before .before .before .before .args .room; top = c .before .before .before .before .before .before .before .before .args .top; capacity = c .before .before .before .before .before .before .before .before .args .capacity; side-places = c .before .before .before .before .before .before .before .before .args .side-places }) (c .before .before .before .before .new .result) (c .before .before .before .before .new .ensures) (c .before .before .checked .given .0 .0) (c .before .before .checked .given .1)
+ledger-length-requires c κs =
+    let start = c .before .before .before .before .before .before .before .before in
+    let new = c .before .before .before .before .new in
+    let checked = c .before .before .checked in
+    allowed-settings (record { p = start .args .p; k = start .args .k; room = start .args .room; top = start .args .top; capacity = start .args .capacity; side-places = start .args .side-places }) (new .result) (new .ensures) (checked .given .0 .0) (checked .given .1)
 
 returns-2 : tie.Need-returns-2
-returns-2 c = let arm = allowed-arm (record { p = c .before .before .before .before .before .before .before .before .before .before .args .p; k = c .before .before .before .before .before .before .before .before .before .before .args .k; room = c .before .before .before .before .before .before .before .before .before .before .args .room; top = c .before .before .before .before .before .before .before .before .before .before .args .top; capacity = c .before .before .before .before .before .before .before .before .before .before .args .capacity; side-places = c .before .before .before .before .before .before .before .before .before .before .args .side-places }) (c .before .before .before .before .before .before .new .result) (c .before .before .before .before .before .before .new .ensures) (c .before .before .before .before .checked .given .0 .0) (c .before .before .before .before .checked .given .1) in saves-2 (record { p = c .before .before .before .before .before .before .before .before .before .before .args .p; k = c .before .before .before .before .before .before .before .before .before .before .args .k; room = c .before .before .before .before .before .before .before .before .before .before .args .room; top = c .before .before .before .before .before .before .before .before .before .before .args .top; capacity = c .before .before .before .before .before .before .before .before .before .before .args .capacity; side-places = c .before .before .before .before .before .before .before .before .before .before .args .side-places }) (c .before .before .before .before .before .before .before .before .before .before .args .ledger .now) (length (c .before .before .before .before .before .before .before .before .before .before .args .work .now)) (c .before .before .before .before .before .before .before .before .before .before .args .target .now) (arm .0) (c .before .before .before .before .checked .given .0 .0) (arm .1) (c .before .before .work-length .result) (c .before .ledger-length .result) (c .before .before .work-length .ensures) (c .before .ledger-length .ensures) (not-true _ (c .if1 .taken))
+returns-2 c =
+    let start = c .before .before .before .before .before .before .before .before .before .before in
+    let new = c .before .before .before .before .before .before .new in
+    let checked = c .before .before .before .before .checked in
+    let work-length = c .before .before .work-length in
+    let ledger-length = c .before .ledger-length in
+    let arm = allowed-arm (record { p = start .args .p; k = start .args .k; room = start .args .room; top = start .args .top; capacity = start .args .capacity; side-places = start .args .side-places }) (new .result) (new .ensures) (checked .given .0 .0) (checked .given .1) in saves-2 (record { p = start .args .p; k = start .args .k; room = start .args .room; top = start .args .top; capacity = start .args .capacity; side-places = start .args .side-places }) (start .args .ledger .now) (length (start .args .work .now)) (start .args .target .now) (arm .0) (checked .given .0 .0) (arm .1) (work-length .result) (ledger-length .result) (work-length .ensures) (ledger-length .ensures) (not-true _ (c .if1 .taken))
 
 table-requires : tie.Need-table-requires
 table-requires c κs = search needs
@@ -42,11 +59,19 @@ slice-aggregate-save-lent : tie.Need-slice-aggregate-save-lent
 slice-aggregate-save-lent c = search needs
 
 save-lent-requires : tie.Need-save-lent-requires
-save-lent-requires c κs = let v : ((eqb (length (c .before .before .before .before .before .before .before .before .before .before .before .before .before .before .args .work .now)) (c .before .before .before .before .before .before .work-length .result)) && eqb (length (c .before .before .before .before .before .before .before .before .before .before .before .before .before .before .args .ledger .now)) (c .before .before .before .before .before .ledger-length .result)) ≡ true = not-false _ (c .before .before .before .before .if1 .left) in (
-  ready (c .before .before .before .before .before .before .before .before .checked .given .0 .0) (allowed-settings (record { p = c .before .before .before .before .before .before .before .before .before .before .before .before .before .before .args .p; k = c .before .before .before .before .before .before .before .before .before .before .before .before .before .before .args .k; room = c .before .before .before .before .before .before .before .before .before .before .before .before .before .before .args .room; top = c .before .before .before .before .before .before .before .before .before .before .before .before .before .before .args .top; capacity = c .before .before .before .before .before .before .before .before .before .before .before .before .before .before .args .capacity; side-places = c .before .before .before .before .before .before .before .before .before .before .before .before .before .before .args .side-places }) (c .before .before .before .before .before .before .before .before .before .before .new .result) (c .before .before .before .before .before .before .before .before .before .before .new .ensures) (c .before .before .before .before .before .before .before .before .checked .given .0 .0) (c .before .before .before .before .before .before .before .before .checked .given .1)) (c .before .before .before .table .result) (c .before .before .before .table .ensures) (search needs),
-  eqb-true _ _ (and-left (eqb (length (c .before .before .before .before .before .before .before .before .before .before .before .before .before .before .args .work .now)) (c .before .before .before .before .before .before .work-length .result)) _ v) ∙ c .before .before .before .before .before .before .work-length .ensures,
-  eqb-true _ _ (and-right (eqb (length (c .before .before .before .before .before .before .before .before .before .before .before .before .before .before .args .work .now)) (c .before .before .before .before .before .before .work-length .result)) _ v) ∙ c .before .before .before .before .before .ledger-length .ensures,
-)
+save-lent-requires c κs =
+    let start = c .before .before .before .before .before .before .before .before .before .before .before .before .before .before in
+    let new = c .before .before .before .before .before .before .before .before .before .before .new in
+    let checked = c .before .before .before .before .before .before .before .before .checked in
+    let work-length = c .before .before .before .before .before .before .work-length in
+    let ledger-length = c .before .before .before .before .before .ledger-length in
+    let if1 = c .before .before .before .before .if1 in
+    let table = c .before .before .before .table in
+    let v : ((eqb (length (start .args .work .now)) (work-length .result)) && eqb (length (start .args .ledger .now)) (ledger-length .result)) ≡ true = not-false _ (if1 .left) in (
+      ready (checked .given .0 .0) (allowed-settings (record { p = start .args .p; k = start .args .k; room = start .args .room; top = start .args .top; capacity = start .args .capacity; side-places = start .args .side-places }) (new .result) (new .ensures) (checked .given .0 .0) (checked .given .1)) (table .result) (table .ensures) (search needs),
+      eqb-true _ _ (and-left (eqb (length (start .args .work .now)) (work-length .result)) _ v) ∙ work-length .ensures,
+      eqb-true _ _ (and-right (eqb (length (start .args .work .now)) (work-length .result)) _ v) ∙ ledger-length .ensures,
+    )
 
 same-length : tie.Need-same-length
 same-length c = search needs
@@ -55,7 +80,12 @@ same-length-2 : tie.Need-same-length-2
 same-length-2 c = search needs
 
 returns-3 : tie.Need-returns-3
-returns-3 c = let arm = allowed-arm (record { p = c .before .before .before .before .before .before .before .before .before .before .before .before .before .before .before .before .before .before .before .args .p; k = c .before .before .before .before .before .before .before .before .before .before .before .before .before .before .before .before .before .before .before .args .k; room = c .before .before .before .before .before .before .before .before .before .before .before .before .before .before .before .before .before .before .before .args .room; top = c .before .before .before .before .before .before .before .before .before .before .before .before .before .before .before .before .before .before .before .args .top; capacity = c .before .before .before .before .before .before .before .before .before .before .before .before .before .before .before .before .before .before .before .args .capacity; side-places = c .before .before .before .before .before .before .before .before .before .before .before .before .before .before .before .before .before .before .before .args .side-places }) (c .before .before .before .before .before .before .before .before .before .before .before .before .before .before .before .new .result) (c .before .before .before .before .before .before .before .before .before .before .before .before .before .before .before .new .ensures) (c .before .before .before .before .before .before .before .before .before .before .before .before .before .checked .given .0 .0) (c .before .before .before .before .before .before .before .before .before .before .before .before .before .checked .given .1) in (c .before .before .before .before .save-lent .ensures) ∙ ap (λ (u : Settings). save u (c .before .before .before .before .before .before .before .before .before .before .before .before .before .before .before .before .before .before .before .args .ledger .now) (length (c .before .before .before .before .before .before .before .before .before .before .before .before .before .before .before .before .before .before .before .args .work .now)) (c .before .before .before .before .before .before .before .before .before .before .before .before .before .before .before .before .before .before .before .args .target .now)) (arm .1)
+returns-3 c =
+    let start = c .before .before .before .before .before .before .before .before .before .before .before .before .before .before .before .before .before .before .before in
+    let new = c .before .before .before .before .before .before .before .before .before .before .before .before .before .before .before .new in
+    let checked = c .before .before .before .before .before .before .before .before .before .before .before .before .before .checked in
+    let save-lent = c .before .before .before .before .save-lent in
+    let arm = allowed-arm (record { p = start .args .p; k = start .args .k; room = start .args .room; top = start .args .top; capacity = start .args .capacity; side-places = start .args .side-places }) (new .result) (new .ensures) (checked .given .0 .0) (checked .given .1) in (save-lent .ensures) ∙ ap (λ (u : Settings). save u (start .args .ledger .now) (length (start .args .work .now)) (start .args .target .now)) (arm .1)
 
 pub save-spec : {M : Type 1} → statement M
 save-spec =

@@ -19,16 +19,22 @@ slice-aggregate-write-head : tie.Need-slice-aggregate-write-head
 slice-aggregate-write-head c = sym (length-take-le 16 (c .before .before .before .args .target .now) (omega (arith, c .before .before .before .pre .2)))
 
 write-head-requires : tie.Need-write-head-requires
-write-head-requires c κs = (c .before .before .before .pre .0 .permitted, length-take-le 16 (c .before .before .before .args .target .now) (omega (arith, c .before .before .before .pre .2)), omega (arith, c .before .before .before .pre .1, few (card-of (paper (c .before .before .before .args .s))) (c .before .before .before .args .ledger .now) (c .before .before .before .pre .0 .size) (c .before .before .before .pre .0 .rules), sound (paper (c .before .before .before .args .s)) (c .before .before .before .pre .0 .permitted) .capacity-small))
+write-head-requires c κs =
+    let start = c .before .before .before in
+    (start .pre .0 .permitted, length-take-le 16 (start .args .target .now) (omega (arith, start .pre .2)), omega (arith, start .pre .1, few (card-of (paper (start .args .s))) (start .args .ledger .now) (start .pre .0 .size) (start .pre .0 .rules), sound (paper (start .args .s)) (start .pre .0 .permitted) .capacity-small))
 
 record-size-requires : tie.Need-record-size-requires
 record-size-requires c κs = search needs
 
 mul-end : tie.Need-mul-end
-mul-end c = omega (arith, end-within (paper (c .before .before .before .before .before .before .before .args .s)) (c .before .before .before .before .before .before .before .args .ledger .now) (c .before .before .before .before .before .before .before .pre .0 .size) (c .before .before .before .before .before .before .before .pre .0 .rules) (c .before .before .before .before .before .before .before .args .n) (c .before .before .before .before .before .before .before .pre .1) (c .record-size .result) (c .record-size .ensures))
+mul-end c =
+    let start = c .before .before .before .before .before .before .before in
+    omega (arith, end-within (paper (start .args .s)) (start .args .ledger .now) (start .pre .0 .size) (start .pre .0 .rules) (start .args .n) (start .pre .1) (c .record-size .result) (c .record-size .ensures))
 
 add-end : tie.Need-add-end
-add-end c = omega (arith, end-within (paper (c .before .before .before .before .before .before .before .args .s)) (c .before .before .before .before .before .before .before .args .ledger .now) (c .before .before .before .before .before .before .before .pre .0 .size) (c .before .before .before .before .before .before .before .pre .0 .rules) (c .before .before .before .before .before .before .before .args .n) (c .before .before .before .before .before .before .before .pre .1) (c .record-size .result) (c .record-size .ensures))
+add-end c =
+    let start = c .before .before .before .before .before .before .before in
+    omega (arith, end-within (paper (start .args .s)) (start .args .ledger .now) (start .pre .0 .size) (start .pre .0 .rules) (start .args .n) (start .pre .1) (c .record-size .result) (c .record-size .ensures))
 
 sub-copy : tie.Need-sub-copy
 sub-copy c = search needs
@@ -46,16 +52,29 @@ part-copy-start-2 : tie.Need-part-copy-start-2
 part-copy-start-2 c = search needs
 
 part-copy-end-2 : tie.Need-part-copy-end-2
-part-copy-end-2 c = end-within (paper (c .before .before .before .before .before .before .before .before .args .s)) (c .before .before .before .before .before .before .before .before .args .ledger .now) (c .before .before .before .before .before .before .before .before .pre .0 .size) (c .before .before .before .before .before .before .before .before .pre .0 .rules) (c .before .before .before .before .before .before .before .before .args .n) (c .before .before .before .before .before .before .before .before .pre .1) (c .before .record-size .result) (c .before .record-size .ensures)
+part-copy-end-2 c =
+    let start = c .before .before .before .before .before .before .before .before in
+    let record-size = c .before .record-size in
+    end-within (paper (start .args .s)) (start .args .ledger .now) (start .pre .0 .size) (start .pre .0 .rules) (start .args .n) (start .pre .1) (record-size .result) (record-size .ensures)
 
 copy-requires : tie.Need-copy-requires
-copy-requires c κs = same-room (paper (c .before .before .before .before .before .before .before .before .before .args .s)) (c .before .before .before .before .before .before .before .before .before .args .ledger .now) (c .before .before .before .before .before .before .before .before .before .pre .0 .size) (c .before .before .before .before .before .before .before .before .before .pre .0 .rules) (c .before .before .before .before .before .before .before .before .before .args .n) (c .before .before .before .before .before .before .before .before .before .pre .1) (c .before .before .record-size .result) (c .before .before .record-size .ensures) (c .before .before .before .before .before .before .before .before .before .args .target .now) (c .before .before .before .before .before .write-head .last .1 .0) (c .before .before .before .before .before .before .before .before .before .pre .2) (c .before .before .before .before .before .write-head .ensures)
+copy-requires c κs =
+    let start = c .before .before .before .before .before .before .before .before .before in
+    let write-head = c .before .before .before .before .before .write-head in
+    let record-size = c .before .before .record-size in
+    same-room (paper (start .args .s)) (start .args .ledger .now) (start .pre .0 .size) (start .pre .0 .rules) (start .args .n) (start .pre .1) (record-size .result) (record-size .ensures) (start .args .target .now) (write-head .last .1 .0) (start .pre .2) (write-head .ensures)
 
 same-length : tie.Need-same-length
 same-length c = search needs
 
 returns : tie.Need-returns
-returns c = snapshot-written (paper (c .before .before .before .before .before .before .before .before .before .before .before .before .args .s)) (c .before .before .before .before .before .before .before .before .before .before .before .before .args .ledger .now) (c .before .before .before .before .before .before .before .before .before .before .before .before .pre .0 .size) (c .before .before .before .before .before .before .before .before .before .before .before .before .pre .0 .rules) (c .before .before .before .before .before .before .before .before .before .before .before .before .args .n) (c .before .before .before .before .before .before .before .before .before .before .before .before .pre .1) (c .before .before .before .before .before .record-size .result) (c .before .before .before .before .before .record-size .ensures) (c .before .before .before .before .before .before .before .before .before .before .before .before .args .target .now) (c .before .before .before .before .before .before .before .before .write-head .last .1 .0) (c .before .before .before .before .before .before .before .before .before .before .before .before .pre .2) (c .before .before .before .before .before .before .before .before .write-head .ensures) (bytes-of (c .before .before .before .before .before .before .before .before .before .before .before .before .args .ledger .now) (c .before .before .before .before .before .before .before .before .before .before .shared-slice-known .given)) (c .before .before .copy .last .0) (c .before .before .copy .ensures)
+returns c =
+    let start = c .before .before .before .before .before .before .before .before .before .before .before .before in
+    let shared-slice-known = c .before .before .before .before .before .before .before .before .before .before .shared-slice-known in
+    let write-head = c .before .before .before .before .before .before .before .before .write-head in
+    let record-size = c .before .before .before .before .before .record-size in
+    let copy = c .before .before .copy in
+    snapshot-written (paper (start .args .s)) (start .args .ledger .now) (start .pre .0 .size) (start .pre .0 .rules) (start .args .n) (start .pre .1) (record-size .result) (record-size .ensures) (start .args .target .now) (write-head .last .1 .0) (start .pre .2) (write-head .ensures) (bytes-of (start .args .ledger .now) (shared-slice-known .given)) (copy .last .0) (copy .ensures)
 
 pub write-snapshot-spec : {M : Type 1} → statement M
 write-snapshot-spec =

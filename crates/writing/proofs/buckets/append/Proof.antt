@@ -11,7 +11,9 @@ use Rattle.writing.proofs.buckets.append.Tie as tie
 
 -- the place lies within the part
 place : (c : tie.After-wide) → 1 + length (c .before .before .before .before .args .«record» .now) * c .wide .result + length (c .before .before .before .before .args .«record» .now) ≤ length (c .before .before .before .before .args .part .now)
-place c = subst (λ (k : ℕ). 1 + length (c .before .before .before .before .args .«record» .now) * k + length (c .before .before .before .before .args .«record» .now) ≤ length (c .before .before .before .before .args .part .now)) (sym (c .wide .ensures .0)) (c .before .before .before .before .pre .1)
+place c =
+    let start = c .before .before .before .before in
+    subst (λ (k : ℕ). 1 + length (start .args .«record» .now) * k + length (start .args .«record» .now) ≤ length (start .args .part .now)) (sym (c .wide .ensures .0)) (start .pre .1)
 
 slice-read-mark : tie.Need-slice-read-mark
 slice-read-mark c = search needs

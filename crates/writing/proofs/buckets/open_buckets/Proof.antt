@@ -35,12 +35,15 @@ crowded-test t m b work = rw (getD-drop m work b 0) (ap (λ (room : ℕ). ltb ro
 -- the part of bucket b lies within the area
 within : (c : tie.In-loop Inv-loop μ-loop) → c .before .loop .at + c .before .before .bucket-size .result ≤ length (c .before .loop .buckets)
 within c =
+    let start = c .before .before .before .before .before in
+    let bucket-size = c .before .before .bucket-size in
+    let loop = c .before .loop in
     omega (
       arith,
-      row-fits (c .before .loop .b) (c .before .before .before .before .before .args .m) (c .before .before .bucket-size .result) (omega arith),
-      c .before .loop .inv .1,
-      c .before .loop .inv .2,
-      area-length (paper (c .before .before .before .before .before .args .s)) (c .before .before .before .before .before .args .m) (c .before .before .bucket-size .result) (length (c .before .before .before .before .before .args .buckets .now)) (c .before .before .before .before .before .pre .1) (c .before .before .before .before .before .pre .3) (c .before .before .bucket-size .ensures),
+      row-fits (loop .b) (start .args .m) (bucket-size .result) (omega arith),
+      loop .inv .1,
+      loop .inv .2,
+      area-length (paper (start .args .s)) (start .args .m) (bucket-size .result) (length (start .args .buckets .now)) (start .pre .1) (start .pre .3) (bucket-size .ensures),
     )
 
 bucket-size-requires : tie.Need-bucket-size-requires Inv-loop μ-loop
@@ -75,8 +78,13 @@ part-open-bucket-end : tie.Need-part-open-bucket-end Inv-loop μ-loop
 part-open-bucket-end c = within (c .before)
 
 open-bucket-requires : tie.Need-open-bucket-requires Inv-loop μ-loop
-open-bucket-requires c κs = rw (length-lent (c .before .before .before .before .loop .at) (c .before .before .before .before .before .bucket-size .result) (c .before .before .before .before .loop .buckets) (within (c .before .before .before)))
-    (omega (arith, c .before .before .before .before .before .bucket-size .ensures, bounds (paper (c .before .before .before .before .before .before .before .before .args .s)) (c .before .before .before .before .before .before .before .before .pre .0) .bucket-size-least))
+open-bucket-requires c κs =
+    let start = c .before .before .before .before .before .before .before .before in
+    let bucket-size = c .before .before .before .before .before .bucket-size in
+    let loop = c .before .before .before .before .loop in
+    let before = c .before .before .before in
+    rw (length-lent (loop .at) (bucket-size .result) (loop .buckets) (within (before)))
+    (omega (arith, bucket-size .ensures, bounds (paper (start .args .s)) (start .pre .0) .bucket-size-least))
 
 add-b : tie.Need-add-b Inv-loop μ-loop
 add-b c = search needs
@@ -85,27 +93,37 @@ loop-less : tie.Need-loop-less Inv-loop μ-loop
 loop-less c = search needs
 
 loop-again : tie.Need-loop-again Inv-loop μ-loop
-loop-again c = let s = card-of (paper (c .before .before .before .before .before .before .before .before .before .before .before .args .s)) in
-    let crowd = crowded-by s (c .before .before .before .before .before .before .before .before .before .before .before .args .m) (c .before .before .before .before .before .before .before .before .before .before .before .args .work .now) in
-    let at = c .before .before .before .before .before .before .before .loop .at in
-    let size = c .before .before .before .before .before .before .before .before .bucket-size .result in
-    let part = c .before .before .open-bucket .last .0 in
-    let fits = within (c .before .before .before .before .before .before) in
-    let crowded = ltb (c .before .before .before .before .before .before .before .before .before .before .before .args .s .room) (getD (c .before .before .before .before .before .before .before .before .before .before .before .args .work .now) (c .before .before .before .before .before .before .before .before .before .before .before .args .m + c .before .before .before .before .before .before .before .loop .b) 0) in
-    let test = crowded-test (paper (c .before .before .before .before .before .before .before .before .before .before .before .args .s)) (c .before .before .before .before .before .before .before .before .before .before .before .args .m) (c .before .before .before .before .before .before .before .loop .b) (c .before .before .before .before .before .before .before .before .before .before .before .args .work .now) in (
+loop-again c =
+    let start = c .before .before .before .before .before .before .before .before .before .before .before in
+    let bucket-size = c .before .before .before .before .before .before .before .before .bucket-size in
+    let loop = c .before .before .before .before .before .before .before .loop in
+    let before = c .before .before .before .before .before .before in
+    let open-bucket = c .before .before .open-bucket in
+    let s = card-of (paper (start .args .s)) in
+    let crowd = crowded-by s (start .args .m) (start .args .work .now) in
+    let at = loop .at in
+    let size = bucket-size .result in
+    let part = open-bucket .last .0 in
+    let fits = within (before) in
+    let crowded = ltb (start .args .s .room) (getD (start .args .work .now) (start .args .m + loop .b) 0) in
+    let test = crowded-test (paper (start .args .s)) (start .args .m) (loop .b) (start .args .work .now) in (
       omega arith,
-      row-next at (c .before .before .before .before .before .before .before .loop .b) size (c .before .before .before .before .before .before .before .loop .inv .1),
-      open-length s crowd (c .before .before .before .before .before .before .before .loop .b) at size (c .before .before .before .before .before .before .before .loop .buckets) part crowded (c .before .before .before .before .before .before .before .before .bucket-size .ensures) fits test (c .before .before .open-bucket .ensures) ∙ c .before .before .before .before .before .before .before .loop .inv .2,
-      open-more s crowd (c .before .before .before .before .before .before .before .loop .b) at size (c .before .before .before .before .before .before .before .loop .buckets) part crowded (c .before .before .before .before .before .before .before .before .bucket-size .ensures) fits test (c .before .before .open-bucket .ensures) (c .before .before .before .before .before .before .before .loop .inv .3),
+      row-next at (loop .b) size (loop .inv .1),
+      open-length s crowd (loop .b) at size (loop .buckets) part crowded (bucket-size .ensures) fits test (open-bucket .ensures) ∙ loop .inv .2,
+      open-more s crowd (loop .b) at size (loop .buckets) part crowded (bucket-size .ensures) fits test (open-bucket .ensures) (loop .inv .3),
     )
 
 same-length : tie.Need-same-length Inv-loop μ-loop
 same-length c = c .before .loop .inv .2
 
 returns : tie.Need-returns Inv-loop μ-loop
-returns c = let e : c .before .loop .b ≡ c .before .before .before .before .before .args .m = omega arith in
-    let all : length (c .before .loop .buckets) ≤ c .before .loop .at = rw (c .before .loop .inv .1, e) (omega (arith, c .before .loop .inv .2, area-length (paper (c .before .before .before .before .before .args .s)) (c .before .before .before .before .before .args .m) (c .before .before .bucket-size .result) (length (c .before .before .before .before .before .args .buckets .now)) (c .before .before .before .before .before .pre .1) (c .before .before .before .before .before .pre .3) (c .before .before .bucket-size .ensures))) in
-    sym (take-all (c .before .loop .at) (c .before .loop .buckets) all) ∙ c .before .loop .inv .3 ∙ rw e
+returns c =
+    let start = c .before .before .before .before .before in
+    let bucket-size = c .before .before .bucket-size in
+    let loop = c .before .loop in
+    let e : loop .b ≡ start .args .m = omega arith in
+    let all : length (loop .buckets) ≤ loop .at = rw (loop .inv .1, e) (omega (arith, loop .inv .2, area-length (paper (start .args .s)) (start .args .m) (bucket-size .result) (length (start .args .buckets .now)) (start .pre .1) (start .pre .3) (bucket-size .ensures))) in
+    sym (take-all (loop .at) (loop .buckets) all) ∙ loop .inv .3 ∙ rw e
 
 pub open-buckets-spec : {M : Type 1} → statement M
 open-buckets-spec =

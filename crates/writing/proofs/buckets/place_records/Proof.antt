@@ -18,14 +18,18 @@ abbrev μ-loop : tie.MeasureT-loop
 μ-loop s t m work buckets₀ area n i₀ buckets i = n - i
 
 loop-holds : tie.Need-loop-holds Inv-loop μ-loop
-loop-holds c = (
-  omega arith,
-  refl,
-  c .before .before .before .before .pre .5 ∙ growing-none (card-of (paper (c .before .before .before .before .args .s))) (crowded-by (card-of (paper (c .before .before .before .before .args .s))) (c .before .before .before .before .args .m) (c .before .before .before .before .args .work .now)) (nth (take (c .before .before .before .before .args .m) (c .before .before .before .before .args .work .now))) (card-of (paper (c .before .before .before .before .args .s)) .width) (c .before .before .before .before .args .area .now),
-)
+loop-holds c =
+    let start = c .before .before .before .before in (
+      omega arith,
+      refl,
+      start .pre .5 ∙ growing-none (card-of (paper (start .args .s))) (crowded-by (card-of (paper (start .args .s))) (start .args .m) (start .args .work .now)) (nth (take (start .args .m) (start .args .work .now))) (card-of (paper (start .args .s)) .width) (start .args .area .now),
+    )
 
 place-record-requires : tie.Need-place-record-requires Inv-loop μ-loop
-place-record-requires c κs = (c .before .before .before .before .before .before .before .pre .0, c .before .before .before .before .before .before .before .pre .1, c .before .before .before .before .before .before .before .pre .2, c .before .before .before .before .before .before .before .pre .3, omega arith, c .before .before .before .before .before .before .before .pre .4, c .before .before .loop .inv .2)
+place-record-requires c κs =
+    let start = c .before .before .before .before .before .before .before in
+    let loop = c .before .before .loop in
+    (start .pre .0, start .pre .1, start .pre .2, start .pre .3, omega arith, start .pre .4, loop .inv .2)
 
 add-i : tie.Need-add-i Inv-loop μ-loop
 add-i c = omega arith

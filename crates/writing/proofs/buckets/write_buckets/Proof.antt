@@ -13,13 +13,18 @@ open-buckets-requires c κs = search needs
 
 place-records-requires : tie.Need-place-records-requires
 place-records-requires c κs =
-    (c .before .before .before .before .before .before .before .before .before .pre .0, c .before .before .before .before .before .before .before .before .before .pre .1, c .before .before .before .before .before .before .before .before .before .pre .2, c .before .before .before .before .before .before .before .before .before .pre .3, c .before .before .before .before .before .before .before .before .before .pre .4, c .before .before .before .open-buckets .ensures ∙ ap (blank-buckets (card-of (paper (c .before .before .before .before .before .before .before .before .before .args .s))) (crowded-by (card-of (paper (c .before .before .before .before .before .before .before .before .before .args .s))) (c .before .before .before .before .before .before .before .before .before .args .m) (c .before .before .before .before .before .before .before .before .before .args .work .now))) (c .before .before .before .before .before .before .before .before .before .pre .1))
+    let start = c .before .before .before .before .before .before .before .before .before in
+    let open-buckets = c .before .before .before .open-buckets in
+    (start .pre .0, start .pre .1, start .pre .2, start .pre .3, start .pre .4, open-buckets .ensures ∙ ap (blank-buckets (card-of (paper (start .args .s))) (crowded-by (card-of (paper (start .args .s))) (start .args .m) (start .args .work .now))) (start .pre .1))
 
 same-length : tie.Need-same-length
 same-length c = search needs
 
 returns : tie.Need-returns
-returns c = c .before .before .place-records .ensures ∙ placed-all (card-of (paper (c .before .before .before .before .before .before .before .before .before .before .before .before .args .s))) (c .before .before .before .before .before .before .before .before .before .before .before .before .args .m) (c .before .before .before .before .before .before .before .before .before .before .before .before .args .n) (c .before .before .before .before .before .before .before .before .before .before .before .before .args .work .now) (c .before .before .before .before .before .before .before .before .before .before .before .before .args .area .now) (c .before .before .before .before .before .before .before .before .before .before .before .before .pre .4)
+returns c =
+    let start = c .before .before .before .before .before .before .before .before .before .before .before .before in
+    let place-records = c .before .before .place-records in
+    place-records .ensures ∙ placed-all (card-of (paper (start .args .s))) (start .args .m) (start .args .n) (start .args .work .now) (start .args .area .now) (start .pre .4)
 
 pub write-buckets-spec : {M : Type 1} → statement M
 write-buckets-spec =

@@ -37,11 +37,14 @@ loop-less : tie.Need-loop-less Inv-loop μ-loop
 loop-less c = search needs
 
 loop-again : tie.Need-loop-again Inv-loop μ-loop
-loop-again c = let from = c .before .before .before .args .from .now in (
-  omega arith,
-  simp length-set (c .before .before .loop .inv .1),
-  rw (add-one (c .before .before .loop .i), take-suc-set (c .before .before .loop .to) (c .before .before .loop .i) (getD from (c .before .before .loop .i) 0) (omega arith), take-suc from (c .before .before .loop .i) 0 (omega arith), c .before .before .loop .inv .2),
-)
+loop-again c =
+    let start = c .before .before .before in
+    let loop = c .before .before .loop in
+    let from = start .args .from .now in (
+      omega arith,
+      simp length-set (loop .inv .1),
+      rw (add-one (loop .i), take-suc-set (loop .to) (loop .i) (getD from (loop .i) 0) (omega arith), take-suc from (loop .i) 0 (omega arith), loop .inv .2),
+    )
 
 same-length : tie.Need-same-length Inv-loop μ-loop
 same-length c = search needs

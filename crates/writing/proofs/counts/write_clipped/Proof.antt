@@ -60,11 +60,15 @@ loop-less : tie.Need-loop-less Inv-loop μ-loop
 loop-less c = search needs
 
 loop-again : tie.Need-loop-again Inv-loop μ-loop
-loop-again c = (
-  omega arith,
-  simp length-set (c .before .before .before .before .before .before .before .loop .inv .1),
-  clipped-more (c .before .before .before .before .before .before .before .before .before .before .args .top) (nth (c .before .before .before .before .before .before .before .before .before .before .args .counts .now)) (c .before .before .before .before .before .before .before .loop .i) (c .before .before .before .before .clip .result .0) (c .before .before .clip2 .result .0) (c .before .before .before .before .before .before .before .loop .clipped) (omega arith) (c .before .before .before .before .before .before .before .loop .inv .2) (c .before .before .before .before .clip .ensures) (c .before .before .clip2 .ensures),
-)
+loop-again c =
+    let start = c .before .before .before .before .before .before .before .before .before .before in
+    let loop = c .before .before .before .before .before .before .before .loop in
+    let clip = c .before .before .before .before .clip in
+    let clip2 = c .before .before .clip2 in (
+      omega arith,
+      simp length-set (loop .inv .1),
+      clipped-more (start .args .top) (nth (start .args .counts .now)) (loop .i) (clip .result .0) (clip2 .result .0) (loop .clipped) (omega arith) (loop .inv .2) (clip .ensures) (clip2 .ensures),
+    )
 
 same-length : tie.Need-same-length Inv-loop μ-loop
 same-length c = search needs

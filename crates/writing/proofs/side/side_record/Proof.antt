@@ -23,7 +23,9 @@ use Rattle.writing.proofs.side.side_record.Statement.{statement}
 use Rattle.writing.proofs.side.side_record.Tie as tie
 
 turn : (c : tie.After-shared-slice-known3) → Turn (card-of (paper (c .before .before .before .before .args .s)) .width) (c .before .before .before .before .args .n) (c .before .before .before .before .args .i) (c .before .before .before .before .args .area .now)
-turn c = record { wide = c .before .before .before .before .pre .3; below = c .before .before .before .before .pre .4; octets = all-from Byte (c .before .before .before .before .args .area .now) (λ j. omega (arith, c .shared-slice-known3 .given j)) }
+turn c =
+    let start = c .before .before .before .before in
+    record { wide = start .pre .3; below = start .pre .4; octets = all-from Byte (start .args .area .now) (λ j. omega (arith, c .shared-slice-known3 .given j)) }
 
 -- the record's bytes lie within the area
 size-is : (c : tie.After-record-size) → c .record-size .result ≡ card-of (paper (c .before .before .before .before .before .args .s)) .width + 4
@@ -36,17 +38,25 @@ inside c = within-by (turn (c .before)) (c .record-size .result) (size-is c)
 -- it belongs to the side
 belongs-is : (c : tie.After-belongs-to-side) → c .belongs-to-side .result ≡ belongs-by (card-of (paper (c .before .before .before .before .before .before .before .before .args .s))) (nth (take (c .before .before .before .before .before .before .before .before .args .m) (c .before .before .before .before .before .before .before .before .args .work .now))) (nth (drop (c .before .before .before .before .before .before .before .before .args .m) (c .before .before .before .before .before .before .before .before .args .work .now))) (take (card-of (paper (c .before .before .before .before .before .before .before .before .args .s)) .width) (drop (c .before .before .before .before .before .before .before .before .args .i * (card-of (paper (c .before .before .before .before .before .before .before .before .args .s)) .width + 4)) (c .before .before .before .before .before .before .before .before .args .area .now)))
 belongs-is c =
+    let start = c .before .before .before .before .before .before .before .before in
+    let record-size = c .before .before .before .record-size in
+    let width = c .before .before .width in
+    let before = c .before .before .before in
     c .belongs-to-side .ensures
-    ∙ ap (belongs-by (card-of (paper (c .before .before .before .before .before .before .before .before .args .s))) (nth (take (c .before .before .before .before .before .before .before .before .args .m) (c .before .before .before .before .before .before .before .before .args .work .now))) (nth (drop (c .before .before .before .before .before .before .before .before .args .m) (c .before .before .before .before .before .before .before .before .args .work .now))))
-    (lent-is (c .before .before .before .before .before .before .before .before .args .i * c .before .before .before .record-size .result) (c .before .before .before .before .before .before .before .before .args .i * (card-of (paper (c .before .before .before .before .before .before .before .before .args .s)) .width + 4)) (c .before .before .width .result) (card-of (paper (c .before .before .before .before .before .before .before .before .args .s)) .width) (c .before .before .before .before .before .before .before .before .args .area .now) (c .before .before .before .before .before .before .before .before .args .area .now)
-    (ap (λ (z : ℕ). c .before .before .before .before .before .before .before .before .args .i * z) (size-is (c .before .before .before))) (c .before .before .width .ensures) refl)
+    ∙ ap (belongs-by (card-of (paper (start .args .s))) (nth (take (start .args .m) (start .args .work .now))) (nth (drop (start .args .m) (start .args .work .now))))
+    (lent-is (start .args .i * record-size .result) (start .args .i * (card-of (paper (start .args .s)) .width + 4)) (width .result) (card-of (paper (start .args .s)) .width) (start .args .area .now) (start .args .area .now)
+    (ap (λ (z : ℕ). start .args .i * z) (size-is (before))) (width .ensures) refl)
 
 yes : (c : tie.Else1) → belongs-by (card-of (paper (c .before .before .before .before .before .before .before .before .before .args .s))) (nth (take (c .before .before .before .before .before .before .before .before .before .args .m) (c .before .before .before .before .before .before .before .before .before .args .work .now))) (nth (drop (c .before .before .before .before .before .before .before .before .before .args .m) (c .before .before .before .before .before .before .before .before .before .args .work .now))) (take (card-of (paper (c .before .before .before .before .before .before .before .before .before .args .s)) .width) (drop (c .before .before .before .before .before .before .before .before .before .args .i * (card-of (paper (c .before .before .before .before .before .before .before .before .before .args .s)) .width + 4)) (c .before .before .before .before .before .before .before .before .before .args .area .now))) ≡ true
 yes c = sym (belongs-is (c .before)) ∙ not-false (c .before .belongs-to-side .result) (c .if1 .left)
 
 -- the free place, and the one after it
 place : (c : tie.Else1) → c .before .before .before .before .before .before .before .before .before .args .free + c .before .before .before .before .record-size .result ≤ length (c .before .before .before .before .before .before .before .before .before .args .store .now)
-place c = rw (c .before .before .before .before .before .before .before .before .before .pre .6, c .before .before .before .before .before .before .before .before .before .pre .7, c .before .before .before .before .record-size .ensures) (place-within (card-of (paper (c .before .before .before .before .before .before .before .before .before .args .s))) (c .before .before .before .before .before .before .before .before .before .args .m) (c .before .before .before .before .before .before .before .before .before .args .n) (c .before .before .before .before .before .before .before .before .before .args .i) (c .before .before .before .before .before .before .before .before .before .args .work .now) (c .before .before .before .before .before .before .before .before .before .args .area .now) (turn (c .before .before .before .before .before)) (c .before .before .before .before .before .before .before .before .before .pre .5) (yes c))
+place c =
+    let start = c .before .before .before .before .before .before .before .before .before in
+    let record-size = c .before .before .before .before .record-size in
+    let before = c .before .before .before .before .before in
+    rw (start .pre .6, start .pre .7, record-size .ensures) (place-within (card-of (paper (start .args .s))) (start .args .m) (start .args .n) (start .args .i) (start .args .work .now) (start .args .area .now) (turn (before)) (start .pre .5) (yes c))
 
 next-free : (z size free j k : ℕ) → size ≡ z → free ≡ z * j → k ≡ j + 1 → free + size ≡ z * k
 next-free z size free j k e f g = rw (e, f, g, mul-add, mul-one)
@@ -76,8 +86,11 @@ belongs-to-side-requires : tie.Need-belongs-to-side-requires
 belongs-to-side-requires c κs = search needs
 
 returns : tie.Need-returns
-returns c = let same = not-sent (card-of (paper (c .before .before .before .before .before .before .before .before .before .args .s))) (c .before .before .before .before .before .before .before .before .before .args .m) (c .before .before .before .before .before .before .before .before .before .args .n) (c .before .before .before .before .before .before .before .before .before .args .i) (c .before .before .before .before .before .before .before .before .before .args .work .now) (c .before .before .before .before .before .before .before .before .before .args .area .now) (turn (c .before .before .before .before .before)) (sym (belongs-is (c .before)) ∙ not-true (c .before .belongs-to-side .result) (c .if1 .taken)) in
-    (c .before .before .before .before .before .before .before .before .before .pre .6 ∙ ap (λ (l : List Record). record-size (card-of (paper (c .before .before .before .before .before .before .before .before .before .args .s))) * length l) same, c .before .before .before .before .before .before .before .before .before .pre .7 ∙ ap (places (card-of (paper (c .before .before .before .before .before .before .before .before .before .args .s))) ((card-of (paper (c .before .before .before .before .before .before .before .before .before .args .s))) .side-places)) same)
+returns c =
+    let start = c .before .before .before .before .before .before .before .before .before in
+    let before = c .before .before .before .before .before in
+    let same = not-sent (card-of (paper (start .args .s))) (start .args .m) (start .args .n) (start .args .i) (start .args .work .now) (start .args .area .now) (turn (before)) (sym (belongs-is (c .before)) ∙ not-true (c .before .belongs-to-side .result) (c .if1 .taken)) in
+    (start .pre .6 ∙ ap (λ (l : List Record). record-size (card-of (paper (start .args .s))) * length l) same, start .pre .7 ∙ ap (places (card-of (paper (start .args .s))) ((card-of (paper (start .args .s))) .side-places)) same)
 
 add-after : tie.Need-add-after
 add-after c = omega (arith, place c)
@@ -111,14 +124,17 @@ same-length c = search needs
 
 returns-2 : tie.Need-returns-2
 returns-2 c =
-    let s = (card-of (paper (c .before .before .before .before .before .before .before .before .before .before .before .before .before .before .args .s))) in
-    let kept = sent s (c .before .before .before .before .before .before .before .before .before .before .before .before .before .before .args .m) (c .before .before .before .before .before .before .before .before .before .before .before .before .before .before .args .work .now) (c .before .before .before .before .before .before .before .before .before .before .before .before .before .before .args .i) (c .before .before .before .before .before .before .before .before .before .before .before .before .before .before .args .area .now) in
+    let start = c .before .before .before .before .before .before .before .before .before .before .before .before .before .before in
+    let before = c .before .before .before .before .before .before .before .before .before .before in
+    let copy = c .before .before .copy in
+    let s = (card-of (paper (start .args .s))) in
+    let kept = sent s (start .args .m) (start .args .work .now) (start .args .i) (start .args .area .now) in
     let size = c .before .before .before .before .before .before .before .before .before .record-size .result in
-    let lent = lent-is (c .before .before .before .before .before .before .before .before .before .before .before .before .before .before .args .i * size) (c .before .before .before .before .before .before .before .before .before .before .before .before .before .before .args .i * (card-of (paper (c .before .before .before .before .before .before .before .before .before .before .before .before .before .before .args .s)) .width + 4)) size (card-of (paper (c .before .before .before .before .before .before .before .before .before .before .before .before .before .before .args .s)) .width + 4) (c .before .before .before .before .before .before .before .before .before .before .before .before .before .before .args .area .now) (c .before .before .before .before .before .before .before .before .before .before .before .before .before .before .args .area .now)
-    (ap (λ (z : ℕ). c .before .before .before .before .before .before .before .before .before .before .before .before .before .before .args .i * z) (size-is (c .before .before .before .before .before .before .before .before .before))) (size-is (c .before .before .before .before .before .before .before .before .before)) refl in (
-      next-free (record-size s) size (c .before .before .before .before .before .before .before .before .before .before .before .before .before .before .args .free) (length kept) _ (c .before .before .before .before .before .before .before .before .before .record-size .ensures) (c .before .before .before .before .before .before .before .before .before .before .before .before .before .before .pre .6) (sent-length s (c .before .before .before .before .before .before .before .before .before .before .before .before .before .before .args .m) (c .before .before .before .before .before .before .before .before .before .before .before .before .before .before .args .n) (c .before .before .before .before .before .before .before .before .before .before .before .before .before .before .args .i) (c .before .before .before .before .before .before .before .before .before .before .before .before .before .before .args .work .now) (c .before .before .before .before .before .before .before .before .before .before .before .before .before .before .args .area .now) (turn (c .before .before .before .before .before .before .before .before .before .before)) (yes (c .before .before .before .before .before))),
-      back-is (c .before .before .before .before .before .before .before .before .before .before .before .before .before .before .args .free) (record-size s * length kept) size (record-size s) (c .before .before .before .before .before .before .before .before .before .before .before .before .before .before .args .store .now) _ (c .before .before .copy .last .0) _ (c .before .before .before .before .before .before .before .before .before .before .before .before .before .before .pre .6) (c .before .before .before .before .before .before .before .before .before .record-size .ensures) (c .before .before .before .before .before .before .before .before .before .before .before .before .before .before .pre .7) (c .before .before .copy .ensures ∙ lent)
-          ∙ sent-put s (c .before .before .before .before .before .before .before .before .before .before .before .before .before .before .args .m) (c .before .before .before .before .before .before .before .before .before .before .before .before .before .before .args .n) (c .before .before .before .before .before .before .before .before .before .before .before .before .before .before .args .i) (c .before .before .before .before .before .before .before .before .before .before .before .before .before .before .args .work .now) (c .before .before .before .before .before .before .before .before .before .before .before .before .before .before .args .area .now) (turn (c .before .before .before .before .before .before .before .before .before .before)) (c .before .before .before .before .before .before .before .before .before .before .before .before .before .before .pre .5) (yes (c .before .before .before .before .before)),
+    let lent = lent-is (start .args .i * size) (start .args .i * (card-of (paper (start .args .s)) .width + 4)) size (card-of (paper (start .args .s)) .width + 4) (start .args .area .now) (start .args .area .now)
+    (ap (λ (z : ℕ). start .args .i * z) (size-is (c .before .before .before .before .before .before .before .before .before))) (size-is (c .before .before .before .before .before .before .before .before .before)) refl in (
+      next-free (record-size s) size (start .args .free) (length kept) _ (c .before .before .before .before .before .before .before .before .before .record-size .ensures) (start .pre .6) (sent-length s (start .args .m) (start .args .n) (start .args .i) (start .args .work .now) (start .args .area .now) (turn (before)) (yes (c .before .before .before .before .before))),
+      back-is (start .args .free) (record-size s * length kept) size (record-size s) (start .args .store .now) _ (copy .last .0) _ (start .pre .6) (c .before .before .before .before .before .before .before .before .before .record-size .ensures) (start .pre .7) (copy .ensures ∙ lent)
+          ∙ sent-put s (start .args .m) (start .args .n) (start .args .i) (start .args .work .now) (start .args .area .now) (turn (before)) (start .pre .5) (yes (c .before .before .before .before .before)),
     )
 
 pub side-record-spec : {M : Type 1} → statement M

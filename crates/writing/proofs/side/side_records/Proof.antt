@@ -18,10 +18,15 @@ abbrev μ-loop : tie.MeasureT-loop
 μ-loop s t m work store₀ area n i₀ free₀ store i free = n - i
 
 loop-holds : tie.Need-loop-holds Inv-loop μ-loop
-loop-holds c = (omega arith, refl, none-sent (card-of (paper (c .before .before .before .before .args .s))) (c .before .before .before .before .args .m) (c .before .before .before .before .args .work .now) (c .before .before .before .before .args .area .now), c .before .before .before .before .pre .5)
+loop-holds c =
+    let start = c .before .before .before .before in
+    (omega arith, refl, none-sent (card-of (paper (start .args .s))) (start .args .m) (start .args .work .now) (start .args .area .now), start .pre .5)
 
 side-record-requires : tie.Need-side-record-requires Inv-loop μ-loop
-side-record-requires c κs = (c .before .before .before .before .before .before .before .pre .0, c .before .before .before .before .before .before .before .pre .1, c .before .before .before .before .before .before .before .pre .2, c .before .before .before .before .before .before .before .pre .3, omega arith, c .before .before .before .before .before .before .before .pre .4, c .before .before .loop .inv .2, c .before .before .loop .inv .3)
+side-record-requires c κs =
+    let start = c .before .before .before .before .before .before .before in
+    let loop = c .before .before .loop in
+    (start .pre .0, start .pre .1, start .pre .2, start .pre .3, omega arith, start .pre .4, loop .inv .2, loop .inv .3)
 
 add-i : tie.Need-add-i Inv-loop μ-loop
 add-i c = omega arith
@@ -30,7 +35,10 @@ loop-less : tie.Need-loop-less Inv-loop μ-loop
 loop-less c = omega arith
 
 loop-again : tie.Need-loop-again Inv-loop μ-loop
-loop-again c = (omega arith, c .before .before .side-record .kept .1 .1 .1 .1 .0 ∙ c .before .before .before .before .before .loop .inv .1, c .before .before .side-record .ensures .0, c .before .before .side-record .ensures .1)
+loop-again c =
+    let loop = c .before .before .before .before .before .loop in
+    let side-record = c .before .before .side-record in
+    (omega arith, side-record .kept .1 .1 .1 .1 .0 ∙ loop .inv .1, side-record .ensures .0, side-record .ensures .1)
 
 same-length : tie.Need-same-length Inv-loop μ-loop
 same-length c = omega arith
