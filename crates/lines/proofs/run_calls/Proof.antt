@@ -78,13 +78,13 @@ loop-again c =
       ran-on _ _ _ _ _ _ (loop .i) _ _ _ _ _ _ _ _ _ (loop-test .taken) (loop .inv .5) (loop .inv .1)
           (ap (λ (m : ℕ). lists.take (m - loop .from) (lists.drop (loop .from) (start .args .input .now))) (call-end .ensures) ∙ call-bytes (loop .from) (loop .i) (start .args .input .now) (loop .inv .2) (omega arith))
           (loop .inv .4) (run-call .ensures .0),
-      search needs,
-      search needs,
-      search needs,
-      search needs,
-      search needs,
-      search needs,
-      search needs,
+      run-call .kept .1 .1 .1 .1 .1 .1 .1 .0 ∙ loop .inv .5,
+      run-call .kept .1 .1 .1 .1 .1 .1 .1 .1 .0 ∙ loop .inv .6,
+      run-call .kept .1 .1 .0 ∙ loop .inv .7,
+      run-call .kept .1 .1 .1 .0 ∙ loop .inv .8,
+      run-call .kept .1 .1 .1 .1 .0 ∙ loop .inv .9,
+      run-call .kept .1 .1 .1 .1 .1 .0 ∙ loop .inv .10,
+      run-call .kept .1 .1 .1 .1 .1 .1 .0 ∙ loop .inv .11,
     )
 
 same-length : tie.Need-same-length Inv-loop μ-loop
