@@ -2,12 +2,15 @@
 use mathlib.Core.Path.{_≡_, refl, ap, _∙_}
 use mathlib.Core.List.{List, [], _∷_, _++_}
 use Prim.Native.Nat.{ℕ, suc, _+_, _-_, _*_, _/_, _%_, _≤_, _<_}
-use native.Mathlib.Nat.{zero-add, zero-mul}
+use native.Mathlib.Nat.{zero-add}
 use native.Mathlib.Numerals.{add-one, add-two, add-three}
 use native.Mathlib.Omega.{arith}
 use lib.ListN.{length, take, drop, getD, set, length-append, length-drop}
 use lib.Seq.{drop-cons, drop-drop, take-at}
 use Rattle.theory.specs.Records.{to-bytes, number-after, of-bytes, count-of, record-bytes}
+use Rattle.theory.proofs.ListLaws.{All}
+use Rattle.theory.proofs.ByteLaws.{Byte}
+use Rattle.ledger.specs.Words.{low-first}
 use Rattle.ledger.proofs.PartLaws.{back, tail-back}
 
 pub count-is : (l : List ℕ) → 2 ≤ length l → count-of l ≡ getD l 0 0 * 256 + getD l 1 0
@@ -31,23 +34,47 @@ class-is l i h =
       add-three,
     )
 
--- four more bytes of a number
-four-more : (n k : ℕ) (l : List ℕ) → 4 ≤ length l → number-after n (take (suc (suc (suc (suc k)))) l) ≡ number-after (n * 4294967296 + of-bytes (take 4 l)) (take k (drop 4 l))
-unfolding number-after
-four-more n k [] h = absurd (omega arith)
-four-more n k (x ∷ []) h = absurd (omega arith)
-four-more n k (x ∷ y ∷ []) h = absurd (omega arith)
-four-more n k (x ∷ y ∷ z ∷ []) h = absurd (omega arith)
-four-more n k (x ∷ y ∷ z ∷ u ∷ us) h =
-    ap (λ (m : ℕ). number-after m (take k us)) (omega arith)
+-- low byte first: four bytes one by one, eight by four
+pub low-half-is : (l : List ℕ) (i : ℕ) → i + 4 ≤ length l
+    → low-first (take 4 (drop i l)) ≡ getD l i 0 + (getD l (i + 1) 0 + (getD l (i + 2) 0 + getD l (i + 3) 0 * 256) * 256) * 256
+unfolding low-first
+low-half-is l i h =
+    rw (
+      drop-cons l i 0 (omega arith),
+      drop-cons l (suc i) 0 (omega arith),
+      drop-cons l (suc (suc i)) 0 (omega arith),
+      drop-cons l (suc (suc (suc i))) 0 (omega arith),
+      add-one,
+      add-two,
+      add-three,
+    )
+    (omega arith)
 
-pub word-is : (l : List ℕ) (i : ℕ) → i + 8 ≤ length l
-    → of-bytes (take 8 (drop i l)) ≡ of-bytes (take 4 (drop i l)) * 4294967296 + of-bytes (take 4 (drop (i + 4) l))
-unfolding number-after
-word-is l i h =
-    let first = four-more 0 4 (drop i l) (rw length-drop (omega arith)) in
-    let second = four-more (0 * 4294967296 + of-bytes (take 4 (drop i l))) 0 (drop 4 (drop i l)) (rw (length-drop, length-drop) (omega arith)) in
-    first ∙ second ∙ rw (zero-mul, zero-add, drop-drop)
+low-four : (k : ℕ) (l : List ℕ) → 4 ≤ length l → low-first (take (suc (suc (suc (suc k)))) l) ≡ low-first (take 4 l) + low-first (take k (drop 4 l)) * 4294967296
+unfolding low-first
+low-four k [] h = absurd (omega arith)
+low-four k (x ∷ []) h = absurd (omega arith)
+low-four k (x ∷ y ∷ []) h = absurd (omega arith)
+low-four k (x ∷ y ∷ z ∷ []) h = absurd (omega arith)
+low-four k (x ∷ y ∷ z ∷ u ∷ us) h = omega arith
+
+pub low-word-is : (l : List ℕ) (i : ℕ) → i + 8 ≤ length l
+    → low-first (take 8 (drop i l)) ≡ low-first (take 4 (drop i l)) + low-first (take 4 (drop (i + 4) l)) * 4294967296
+low-word-is l i h = low-four 4 (drop i l) (rw length-drop (omega arith)) ∙ rw drop-drop
+
+-- lists of as many bytes with one number are the same
+pub low-first-one : (a b : List ℕ) → length a ≡ length b → All Byte a → All Byte b → low-first a ≡ low-first b → a ≡ b
+unfolding low-first
+low-first-one [] [] n ba bb e = refl
+low-first-one [] (y ∷ ys) n ba bb e = absurd (omega arith)
+low-first-one (x ∷ xs) [] n ba bb e = absurd (omega arith)
+low-first-one (x ∷ xs) (y ∷ ys) n ba bb e =
+    let first : x ≡ y = omega (arith, ba .0, bb .0) in
+    let rest : low-first xs ≡ low-first ys = omega (arith, ba .0, bb .0) in
+    ap2-cons first (low-first-one xs ys (omega arith) (ba .1) (bb .1) rest)
+  where
+    ap2-cons : {p q : ℕ} {ps qs : List ℕ} → p ≡ q → ps ≡ qs → _≡_ {A = List ℕ} (p ∷ ps) (q ∷ qs)
+    ap2-cons f g = rw (f, g)
 
 pub two-written : (l : List ℕ) (n : ℕ) → 2 ≤ length l → n < 65536 → set (set l 0 (n / 256)) 1 (n % 256) ≡ to-bytes 2 n ++ drop 2 l
 unfolding to-bytes

@@ -1,2 +1,3 @@
 pub mod Edits
 pub mod Spots
+pub mod Words

@@ -7,6 +7,7 @@ ghost use lib.Dec.{eqb};
 ghost use lib.ListN.{length, take, drop, replicate};
 ghost use Rattle.theory.specs.Lists.{any};
 ghost use Rattle.theory.specs.Records.{to-bytes, of-bytes, count-of, record-bytes};
+ghost use Rattle.ledger.specs.Words.{low-first};
 
 fn wide(x: u8) -> usize
     ensures { λ r. ⌜ (r ≡ x) × (r < 256) ⌝ }
@@ -43,12 +44,21 @@ fn wide64(x: u32) -> u64
     x as u64
 }
 
-// The number in the eight bytes from a place on.
-pub fn word_at(area: &[u8], at: usize) -> u64
-    requires { ⌜ at + 8 ≤ length (now area) ⌝ }
-    ensures { λ r. ⌜ r ≡ of-bytes (take 8 (drop at (now (area .entry)))) ⌝ }
+// The number in the four bytes from a place on, low byte first.
+fn low_half_at(area: &[u8], at: usize) -> u32
+    requires { ⌜ at + 4 ≤ length (now area) ⌝ }
+    ensures { λ r. ⌜ r ≡ low-first (take 4 (drop at (now (area .entry)))) ⌝ }
 {
-    wide64(class_at(area, at)) * 4294967296 + wide64(class_at(area, at + 4))
+    let high = wide32(area[at + 2]) + wide32(area[at + 3]) * 256;
+    wide32(area[at]) + (wide32(area[at + 1]) + high * 256) * 256
+}
+
+// The number in the eight bytes from a place on, low byte first: one load on the processors at hand.
+pub fn low_word_at(area: &[u8], at: usize) -> u64
+    requires { ⌜ at + 8 ≤ length (now area) ⌝ }
+    ensures { λ r. ⌜ r ≡ low-first (take 8 (drop at (now (area .entry)))) ⌝ }
+{
+    wide64(low_half_at(area, at)) + wide64(low_half_at(area, at + 4)) * 4294967296
 }
 
 // A number in the two bytes that an area starts with.

@@ -1,17 +1,16 @@
 // "Keys are ordered byte by byte from the first, unsigned."
-use super::bytes::class_at;
-use super::bytes::word_at;
+use super::bytes::low_word_at;
 ghost use mathlib.Core.Path.{_≡_};
 ghost use Prim.Native.Nat.{_+_, _*_, _≤_};
-ghost use lib.ListN.{length, drop};
+ghost use lib.ListN.{length, take, drop};
 ghost use Rattle.theory.specs.Records.{records, same-key, key-below, rising};
 
-// The bytes from a place on, one by one.
-fn same_bytes(a: &[u8], b: &[u8], from: usize) -> bool
-    requires { ⌜ (length (now a) ≡ length (now b)) × (from ≤ length (now a)) ⌝ }
-    ensures { λ r. ⌜ r ≡ same-key (drop from (now (a .entry))) (drop from (now (b .entry))) ⌝ }
+// Byte by byte.
+fn same_bytes(a: &[u8], b: &[u8]) -> bool
+    requires { ⌜ length (now a) ≡ length (now b) ⌝ }
+    ensures { λ r. ⌜ r ≡ same-key (now (a .entry)) (now (b .entry)) ⌝ }
 {
-    let mut i = from;
+    let mut i: usize = 0;
     while i < a.len() {
         if a[i] != b[i] {
             return false;
@@ -21,34 +20,37 @@ fn same_bytes(a: &[u8], b: &[u8], from: usize) -> bool
     true
 }
 
-// The bytes from a place on, the first four, if there are as many, as one number.
-fn same_rest(a: &[u8], b: &[u8], from: usize) -> bool
-    requires { ⌜ (length (now a) ≡ length (now b)) × (from ≤ length (now a)) ⌝ }
-    ensures { λ r. ⌜ r ≡ same-key (drop from (now (a .entry))) (drop from (now (b .entry))) ⌝ }
+// The eight bytes of each from a place on.
+fn same_word(a: &[u8], b: &[u8], at: usize) -> bool
+    requires { ⌜ (at + 8 ≤ length (now a)) × (at + 8 ≤ length (now b)) ⌝ }
+    ensures { λ r. ⌜ r ≡ same-key (take 8 (drop at (now (a .entry)))) (take 8 (drop at (now (b .entry)))) ⌝ }
 {
-    let mut i = from;
-    if 4 <= a.len() - from {
-        if class_at(a, from) != class_at(b, from) {
-            return false;
-        }
-        i = from + 4;
-    }
-    same_bytes(a, b, i)
+    low_word_at(a, at) == low_word_at(b, at)
 }
 
-// The bytes by eight while there are eight, then the rest.
+// Eight bytes or more, as words from the first byte on and one that ends at the last byte, which may overlap the one before it. No branch on what is equal.
+pub fn same_words(a: &[u8], b: &[u8]) -> bool
+    requires { ⌜ (length (now a) ≡ length (now b)) × (8 ≤ length (now a)) ⌝ }
+    ensures { λ r. ⌜ r ≡ same-key (now (a .entry)) (now (b .entry)) ⌝ }
+{
+    let last = a.len() - 8;
+    let mut same = same_word(a, b, last);
+    let mut i: usize = 0;
+    while i < last {
+        same = same_word(a, b, i) & same;
+        i += 8;
+    }
+    same
+}
+
 pub fn same_key(a: &[u8], b: &[u8]) -> bool
     requires { ⌜ length (now a) ≡ length (now b) ⌝ }
     ensures { λ r. ⌜ r ≡ same-key (now (a .entry)) (now (b .entry)) ⌝ }
 {
-    let mut i: usize = 0;
-    while 8 <= a.len() - i {
-        if word_at(a, i) != word_at(b, i) {
-            return false;
-        }
-        i += 8;
+    if a.len() < 8 {
+        return same_bytes(a, b);
     }
-    same_rest(a, b, i)
+    same_words(a, b)
 }
 
 pub fn below_key(a: &[u8], b: &[u8]) -> bool

@@ -1,4 +1,4 @@
--- `ledger::keys::same_bytes` meets its contract: the loop keeps that the test of the bytes from i on is that from the start on. Assumes nothing.
+-- `ledger::keys::same_bytes` meets its contract: the loop keeps that the test of the bytes from i on is that of the keys. Assumes nothing.
 use mathlib.Core.Path.{_≡_, refl, sym, _∙_}
 use Prim.Native.Nat.{_≤_, _-_}
 use native.Mathlib.Omega.{arith}
@@ -10,10 +10,10 @@ use Rattle.ledger.proofs.keys.same_bytes.Statement.{statement}
 use Rattle.ledger.proofs.keys.same_bytes.Tie as tie
 
 abbrev Inv-loop : tie.InvT-loop
-Inv-loop a b from i₀ i = (i ≤ length a) × (same-key (drop i a) (drop i b) ≡ same-key (drop from a) (drop from b))
+Inv-loop a b i₀ i = (i ≤ length a) × (same-key (drop i a) (drop i b) ≡ same-key a b)
 
 abbrev μ-loop : tie.MeasureT-loop
-μ-loop a b from i₀ i = length a - i
+μ-loop a b i₀ i = length a - i
 
 loop-holds : tie.Need-loop-holds Inv-loop μ-loop
 loop-holds c = (omega arith, refl)
