@@ -1,5 +1,6 @@
 // Records compared from the first up to the equal one or the last.
 ghost use mathlib.Core.Path.{_≡_};
+ghost use mathlib.Core.Bool.{cond};
 ghost use Prim.Native.Nat.{_+_, _*_, _≤_};
 ghost use lib.ListN.{length};
 ghost use Rattle.lookup.specs.Scanning.{HitOf};
@@ -37,5 +38,36 @@ pub fn scan(place: &[u8], n: usize, key: &[u8]) -> Hit
         found: false,
         at: 0,
         compared,
+    }
+}
+
+fn pick(test: bool, a: usize, b: usize) -> usize
+    ensures { λ r. ⌜ r ≡ cond test a b ⌝ }
+{
+    if test { a } else { b }
+}
+
+// The same where all places may be read: each is compared, from the last to the first, with no branch on what is equal; the first equal one counts if it is among
+// the first n. The offset is inside whatever is found, so that the caller may read there first and choose after.
+pub fn scan_all(place: &[u8], n: usize, room: usize, key: &[u8]) -> Hit
+    requires { ⌜ (room * (length (now key) + 4) ≤ length (now place)) × (8 ≤ length (now key)) × (length (now key) ≤ 64) × (n ≤ room) × (1 ≤ room) × (room ≤ 4096) ⌝ }
+    ensures { λ r. ⌜ HitOf (length (now (key .entry))) n (now (place .entry)) (now (key .entry)) r × (r .at + (length (now (key .entry)) + 4) ≤ length (now (place .entry))) ⌝ }
+{
+    let width = key.len();
+    let size = width + 4;
+    let mut left = room;
+    let mut at = room * size;
+    let mut first = room;
+    while 0 < left {
+        left -= 1;
+        at -= size;
+        let end = at + width;
+        first = pick(ledger::keys::same_words(key, &place[at..end]), left, first);
+    }
+    let found = first < n;
+    Hit {
+        found,
+        at: pick(found, first, 0) * size,
+        compared: pick(found, first + 1, n),
     }
 }

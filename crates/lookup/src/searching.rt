@@ -5,9 +5,10 @@ use crate::judging::judge_lent;
 use crate::placing::Place;
 use crate::placing::find_place;
 use crate::scanning::scan;
+use crate::scanning::scan_all;
 use settings::Settings;
 ghost use mathlib.Core.Path.{_≡_};
-ghost use mathlib.Core.Bool.{true};
+ghost use mathlib.Core.Bool.{true, cond};
 ghost use Prim.Native.Nat.{_+_, _-_, _*_, _≤_};
 ghost use lib.ListN.{length, take, drop};
 ghost use Rattle.theory.specs.Records.{records, find, comparisons};
@@ -67,6 +68,29 @@ fn compare(place: &[u8], n: usize, key: &[u8], read: u32) -> Answer
     }
 }
 
+fn pick(test: bool, a: u32, b: u32) -> u32
+    ensures { λ r. ⌜ r ≡ cond test a b ⌝ }
+{
+    if test { a } else { b }
+}
+
+// The answer of a scan of all places of a bucket, with no branch on what was found: the class is read anyway, and kept or not.
+fn compare_all(place: &[u8], n: usize, room: usize, key: &[u8], read: u32) -> Answer
+    requires { ⌜ (room * (length (now key) + 4) ≤ length (now place)) × (8 ≤ length (now key)) × (length (now key) ≤ 64) × (n ≤ room) × (1 ≤ room) × (room ≤ 4096) ⌝ }
+    ensures { λ r. ⌜ answer-of r ≡ plain.answer (find (now (key .entry)) (records (length (now (key .entry))) n (now (place .entry)))) read
+        (comparisons (now (key .entry)) (records (length (now (key .entry))) n (now (place .entry)))) ⌝ }
+{
+    let hit = scan_all(place, n, room, key);
+    let at = hit.at + key.len();
+    let class = ledger::bytes::class_at(place, at);
+    Answer {
+        number: pick(hit.found, 0, 100),
+        class: pick(hit.found, class, 0),
+        buckets_read: read,
+        records_compared: hit.compared as u32,
+    }
+}
+
 // The records of a bucket, which start after its mark.
 fn compare_bucket(s: Settings, buckets: &[u8], from: usize, n: usize, key: &[u8]) -> Answer
     requires { ⌜ (allowed (paper s) ≡ true) × (length (now buckets) ≡ buckets-length (card-of (paper s))) × (length (now key) ≡ card-of (paper s) .width)
@@ -75,7 +99,9 @@ fn compare_bucket(s: Settings, buckets: &[u8], from: usize, n: usize, key: &[u8]
         (plain.among (take (bucket-size (card-of (paper s)) - 1) (drop from (now (buckets .entry)))) n 1) ⌝ }
 {
     let end = from + (s.bucket_size() - 1);
-    compare(&buckets[from..end], n, key, 1)
+    // the width as the settings have it, which the compiler knows
+    let width = s.width();
+    compare_all(&buckets[from..end], n, s.room, &key[..width], 1)
 }
 
 // The records of the side store, which start after its count.

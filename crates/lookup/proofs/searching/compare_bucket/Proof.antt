@@ -1,8 +1,10 @@
--- `lookup::searching::compare_bucket` meets its contract: the part that is lent on is the bucket after its mark. Assumes nothing.
-use Prim.Native.Nat.{_-_}
+-- `lookup::searching::compare_bucket` meets its contract: the part that is lent on is the bucket after its mark, and the key as wide as the settings say is the key. Assumes nothing.
+use mathlib.Core.Path.{_≡_, sym, _∙_}
+use Prim.Native.Nat.{_+_, _-_, _≤_}
 use native.Mathlib.Nat.{add-sub-cancel-left}
 use native.Mathlib.Omega.{arith}
-use lib.ListN.{length}
+use lib.ListN.{length, take}
+use lib.Seq.{take-all}
 use Rattle.theory.specs.Lookup.{answer-at}
 use Rattle.theory.proofs.SettingsLaws.{ranges}
 use Rattle.settings.specs.Checked.{paper}
@@ -21,31 +23,41 @@ sub-end c = let b = bounds (paper (c .before .before .before .args .s)) (c .befo
 add-end : tie.Need-add-end
 add-end c = search needs
 
-sub-compare : tie.Need-sub-compare
-sub-compare c = search needs
+width-requires : tie.Need-width-requires
+width-requires c κs = search needs
 
-part-compare-start : tie.Need-part-compare-start
-part-compare-start c = search needs
+sub-compare-all : tie.Need-sub-compare-all
+sub-compare-all c = search needs
 
-part-compare-end : tie.Need-part-compare-end
-part-compare-end c = search needs
+part-compare-all-start : tie.Need-part-compare-all-start
+part-compare-all-start c = search needs
 
-compare-requires : tie.Need-compare-requires
-compare-requires c κs =
-    let start = c .before .before .before .before in
-    let bucket-size = c .before .bucket-size in
-    let r = ranges (paper (start .args .s)) (start .pre .0) in (
-      bucket-room (paper (start .args .s)) (start .pre .0) (length (start .args .key .now)) (start .args .n) (start .pre .2) (start .args .buckets .now) (start .args .from) (bucket-size .result) (bucket-size .ensures) (start .pre .3) (start .pre .4),
-      omega (arith, start .pre .2, width-is (paper (start .args .s))),
-      omega (arith, start .pre .4),
+part-compare-all-end : tie.Need-part-compare-all-end
+part-compare-all-end c = search needs
+
+slice-aggregate-compare-all : tie.Need-slice-aggregate-compare-all
+slice-aggregate-compare-all c =
+    let whole = take-all (c .before .before .width .result) (c .before .before .before .before .before .before .args .key .now) (omega (arith, c .before .before .width .ensures, c .before .before .before .before .before .before .pre .2)) in
+    rw whole (c .before .before .width .ensures ∙ sym (c .before .before .before .before .before .before .pre .2))
+
+compare-all-requires : tie.Need-compare-all-requires
+compare-all-requires c κs =
+    let whole = take-all (c .before .before .width .result) (c .before .before .before .before .before .before .args .key .now) (omega (arith, c .before .before .width .ensures, c .before .before .before .before .before .before .pre .2)) in
+    let r = ranges (paper (c .before .before .before .before .before .before .args .s)) (c .before .before .before .before .before .before .pre .0) in
+    rw whole (
+      bucket-room (paper (c .before .before .before .before .before .before .args .s)) (c .before .before .before .before .before .before .pre .0) (length (c .before .before .before .before .before .before .args .key .now)) (c .before .before .before .before .before .before .args .s .room) (c .before .before .before .before .before .before .pre .2) (c .before .before .before .before .before .before .args .buckets .now) (c .before .before .before .before .before .before .args .from) (c .before .before .before .bucket-size .result) (c .before .before .before .bucket-size .ensures) (c .before .before .before .before .before .before .pre .3) (omega arith),
+      omega (arith, c .before .before .before .before .before .before .pre .2, width-is (paper (c .before .before .before .before .before .before .args .s))),
+      omega (arith, c .before .before .before .before .before .before .pre .2, width-is (paper (c .before .before .before .before .before .before .args .s))),
+      c .before .before .before .before .before .before .pre .4,
+      r .room-low,
+      omega (arith, r .room-high),
     )
 
 returns : tie.Need-returns
 unfolding answer-at
 returns c =
-    let start = c .before .before .before .before .before in
-    let bucket-size = c .before .before .bucket-size in
-    rw (c .compare .ensures, start .pre .2, add-sub-cancel-left (start .args .from) (bucket-size .result - 1), bucket-size .ensures)
+    let whole = take-all (c .before .before .before .width .result) (c .before .before .before .before .before .before .before .args .key .now) (omega (arith, c .before .before .before .width .ensures, c .before .before .before .before .before .before .before .pre .2)) in
+    rw (c .compare-all .ensures, whole, c .before .before .before .before .before .before .before .pre .2, add-sub-cancel-left (c .before .before .before .before .before .before .before .args .from) (c .before .before .before .before .bucket-size .result - 1), c .before .before .before .before .bucket-size .ensures)
 
 pub compare-bucket-spec : {M : Type 1} → statement M
 compare-bucket-spec =
@@ -54,8 +66,10 @@ compare-bucket-spec =
     bucket-size-requires
     sub-end
     add-end
-    sub-compare
-    part-compare-start
-    part-compare-end
-    compare-requires
+    width-requires
+    sub-compare-all
+    part-compare-all-start
+    part-compare-all-end
+    slice-aggregate-compare-all
+    compare-all-requires
     returns)

@@ -1,0 +1,46 @@
+-- `lookup::searching::compare_all` meets its contract, by what the scan says, in both cases of what it found. Assumes nothing.
+use lib.ListN.{length}
+use lib.Seq.{drop-drop}
+use Rattle.theory.specs.Records.{record-at}
+use Rattle.theory.proofs.ListLaws.{by-test}
+use borrow.Author.Needs.{needs}
+use Rattle.lookup.proofs.searching.compare_all.Statement.{statement}
+use Rattle.lookup.proofs.searching.compare_all.Tie as tie
+
+scan-all-requires : tie.Need-scan-all-requires
+scan-all-requires c κs = search needs
+
+add-at : tie.Need-add-at
+add-at c = search needs
+
+class-at-requires : tie.Need-class-at-requires
+class-at-requires c κs = search needs
+
+pick-requires : tie.Need-pick-requires
+pick-requires c κs = search needs
+
+pick-requires-2 : tie.Need-pick-requires-2
+pick-requires-2 c κs = search needs
+
+cast-t12 : tie.Need-cast-t12
+cast-t12 c = search needs
+
+returns : tie.Need-returns
+returns c =
+    let e = c .before .before .before .before .before .scan-all .ensures .0 in
+    rw (c .before .before .pick .ensures, c .before .pick2 .ensures, e .finds, e .compares)
+    (by-test (c .before .before .before .before .before .scan-all .result .found)
+    (λ q. rw (q, c .before .before .before .class-at .ensures) (unfold record-at in rw (drop-drop (length (c .before .before .before .before .before .before .before .before .args .key .now)) (c .before .before .before .before .before .scan-all .result .at) (c .before .before .before .before .before .before .before .before .args .place .now))))
+    (λ q. rw q))
+
+pub compare-all-spec : {M : Type 1} → statement M
+compare-all-spec =
+    tie.close
+    (tie.spec
+    scan-all-requires
+    add-at
+    class-at-requires
+    pick-requires
+    pick-requires-2
+    cast-t12
+    returns)
