@@ -1,16 +1,16 @@
 -- Laws of the loop over a key's counters: repeats alter nothing, and the least of counter and bucket as one number is the least counter with its lowest bucket.
 -- Assumes nothing.
 use mathlib.Core.Path.{_≡_, refl, sym, _∙_}
-use mathlib.Core.Bool.{Bool, true, false, _||_, or-assoc, or-false, true≢false}
+use mathlib.Core.Bool.{Bool, true, false, cond, _||_, or-assoc, or-false, true≢false}
 use mathlib.Core.List.{List, [], _∷_, map}
 use Prim.Native.Nat.{ℕ, suc, _+_, _-_, _*_, _/_, _%_, _^_, _≤_, _<_, min}
 use native.Mathlib.Numerals.{add-one}
-use native.Mathlib.Nat.{mod-lt}
+use native.Mathlib.Nat.{mod-lt, div-one, div-div-eq-div-mul}
 use native.Mathlib.Omega.{arith}
 use lib.ListN.{length}
 use lib.Dec.{eqb, ltb}
-use lib.Pow.{pow-pos, pow-mono}
-use borrow.Author.Tests.{ltb-true, ltb-false, eqb-true, eqb-false, eq-eqb, ne-eqb}
+use lib.Pow.{pow-pos, pow-mono, pow-add}
+use borrow.Author.Tests.{ltb-true, ltb-false, lt-ltb, le-ltb, eqb-true, eqb-false, eq-eqb, ne-eqb}
 use Rattle.theory.specs.Lists.{filter, any, has, least, fresh, upto}
 use Rattle.theory.specs.Hash.{hash, numbers-of}
 use Rattle.theory.specs.Settings.{Settings, allowed, card-of, clipped-length}
@@ -145,6 +145,28 @@ module _ (m h j k top : ℕ) (clipped : List ℕ) (above : Bool) (best : ℕ) wh
 
   pub best-end : {all : ℕ} → k ≤ j → least best (map (both (counter clipped)) (hashes m h j k)) ≡ all → best ≡ all
   best-end le e = rw (hashes-end m h j k le) at e
+
+-- the greater of two is above when one is
+pub above-higher : (top count most : ℕ) → ltb top (cond (ltb count most) most count) ≡ (ltb top most || ltb top count)
+above-higher top count most =
+    by-test (ltb count most)
+    (λ e. let lt = ltb-true count most e in
+    rw e (by-test (ltb top most) (λ f. rw f) (λ f. let le = ltb-false top most f in rw (f, le-ltb top count (omega arith)))))
+    (λ e. let le = ltb-false count most e in
+    rw e (by-test (ltb top most) (λ f. let lt = ltb-true top most f in rw (f, lt-ltb top count (omega arith))) (λ f. rw f)))
+
+-- ---- H from hash j on
+pub rest-start : (h : ℕ) → h ≡ h / 2 ^ (16 * 0)
+rest-start h = sym (div-one h)
+
+pub rest-next : (h j rest : ℕ) → rest ≡ h / 2 ^ (16 * j) → rest / 65536 ≡ h / 2 ^ (16 * (j + 1))
+rest-next h j rest e =
+    let f : 16 * (j + 1) ≡ 16 * j + 16 = omega arith in
+    rw (e, f, pow-add 2 (16 * j) 16) (div-div-eq-div-mul h (2 ^ (16 * j)) 65536)
+
+pub rest-hash : (m h j rest : ℕ) → rest ≡ h / 2 ^ (16 * j) → rest % m ≡ hash m h j
+unfolding hash
+rest-hash m h j rest e = rw e
 
 module _ (t : Settings) (ok : allowed t ≡ true) (h : ℕ) where
   -- the counter of a hash is there

@@ -2,72 +2,64 @@
 use mathlib.Core.Path.{_≡_, refl, ap, _∙_}
 use mathlib.Core.Bool.{_||_}
 use mathlib.Core.List.{map}
-use Prim.Native.Nat.{ℕ, _+_, _-_, _*_, _^_, _≤_}
+use Prim.Native.Nat.{ℕ, _+_, _-_, _*_, _/_, _%_, _^_, _≤_, _<_}
+use native.Mathlib.Nat.{mod-lt}
 use native.Mathlib.Omega.{arith}
-use borrow.Author.Needs.{needs}
+use borrow.Author.Tests.{le-ltb}
 use lib.Dec.{ltb}
 use Rattle.theory.specs.Lists.{any, least}
+use Rattle.theory.specs.Hash.{hash}
 use Rattle.theory.specs.Lookup.{counter}
-use Rattle.lookup.proofs.CounterLaws.{hashes, both, counter-there, above-again, best-again, above-end, best-end, choice-of}
 use Rattle.theory.proofs.SettingsLaws.{ranges}
 use Rattle.settings.specs.Checked.{paper}
 use Rattle.settings.proofs.Laws.{buckets-are, bounds}
+use Rattle.lookup.proofs.CounterLaws.{hashes, both, counter-there, above-again, best-again, above-end, best-end, above-higher, rest-start, rest-next, rest-hash, choice-of}
 use Rattle.lookup.proofs.counters.choose.Statement.{statement}
 use Rattle.lookup.proofs.counters.choose.Tie as tie
 
 abbrev Inv-loop : tie.InvT-loop
-Inv-loop h clipped p k top above₀ best₀ j₀ above best j =
+Inv-loop h clipped k m top rest₀ most₀ best₀ j₀ rest most best j =
     (j ≤ k)
     × (best ≤ best₀)
-    × ((above || any (λ b. ltb top (counter clipped b)) (hashes (2 ^ p) h j k)) ≡ any (λ b. ltb top (counter clipped b)) (hashes (2 ^ p) h 0 k))
-    × (least best (map (both (counter clipped)) (hashes (2 ^ p) h j k)) ≡ least best₀ (map (both (counter clipped)) (hashes (2 ^ p) h 0 k)))
+    × (rest ≡ h / 2 ^ (16 * j))
+    × ((ltb top most || any (λ b. ltb top (counter clipped b)) (hashes m h j k)) ≡ any (λ b. ltb top (counter clipped b)) (hashes m h 0 k))
+    × (least best (map (both (counter clipped)) (hashes m h j k)) ≡ least best₀ (map (both (counter clipped)) (hashes m h 0 k)))
 
 abbrev μ-loop : tie.MeasureT-loop
-μ-loop h clipped p k top above₀ best₀ j₀ above best j = k - j
+μ-loop h clipped k m top rest₀ most₀ best₀ j₀ rest most best j = k - j
 
-cast-top : tie.Need-cast-top Inv-loop μ-loop
-cast-top c = let r = ranges (paper (c .before .before .args .s)) (c .before .before .pre .0) in omega arith
+buckets-requires : tie.Need-buckets-requires Inv-loop μ-loop
+buckets-requires c κs = c .before .pre .0
 
 mul-best : tie.Need-mul-best Inv-loop μ-loop
 mul-best c = let r = ranges (paper (c .before .before .args .s)) (c .before .before .pre .0) in omega arith
 
-buckets-requires : tie.Need-buckets-requires Inv-loop μ-loop
-buckets-requires c κs = c .before .before .pre .0
-
-cast-best : tie.Need-cast-best Inv-loop μ-loop
-cast-best c = let b = bounds (paper (c .before .before .before .args .s)) (c .before .before .before .pre .0) in omega (arith, c .buckets .ensures)
-
 add-best : tie.Need-add-best Inv-loop μ-loop
-add-best c =
-    let start = c .before .before .before in
-    let r = ranges (paper (start .args .s)) (start .pre .0) in let b = bounds (paper (start .args .s)) (start .pre .0) in omega (arith, c .buckets .ensures)
+add-best c = let r = ranges (paper (c .before .before .args .s)) (c .before .before .pre .0) in let b = bounds (paper (c .before .before .args .s)) (c .before .before .pre .0) in omega (arith, c .buckets .ensures)
 
 loop-holds : tie.Need-loop-holds Inv-loop μ-loop
-loop-holds c = (omega arith, omega arith, refl, refl)
+loop-holds c = (omega arith, omega arith, rest-start (c .before .before .args .h), rw (le-ltb (c .before .before .args .s .top) 0 (omega arith)), refl)
 
-hash-at-requires : tie.Need-hash-at-requires Inv-loop μ-loop
-hash-at-requires c κs = let r = ranges (paper (c .before .before .before .before .before .args .s)) (c .before .before .before .before .before .pre .0) in (omega arith, r .p-high)
+rem-b : tie.Need-rem-b Inv-loop μ-loop
+rem-b c = let b = bounds (paper (c .before .before .before .before .args .s)) (c .before .before .before .before .pre .0) in omega (arith, c .before .before .buckets .ensures)
 
-cast-counter : tie.Need-cast-counter Inv-loop μ-loop
-cast-counter c = search needs
+wide-counter-requires : tie.Need-wide-counter-requires Inv-loop μ-loop
+wide-counter-requires c κs =
+    counter-there (paper (c .before .before .before .before .args .s)) (c .before .before .before .before .pre .0) (c .before .before .before .before .args .h) (c .before .loop .j) (c .before .before .before .before .args .clipped .now) (c .before .before .before .before .pre .1) (c .before .loop .rest % c .before .before .buckets .result)
+    (rest-hash (c .before .before .buckets .result) (c .before .before .before .before .args .h) (c .before .loop .j) (c .before .loop .rest) (c .before .loop .inv .2) ∙ ap (λ (x : ℕ). hash x (c .before .before .before .before .args .h) (c .before .loop .j)) (c .before .before .buckets .ensures ∙ buckets-are (paper (c .before .before .before .before .args .s))))
 
-counter-requires : tie.Need-counter-requires Inv-loop μ-loop
-counter-requires c κs =
-    let start = c .before .before .before .before .before .before in
-    let loop = c .before .before .loop in
-    counter-there (paper (start .args .s)) (start .pre .0) (start .args .h) (loop .j) (start .args .clipped .now) (start .pre .1) (c .hash-at .result) (c .hash-at .ensures)
-
-cast-count : tie.Need-cast-count Inv-loop μ-loop
-cast-count c = search needs
+higher-requires : tie.Need-higher-requires Inv-loop μ-loop
+higher-requires c κs = tt
 
 mul-lower : tie.Need-mul-lower Inv-loop μ-loop
-mul-lower c = search needs
-
-cast-lower : tie.Need-cast-lower Inv-loop μ-loop
-cast-lower c = search needs
+mul-lower c = omega (arith, c .before .wide-counter .ensures .1)
 
 add-lower : tie.Need-add-lower Inv-loop μ-loop
-add-lower c = search needs
+add-lower c =
+    let b = bounds (paper (c .before .before .before .before .before .before .args .s)) (c .before .before .before .before .before .before .pre .0) in
+    let pos : 0 < c .before .before .before .before .buckets .result = omega (arith, c .before .before .before .before .buckets .ensures) in
+    let lt = mod-lt (c .before .before .before .loop .rest) pos in
+    omega (arith, c .before .wide-counter .ensures .1, c .before .before .before .before .buckets .ensures, lt)
 
 lower-requires : tie.Need-lower-requires Inv-loop μ-loop
 lower-requires c κs = tt
@@ -80,33 +72,28 @@ loop-less c = omega arith
 
 loop-again : tie.Need-loop-again Inv-loop μ-loop
 loop-again c =
-    let start = c .before .before .before .before .before .before .before .before .before in
-    let loop = c .before .before .before .before .before .loop in
-    let loop-test = c .before .before .before .before .loop-test in
-    let hash-at = c .before .before .before .hash-at in
-    let counter = c .before .before .counter in
-    let step = above-again (2 ^ start .args .s .p) (start .args .h) (loop .j) (start .args .s .k) (start .args .s .top) (start .args .clipped .now) (loop .above) (loop .best) (loop-test .taken) (hash-at .result) (counter .result .0) (hash-at .ensures) (counter .ensures) (loop .inv .2) in
-    let low = best-again (2 ^ start .args .s .p) (start .args .h) (loop .j) (start .args .s .k) (start .args .s .top) (start .args .clipped .now) (loop .above) (loop .best) (loop-test .taken) (hash-at .result) (counter .result .0) (hash-at .ensures) (counter .ensures) (loop .inv .3) in
-    (omega arith, omega (arith, c .lower .ensures, loop .inv .1), step, rw (c .lower .ensures) low)
+    let is-hash = rest-hash (c .before .before .before .before .before .buckets .result) (c .before .before .before .before .before .before .before .args .h) (c .before .before .before .before .loop .j) (c .before .before .before .before .loop .rest) (c .before .before .before .before .loop .inv .2) in
+    let above = above-again (c .before .before .before .before .before .buckets .result) (c .before .before .before .before .before .before .before .args .h) (c .before .before .before .before .loop .j) (c .before .before .before .before .before .before .before .args .s .k) (c .before .before .before .before .before .before .before .args .s .top) (c .before .before .before .before .before .before .before .args .clipped .now) (ltb (c .before .before .before .before .before .before .before .args .s .top) (c .before .before .before .before .loop .most)) (c .before .before .before .before .loop .best) (c .before .before .before .loop-test .taken) (c .before .before .before .before .loop .rest % c .before .before .before .before .before .buckets .result) (c .before .before .wide-counter .result) is-hash (c .before .before .wide-counter .ensures .0) (c .before .before .before .before .loop .inv .3) in
+    let low = best-again (c .before .before .before .before .before .buckets .result) (c .before .before .before .before .before .before .before .args .h) (c .before .before .before .before .loop .j) (c .before .before .before .before .before .before .before .args .s .k) (c .before .before .before .before .before .before .before .args .s .top) (c .before .before .before .before .before .before .before .args .clipped .now) (ltb (c .before .before .before .before .before .before .before .args .s .top) (c .before .before .before .before .loop .most)) (c .before .before .before .before .loop .best) (c .before .before .before .loop-test .taken) (c .before .before .before .before .loop .rest % c .before .before .before .before .before .buckets .result) (c .before .before .wide-counter .result) is-hash (c .before .before .wide-counter .ensures .0) (c .before .before .before .before .loop .inv .4) in (
+      omega arith,
+      omega (arith, c .lower .ensures, c .before .before .before .before .loop .inv .1),
+      rest-next (c .before .before .before .before .before .before .before .args .h) (c .before .before .before .before .loop .j) (c .before .before .before .before .loop .rest) (c .before .before .before .before .loop .inv .2),
+      rw (c .before .higher .ensures, above-higher (c .before .before .before .before .before .before .before .args .s .top) (c .before .before .wide-counter .result) (c .before .before .before .before .loop .most)) above,
+      rw (c .lower .ensures) low,
+    )
 
-cast-t21 : tie.Need-cast-t21 Inv-loop μ-loop
-cast-t21 c =
-    let start = c .before .before .before .before .before in
-    let buckets = c .before .before .buckets in
-    let r = ranges (paper (start .args .s)) (start .pre .0) in let b = bounds (paper (start .args .s)) (start .pre .0) in omega (arith, buckets .ensures, c .before .loop .inv .1)
-
-cast-t14 : tie.Need-cast-t14 Inv-loop μ-loop
-cast-t14 c = search needs
+cast-t19 : tie.Need-cast-t19 Inv-loop μ-loop
+cast-t19 c =
+    let r = ranges (paper (c .before .before .before .before .args .s)) (c .before .before .before .before .pre .0) in let b = bounds (paper (c .before .before .before .before .args .s)) (c .before .before .before .before .pre .0) in omega (arith, c .before .before .buckets .ensures, c .before .loop .inv .1)
 
 returns : tie.Need-returns Inv-loop μ-loop
 returns c =
-    let start = c .before .before .before .before .before in
-    let buckets = c .before .before .buckets in
-    let loop = c .before .loop in
-    choice-of (paper (start .args .s)) (start .pre .0) (start .args .h) (start .args .clipped .now) (loop .above) (loop .best)
-    (above-end (2 ^ start .args .s .p) (start .args .h) (loop .j) (start .args .s .k) (start .args .s .top) (start .args .clipped .now) (loop .above) (loop .best) (c .loop-test .left) (loop .inv .2))
-    (best-end (2 ^ start .args .s .p) (start .args .h) (loop .j) (start .args .s .k) (start .args .s .top) (start .args .clipped .now) (loop .above) (loop .best) (c .loop-test .left) (loop .inv .3)
-    ∙ ap (λ (m : ℕ). least ((start .args .s .top) * 65536 + m) (map (both (counter (start .args .clipped .now))) (hashes (2 ^ start .args .s .p) (start .args .h) 0 (start .args .s .k)))) (buckets .ensures ∙ buckets-are (paper (start .args .s))))
+    let m-is = c .before .before .buckets .ensures ∙ buckets-are (paper (c .before .before .before .before .args .s)) in
+    choice-of (paper (c .before .before .before .before .args .s)) (c .before .before .before .before .pre .0) (c .before .before .before .before .args .h) (c .before .before .before .before .args .clipped .now) (ltb (c .before .before .before .before .args .s .top) (c .before .loop .most)) (c .before .loop .best)
+    (above-end (c .before .before .buckets .result) (c .before .before .before .before .args .h) (c .before .loop .j) (c .before .before .before .before .args .s .k) (c .before .before .before .before .args .s .top) (c .before .before .before .before .args .clipped .now) (ltb (c .before .before .before .before .args .s .top) (c .before .loop .most)) (c .before .loop .best) (c .loop-test .left) (c .before .loop .inv .3)
+    ∙ ap (λ (m : ℕ). any (λ b. ltb (c .before .before .before .before .args .s .top) (counter (c .before .before .before .before .args .clipped .now) b)) (hashes m (c .before .before .before .before .args .h) 0 (c .before .before .before .before .args .s .k))) m-is)
+    (best-end (c .before .before .buckets .result) (c .before .before .before .before .args .h) (c .before .loop .j) (c .before .before .before .before .args .s .k) (c .before .before .before .before .args .s .top) (c .before .before .before .before .args .clipped .now) (ltb (c .before .before .before .before .args .s .top) (c .before .loop .most)) (c .before .loop .best) (c .loop-test .left) (c .before .loop .inv .4)
+    ∙ ap (λ (m : ℕ). least ((c .before .before .before .before .args .s .top) * 65536 + m) (map (both (counter (c .before .before .before .before .args .clipped .now))) (hashes m (c .before .before .before .before .args .h) 0 (c .before .before .before .before .args .s .k)))) m-is)
 
 pub choose-spec : {M : Type 1} → statement M
 choose-spec =
@@ -114,23 +101,18 @@ choose-spec =
     (tie.spec
     Inv-loop
     μ-loop
-    cast-top
-    mul-best
     buckets-requires
-    cast-best
+    mul-best
     add-best
     loop-holds
-    hash-at-requires
-    cast-counter
-    counter-requires
-    cast-count
+    rem-b
+    wide-counter-requires
+    higher-requires
     mul-lower
-    cast-lower
     add-lower
     lower-requires
     add-j
     loop-less
     loop-again
-    cast-t21
-    cast-t14
+    cast-t19
     returns)

@@ -1,0 +1,13 @@
+-- `lookup::counters::higher` meets its contract, by its test. Assumes nothing.
+use borrow.Author.Tests.{lt-ltb, le-ltb}
+use Rattle.lookup.proofs.counters.higher.Statement.{statement}
+use Rattle.lookup.proofs.counters.higher.Tie as tie
+
+returns : tie.Need-returns
+returns c = rw (lt-ltb _ _ (c .if1 .taken))
+
+returns-2 : tie.Need-returns-2
+returns-2 c = rw (le-ltb _ _ (c .if1 .left))
+
+pub higher-spec : {M : Type 1} → statement M
+higher-spec = tie.close (tie.spec returns returns-2)
