@@ -94,14 +94,14 @@ pub fn zero_fill(to: &mut [u8])
 pub fn all_zero(part: &[u8]) -> bool
     ensures { λ r. ⌜ r ≡ not (any (λ x. not (eqb x 0)) (now (part .entry))) ⌝ }
 {
+    // no early end, so that the compiler takes sixteen bytes at a time
+    let mut dirty = false;
     let mut i: usize = 0;
     while i < part.len() {
-        if part[i] != 0 {
-            return false;
-        }
+        dirty = dirty | (part[i] != 0);
         i += 1;
     }
-    true
+    !dirty
 }
 
 // A class in the four bytes of a part.
