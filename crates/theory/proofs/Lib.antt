@@ -1,6 +1,7 @@
 pub mod ListLaws
 pub mod NumberLaws
 pub mod SettingsLaws
+pub mod RankLaws
 pub mod ByteLaws
 pub mod LayoutLaws
 pub mod PlacingLaws
