@@ -1,9 +1,9 @@
 -- What the work area holds once a list is placed, and the list that a call would make as it lies in memory. Assumes nothing.
 use mathlib.Core.Path.{_≡_}
-use mathlib.Core.Bool.{Bool, _||_}
-use mathlib.Core.List.{List, _++_}
+use mathlib.Core.Bool.{Bool, cond, _||_}
+use mathlib.Core.List.{List, _++_, map}
 use Prim.Native.Nat.{ℕ}
-use lib.Dec.{ltb}
+use lib.Dec.{eqb, ltb}
 use lib.ListN.{length, take, drop, getD}
 use Rattle.theory.specs.Records.{Record, records}
 use Rattle.theory.specs.Settings.{Card}
@@ -21,6 +21,23 @@ belongs-by s c d k = all-top s c k || ltb (s .room) (d (chosen s c k))
 pub record Worked (s : Card) (m : ℕ) (l : List Record) (work : List ℕ) : Type 0 where
   pub counts : (b : ℕ) → nth (take m work) b ≡ true-count s l b
   pub choices : (b : ℕ) → nth (drop m work) b ≡ length (choosers s (true-count s l) l b)
+
+-- a key's choice by counts c, as one number: the bucket that it chooses or, where all its counts are T or more, the number of buckets
+unfoldable pub choice-by : Card → (ℕ → ℕ) → List ℕ → ℕ
+choice-by s c k = cond (all-top s c k) (s .buckets) (chosen s c k)
+
+-- the choices of a list's records, one number a record
+abbrev pub choices-by : Card → (ℕ → ℕ) → List Record → List ℕ
+choices-by s c l = map (λ r. choice-by s c (r .key)) l
+
+-- a list is placed: work holds its true counts and how many keys choose each bucket, kept the choice of each record
+pub record Placed (s : Card) (m : ℕ) (l : List Record) (work kept : List ℕ) : Type 0 where
+  pub worked : Worked s m l work
+  pub choices : kept ≡ choices-by s (true-count s l) l
+
+-- a key with this choice belongs to the side, where d is how many keys choose each of m buckets
+abbrev pub side-by-choice : Card → ℕ → (ℕ → ℕ) → ℕ → Bool
+side-by-choice s m d b = eqb b m || ltb (s .room) (d b)
 
 -- the list that a call would make lies in three areas: n records before, k (the new record or none), j records after
 abbrev pub parts : ℕ → List ℕ → ℕ → List ℕ → ℕ → List ℕ → ℕ → List Record

@@ -16,7 +16,7 @@ ghost use Rattle.settings.specs.Checked.{paper};
 ghost use Rattle.hash.specs.Numbering.{list-of, Holds};
 ghost use Rattle.placing.specs.Ready.{Ready};
 ghost use Rattle.placing.specs.Counting.{Within, times, low-of, pick-of, picked};
-ghost use Rattle.placing.specs.Worked.{nth, belongs-by, Worked, parts};
+ghost use Rattle.placing.specs.Worked.{nth, belongs-by, Worked, side-by-choice, parts};
 
 // "A key's bucket numbers are its first k hashes, repeats dropped."
 pub fn numbers(s: Settings, t: &[u64], key: &[u8]) -> Numbers
@@ -179,6 +179,20 @@ pub fn belongs_to_side(s: Settings, t: &[u64], m: usize, work: &[u16], key: &[u8
         return true;
     }
     let at = m + choice.bucket;
+    let choosers = wide(work[at]);
+    s.room < choosers
+}
+
+// The same by the key's choice, kept as one number: m where its counts are all top or more.
+pub fn aside(s: Settings, m: usize, work: &[u16], choice: u16) -> bool
+    requires { ⌜ (m ≡ card-of (paper s) .buckets) × (length (now work) ≡ m + m) × (choice ≤ m) ⌝ }
+    ensures { λ r. ⌜ r ≡ side-by-choice (card-of (paper s)) m (nth (drop m (now (work .entry)))) choice ⌝ }
+{
+    let bucket = wide(choice);
+    if bucket == m {
+        return true;
+    }
+    let at = m + bucket;
     let choosers = wide(work[at]);
     s.room < choosers
 }
