@@ -1,7 +1,7 @@
 -- H byte by byte: what a loop up the key's bytes with a table asks, and what straight code down the bytes with the constant rows asks.
 -- Assumes nothing.
-use mathlib.Core.Path.{_≡_, sym, ap, ap₂, _∙_}
-use mathlib.Core.List.{List}
+use mathlib.Core.Path.{_≡_, refl, sym, ap, ap₂, _∙_}
+use mathlib.Core.List.{List, [], _∷_}
 use Prim.Native.Nat.{ℕ, suc, _+_, _*_, _<_, _≤_}
 use native.Mathlib.Nat.{zero-add}
 use native.Mathlib.Numerals.{add-one}
@@ -10,26 +10,38 @@ use lib.Dec.{lit<}
 use lib.Bits.{bitXor, xor-zero-r}
 use lib.ListN.{length, getD, take, drop, length-drop, drop-of-length-le}
 use lib.Seq.{drop-cons}
-use Rattle.theory.specs.Hash.{rows-of, H-from, H}
-use Rattle.hash.specs.Table.{xor-set}
+use Rattle.theory.specs.Hash.{H-from, H}
+use Rattle.hash.specs.Table.{TableRight, H-by-from, H-by, xor-set}
 use Rattle.hash.proofs.Constants.{rows}
 use Rattle.hash.proofs.Xor.{xor-assoc}
 use Rattle.hash.proofs.RowLaws.{From, from-drop, xor-set-rows, rows-from, length-rows}
 
--- h is of the bytes before byte i, and x of byte i
-pub H-more : (key : List ℕ) (i h x : ℕ) → i < length key → x ≡ rows-of 8 (8 * i) (getD key i 0)
-    → bitXor h (H-from i (drop i key)) ≡ H key → bitXor (bitXor h x) (H-from (i + 1) (drop (i + 1) key)) ≡ H key
-unfolding H-from
-H-more key i h x hi ex e =
-    ap (λ (n : ℕ). bitXor (bitXor h x) (H-from n (drop n key))) (add-one i)
-    ∙ xor-assoc h x (H-from (suc i) (drop (suc i) key))
-    ∙ ap (λ (r : ℕ). bitXor h (bitXor r (H-from (suc i) (drop (suc i) key)))) ex
-    ∙ ap (λ (l : List ℕ). bitXor h (H-from i l)) (sym (drop-cons key i 0 hi))
+-- h is of the bytes before byte i, and x the entry of byte i
+pub by-more : (t key : List ℕ) (i h x : ℕ) → i < length key → x ≡ getD t (i * 256 + getD key i 0) 0
+    → bitXor h (H-by-from t i (drop i key)) ≡ H-by t key → bitXor (bitXor h x) (H-by-from t (i + 1) (drop (i + 1) key)) ≡ H-by t key
+unfolding H-by-from
+by-more t key i h x hi ex e =
+    ap (λ (n : ℕ). bitXor (bitXor h x) (H-by-from t n (drop n key))) (add-one i)
+    ∙ xor-assoc h x (H-by-from t (suc i) (drop (suc i) key))
+    ∙ ap (λ (r : ℕ). bitXor h (bitXor r (H-by-from t (suc i) (drop (suc i) key)))) ex
+    ∙ ap (λ (l : List ℕ). bitXor h (H-by-from t i l)) (sym (drop-cons key i 0 hi))
     ∙ e
 
-pub H-end : (key : List ℕ) (i h : ℕ) → length key ≤ i → bitXor h (H-from i (drop i key)) ≡ H key → h ≡ H key
-unfolding H-from
-H-end key i h hi e = sym (ap (λ (l : List ℕ). bitXor h (H-from i l)) (drop-of-length-le key hi) ∙ xor-zero-r h) ∙ e
+pub by-end : (t key : List ℕ) (i h : ℕ) → length key ≤ i → bitXor h (H-by-from t i (drop i key)) ≡ H-by t key → h ≡ H-by t key
+unfolding H-by-from
+by-end t key i h hi e = sym (ap (λ (l : List ℕ). bitXor h (H-by-from t i l)) (drop-of-length-le key hi) ∙ xor-zero-r h) ∙ e
+
+-- a right table gives H of a key of bytes
+module _ (w : ℕ) (t : List ℕ) (right : TableRight w t) where
+  by-right-from : (a : ℕ) (vs : List ℕ) → a + length vs ≤ w → ((j : ℕ) → getD vs j 0 < 256) → H-by-from t a vs ≡ H-from a vs
+  unfolding H-by-from H-from
+  by-right-from a [] fits bytes = refl
+  by-right-from a (v ∷ vs) fits bytes =
+      ap₂ bitXor (right .entry a v (omega arith) (bytes 0)) (by-right-from (suc a) vs (omega arith) (λ j. bytes (suc j)))
+
+  pub by-right : (key : List ℕ) → length key ≤ w → ((j : ℕ) → getD key j 0 < 256) → H-by t key ≡ H key
+  unfolding H-by H
+  by-right key fits bytes = by-right-from 0 key (omega arith) bytes
 
 -- H from the last byte to the first by the constant rows: b is of byte i by its eight rows, and h of the bytes after it
 module _ (key : List ℕ) (thirteen : length key ≡ 13) where

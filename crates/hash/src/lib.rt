@@ -10,7 +10,7 @@ ghost use Prim.Native.Nat.{_*_, _%_, _^_, _<_, _≤_};
 ghost use lib.ListN.{length};
 ghost use Rattle.theory.specs.Lists.{has};
 ghost use Rattle.theory.specs.Hash.{xorshift64, if-set, H as H-of, hash, numbers-of};
-ghost use Rattle.hash.specs.Table.{TableRight, table-entries, xor-set};
+ghost use Rattle.hash.specs.Table.{TableRight, H-by, table-entries, xor-set};
 ghost use Rattle.hash.specs.Numbering.{Holds};
 
 // A step of xorshift64 (Marsaglia, 2003).
@@ -46,10 +46,10 @@ pub fn fill_table(out: &mut [u64])
     }
 }
 
-// H of a key by a lent table, with one read a byte. Any table of that length is safe; a right one gives H.
+// The xor of a lent table's entries for the bytes of a key, with one read a byte; a right table gives H.
 pub fn h_lent(t: &[u64], key: &[u8]) -> u64
     requires { ⌜ 256 * length (now key) ≤ length (now t) ⌝ }
-    ensures { λ r. ⌜ (TableRight (length (now (key .entry))) (now (t .entry)) → r ≡ H-of (now (key .entry))) ⌝ }
+    ensures { λ r. ⌜ (r ≡ H-by (now (t .entry)) (now (key .entry))) × (TableRight (length (now (key .entry))) (now (t .entry)) → r ≡ H-of (now (key .entry))) ⌝ }
 {
     let mut h: u64 = 0;
     let mut i: usize = 0;

@@ -1,30 +1,57 @@
 // "a clipped count is never stored as or taken for a true count": each is a type of its own. A count is compared and ranked here, and not by its bare number.
 ghost use mathlib.Core.Path.{_≡_};
 ghost use mathlib.Core.Bool.{cond};
-ghost use Prim.Native.Nat.{_+_, _*_, _/_, _<_, _≤_, min};
-ghost use lib.Dec.{ltb};
+ghost use Prim.Native.Nat.{_+_, _*_, _/_, _%_, _<_, _≤_, min};
+ghost use lib.Dec.{eqb, ltb};
 
-// The lower of a true count and the top count: four bits.
-pub struct ClippedCount(pub u8);
+// The lower of a true count and the top count: four bits. It is held in a wide number, so that searching ranks it with no cut between.
+pub struct ClippedCount(pub u64);
 
 // How many held keys name a bucket.
 pub struct TrueCount(pub u16);
 
+fn wide(byte: u8) -> u64
+    ensures { λ r. ⌜ (r ≡ byte) × (r < 256) ⌝ }
+{
+    byte as u64
+}
+
+fn pick(test: bool, a: u64, b: u64) -> u64
+    ensures { λ r. ⌜ r ≡ cond test a b ⌝ }
+{
+    if test { a } else { b }
+}
+
 impl ClippedCount {
+    // "bucket b in byte b / 2, an even b in the low four bits". Both halves are made and one is picked, so that no branch depends on the bucket.
+    pub fn of_byte(byte: u8, b: usize) -> ClippedCount
+        ensures { λ r. ⌜ (r .0 ≡ cond (eqb (b % 2) 0) (byte % 16) (byte / 16)) × (r .0 < 16) ⌝ }
+    {
+        let wide = wide(byte);
+        ClippedCount(pick(b % 2 == 0, wide % 16, wide / 16))
+    }
+
+    // The byte of two neighbours, an even bucket's count and the next one's.
+    pub fn byte_of(even: ClippedCount, odd: ClippedCount) -> u8
+        requires { ⌜ (even .0 < 16) × (odd .0 < 16) ⌝ }
+        ensures { λ r. ⌜ r ≡ even .0 + 16 * odd .0 ⌝ }
+    {
+        (even.0 + 16 * odd.0) as u8
+    }
+
     // A count and its bucket as one number, its rank: the least rank has the least count and, of equal counts, the lowest bucket.
     pub fn rank(self, bucket: u64) -> u64
-        requires { ⌜ bucket < 65536 ⌝ }
+        requires { ⌜ (self .0 < 65536) × (bucket < 65536) ⌝ }
         ensures { λ r. ⌜ r ≡ self .0 * 65536 + bucket ⌝ }
     {
-        (self.0 as u64) * 65536 + bucket
+        self.0 * 65536 + bucket
     }
 
     // The count of a rank.
     pub fn of_rank(rank: u64) -> ClippedCount
-        requires { ⌜ rank / 65536 < 256 ⌝ }
         ensures { λ r. ⌜ r .0 ≡ rank / 65536 ⌝ }
     {
-        ClippedCount((rank / 65536) as u8)
+        ClippedCount(rank / 65536)
     }
 
     // The higher of two.
@@ -40,7 +67,13 @@ impl ClippedCount {
     pub fn above(self, top: usize) -> bool
         ensures { λ r. ⌜ r ≡ ltb top (self .0) ⌝ }
     {
-        top < (self.0 as usize)
+        (top as u64) < self.0
+    }
+
+    pub fn is(self, count: usize) -> bool
+        ensures { λ r. ⌜ r ≡ eqb (self .0) count ⌝ }
+    {
+        self.0 == count as u64
     }
 }
 
@@ -51,9 +84,9 @@ impl TrueCount {
     {
         let count = self.0 as usize;
         if count < top {
-            ClippedCount(count as u8)
+            ClippedCount(count as u64)
         } else {
-            ClippedCount(top as u8)
+            ClippedCount(top as u64)
         }
     }
 
