@@ -18,9 +18,10 @@ use Rattle.theory.specs.Lookup.{counter, Place, invalid, nowhere, among, bucket
 use Rattle.theory.proofs.ListLaws.{by-test, all-map, all-cong, any-none, least-zero, least-top}
 use Rattle.theory.proofs.SettingsLaws.{ranges, Sound, sound, numbers-of-below}
 use Rattle.theory.proofs.PlacingLaws.{chosen-below}
-use Rattle.settings.proofs.Laws.{bounds}
-use Rattle.lookup.specs.Choosing.{card-at}
-use Rattle.lookup.specs.Places.{goes-to-bucket}
+use Rattle.settings.proofs.Laws.{top-is, bounds}
+use Rattle.lookup.specs.declared.counters.Choice.{Choice}
+use Rattle.lookup.specs.Choosing.{card-at, ChoiceOf}
+use Rattle.lookup.specs.Places.{place-by, goes-by, ChoiceFits, goes-to-bucket}
 
 -- ---- the side store
 module _ (t : Settings) (side : List ℕ) (read : ℕ) where
@@ -118,9 +119,13 @@ module _ (t : Settings) (ok : allowed t ≡ true) (h : ℕ) where
     abbrev low : ℕ
     low = least-count (card-at t h) (counter clipped) key
 
-    pub place-above : above ≡ true → invalid ≡ place (card-at t h) clipped buckets side key
+    place-above : above ≡ true → invalid ≡ place (card-at t h) clipped buckets side key
     unfolding place by-counters card-at card-of
     place-above e = rw e
+
+    goes-above : above ≡ true → goes-to-bucket (card-at t h) clipped buckets key ≡ false
+    unfolding goes-to-bucket reads-bucket by-counters card-at card-of
+    goes-above e = rw e
 
     not-above : (n : ℕ) → ltb (t .top) n ≡ false → eqb n (t .top) ≡ leb (t .top) n
     not-above n e =
@@ -147,24 +152,12 @@ module _ (t : Settings) (ok : allowed t ≡ true) (h : ℕ) where
       unfolding place card-at side-place bucket-place bucket-part bucket-size record-size
       place-by-least = by-least _ _ _ _
 
-      pub goes-to-side : low ≡ t .top → (low ≡ 0 → ⊥) → goes-to-bucket (card-at t h) clipped buckets key ≡ false
-      unfolding goes-to-bucket reads-bucket
-      goes-to-side e z = rw (by-least false false false true, ne-eqb low 0 z, eq-eqb low (t .top) e)
-
-      pub goes-by-mark : (low ≡ 0 → ⊥) → (low ≡ t .top → ⊥)
-          → goes-to-bucket (card-at t h) clipped buckets key ≡ not (eqb (getD (bucket-part (card-of t) buckets (chosen (card-at t h) (counter clipped) key)) 0 0) 255)
+      goes-by-least : goes-to-bucket (card-at t h) clipped buckets key
+          ≡ cond (eqb low 0) false (cond (eqb low (t .top)) false (not (eqb (getD (bucket-part (card-of t) buckets (chosen (card-at t h) (counter clipped) key)) 0 0) 255)))
       unfolding goes-to-bucket reads-bucket card-at bucket-part bucket-size record-size
-      goes-by-mark z e = rw (by-least false false false true, ne-eqb low 0 z, ne-eqb low (t .top) e)
-
-      pub place-zero : low ≡ 0 → nowhere ≡ place (card-at t h) clipped buckets side key
-      place-zero e = rw (place-by-least, eq-eqb low 0 e)
-
-      pub place-top : (low ≡ 0 → ⊥) → low ≡ t .top → side-place (card-of t) side 0 ≡ place (card-at t h) clipped buckets side key
-      place-top z e = rw (place-by-least, ne-eqb low 0 z, eq-eqb low (t .top) e)
-
-      pub place-bucket : (low ≡ 0 → ⊥) → (low ≡ t .top → ⊥)
-          → bucket-place (card-of t) (bucket-part (card-of t) buckets (chosen (card-at t h) (counter clipped) key)) side ≡ place (card-at t h) clipped buckets side key
-      place-bucket z e = rw (place-by-least, ne-eqb low 0 z, ne-eqb low (t .top) e)
+      goes-by-least =
+          rw (by-least false false false true)
+          (by-test (eqb low 0) (λ z. rw z) (λ z. rw z (by-test (eqb low (t .top)) (λ e. rw e) (λ e. rw e))))
 
     not-all : (low ≡ t .top → ⊥) → all-top (card-at t h) (counter clipped) key ≡ false
     unfolding all-top least-count card-at card-of
@@ -174,6 +167,24 @@ module _ (t : Settings) (ok : allowed t ≡ true) (h : ℕ) where
     pub chosen-there : (low ≡ t .top → ⊥) → chosen (card-at t h) (counter clipped) key < card-of t .buckets
     unfolding card-at
     chosen-there e = chosen-below (card-at t h) sound-at (counter clipped) key (not-all e)
+
+  -- ---- what the code found of the counters is where the definition looks
+  module _ (clipped : List ℕ) (c : Choice) (of : ChoiceOf t h clipped c) where
+    pub choice-fits : ChoiceFits t c
+    choice-fits = record { there = λ e. rw (of .bucket []) (chosen-there clipped [] [] [] (λ low. e (of .least [] ∙ low))) }
+
+    module _ (buckets side key : List ℕ) where
+      pub place-by-is : place-by (card-of t) c buckets side ≡ place (card-at t h) clipped buckets side key
+      unfolding place-by card-of
+      place-by-is =
+          by-test (c .above) (λ a. rw a (place-above clipped buckets side key (sym (of .above) ∙ a)))
+          (λ a. rw (a, of .least key, of .bucket key, top-is t) (sym (place-by-least clipped buckets side key (sym (of .above) ∙ a))))
+
+      pub goes-by-is : goes-by (card-of t) c buckets ≡ goes-to-bucket (card-at t h) clipped buckets key
+      unfolding goes-by card-of
+      goes-by-is =
+          by-test (c .above) (λ a. rw a (sym (goes-above clipped buckets side key (sym (of .above) ∙ a))))
+          (λ a. rw (a, of .least key, of .bucket key, top-is t) (sym (goes-by-least clipped buckets side key (sym (of .above) ∙ a))))
 
 -- ---- the answer, and the part, of the place where a search of a key with this H ends
 module _ (t : Settings) (h : ℕ) (clipped buckets side key : List ℕ) where

@@ -1,13 +1,14 @@
 -- Where a search looks, as the code holds it. Assumes nothing.
 use mathlib.Core.Path.{_≡_}
-use mathlib.Core.Bool.{Bool, true, false, not, _&&_}
+use mathlib.Core.Bool.{Bool, true, false, cond, not, _&&_}
 use mathlib.Core.List.{List}
-use Prim.Native.Nat.{ℕ, _+_, _-_, _≤_}
+use Prim.Native.Nat.{ℕ, _+_, _-_, _≤_, _<_}
 use lib.Dec.{eqb}
 use lib.ListN.{length, take, drop, getD}
 use Rattle.theory.specs.Placing.{chosen}
 use Rattle.theory.specs.Settings.{Settings, Card, card-of, allowed, bucket-size, clipped-length, buckets-length, side-length}
 use Rattle.theory.specs.Lookup as plain
+use Rattle.lookup.specs.declared.counters.Choice.{Choice}
 use Rattle.lookup.specs.declared.placing.Place.{Place}
 use Rattle.lookup.specs.declared.placing.Place.the-variants.{Invalid, Nowhere, Bucket, Side}
 
@@ -15,6 +16,12 @@ use Rattle.lookup.specs.declared.placing.Place.the-variants.{Invalid, No
 pub record Lent (t : Settings) (clipped buckets side : List ℕ) : Type 0 where
   pub ok : allowed t ≡ true
   pub clipped-size : length clipped ≡ clipped-length (card-of t)
+  pub buckets-size : length buckets ≡ buckets-length (card-of t)
+  pub side-size : length side ≡ side-length (card-of t)
+
+-- the same without the clipped counts, for what follows once the counters are read
+pub record Judged (t : Settings) (buckets side : List ℕ) : Type 0 where
+  pub ok : allowed t ≡ true
   pub buckets-size : length buckets ≡ buckets-length (card-of t)
   pub side-size : length side ≡ side-length (card-of t)
 
@@ -31,6 +38,24 @@ Inside t Invalid = Unit {0}
 Inside t Nowhere = Unit {0}
 Inside t (Bucket from records) = (from + (bucket-size (card-of t) - 1) ≤ buckets-length (card-of t)) × (records ≤ t .room)
 Inside t (Side records read) = (records ≤ t .side-places) × (read ≤ 1)
+
+-- where a search looks by what the counters of its key say: one above T, refused; the least zero, absent; the least T, the side store; otherwise the chosen bucket
+unfoldable pub place-by : Card → Choice → List ℕ → List ℕ → plain.Place
+place-by s c buckets side =
+    cond (c .above) plain.invalid
+    (cond (eqb (c .least .0) 0) plain.nowhere
+    (cond (eqb (c .least .0) (s .top)) (plain.side-place s side 0) (plain.bucket-place s (plain.bucket-part s buckets (c .bucket)) side)))
+
+-- it then ends in a bucket, whose mark is not 255
+unfoldable pub goes-by : Card → Choice → List ℕ → Bool
+goes-by s c buckets =
+    cond (c .above) false
+    (cond (eqb (c .least .0) 0) false
+    (cond (eqb (c .least .0) (s .top)) false (not (eqb (getD (plain.bucket-part s buckets (c .bucket)) 0 0) 255))))
+
+-- a bucket that is read is one of the card's
+pub record ChoiceFits (t : Settings) (c : Choice) : Type 0 where
+  pub there : (c .least .0 ≡ t .top → ⊥) → c .bucket < card-of t .buckets
 
 -- a search ends in a bucket: the counters send the key to one, and its mark is not 255
 unfoldable pub goes-to-bucket : Card → List ℕ → List ℕ → List ℕ → Bool

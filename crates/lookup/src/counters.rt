@@ -2,7 +2,7 @@
 use settings::Settings;
 use settings::counts::ClippedCount;
 ghost use mathlib.Core.Path.{_≡_};
-ghost use mathlib.Core.Bool.{true, cond};
+ghost use mathlib.Core.Bool.{true};
 ghost use Prim.Native.Nat.{_/_, _<_, min};
 ghost use lib.ListN.{length};
 ghost use Rattle.theory.specs.Settings.{allowed, card-of, clipped-length};
@@ -17,19 +17,12 @@ pub struct Choice {
     pub bucket: usize,
 }
 
-fn pick(test: bool, a: u8, b: u8) -> u8
-    ensures { λ r. ⌜ r ≡ cond test a b ⌝ }
-{
-    if test { a } else { b }
-}
-
-// "bucket b in byte b / 2, an even b in the low four bits". Both halves are made and one is picked, so that no branch depends on the hash.
+// "bucket b in byte b / 2, an even b in the low four bits"
 pub fn counter(clipped: &[u8], b: usize) -> ClippedCount
     requires { ⌜ b / 2 < length (now clipped) ⌝ }
     ensures { λ r. ⌜ (r .0 ≡ plain.counter (now (clipped .entry)) b) × (r .0 < 16) ⌝ }
 {
-    let byte = clipped[b / 2];
-    ClippedCount(pick(b % 2 == 0, byte % 16, byte / 16))
+    ClippedCount::of_byte(clipped[b / 2], b)
 }
 
 fn lower(a: u64, b: u64) -> u64

@@ -1,4 +1,5 @@
 // Where a search looks: by the counters, the chosen bucket's mark and the side count.
+use crate::counters::Choice;
 use crate::counters::choose;
 use settings::Settings;
 ghost use mathlib.Core.Path.{_≡_};
@@ -7,11 +8,11 @@ ghost use mathlib.Core.List.{List};
 ghost use Prim.Native.Nat.{ℕ, _*_, _<_, _≤_};
 ghost use lib.Dec.{eqb};
 ghost use lib.ListN.{length, getD};
-ghost use Rattle.theory.specs.Settings.{allowed, card-of, clipped-length, buckets-length, side-length};
+ghost use Rattle.theory.specs.Settings.{allowed, card-of, buckets-length, side-length};
 ghost use Rattle.theory.specs.Lookup as plain;
 ghost use Rattle.settings.specs.Checked.{paper};
 ghost use Rattle.lookup.specs.Choosing.{card-at};
-ghost use Rattle.lookup.specs.Places.{Lent, place-of, Inside, goes-to-bucket, Goes};
+ghost use Rattle.lookup.specs.Places.{Lent, Judged, place-of, place-by, Inside, ChoiceFits, goes-by, goes-to-bucket, Goes};
 
 // What a search comes to: refused with 5; absent by a zero counter; records of a bucket, which start at a byte of the buckets; records of the side store, with
 // so many buckets read.
@@ -58,6 +59,26 @@ fn bucket_place(s: Settings, buckets: &[u8], bucket: usize, side: &[u8]) -> Plac
 }
 
 // "any counter of the key zero: absent; all equal to T: the side store is compared; otherwise the chosen bucket is read"
+pub fn place_by(s: Settings, choice: Choice, buckets: &[u8], side: &[u8]) -> Place
+    requires { ⌜ Judged (paper s) (now buckets) (now side) × ChoiceFits (paper s) choice ⌝ }
+    ensures { λ r. ⌜ (place-of (card-of (paper s)) (now (buckets .entry)) (now (side .entry)) r
+        ≡ place-by (card-of (paper s)) choice (now (buckets .entry)) (now (side .entry)))
+        × Inside (paper s) r × Goes (goes-by (card-of (paper s)) choice (now (buckets .entry))) r ⌝ }
+{
+    if choice.above {
+        return Place::Invalid;
+    }
+    let least = choice.least;
+    if least.is(0) {
+        return Place::Nowhere;
+    }
+    if least.is(s.top) {
+        return side_place(s, side, 0);
+    }
+    bucket_place(s, buckets, choice.bucket, side)
+}
+
+// "It reads all counters of the key, then" looks by what they say.
 pub fn find_place(s: Settings, h: u64, clipped: &[u8], buckets: &[u8], side: &[u8]) -> Place
     requires { ⌜ Lent (paper s) (now clipped) (now buckets) (now side) ⌝ }
     ensures { λ r. ⌜ ((key : List ℕ) → place-of (card-of (paper s)) (now (buckets .entry)) (now (side .entry)) r
@@ -65,16 +86,5 @@ pub fn find_place(s: Settings, h: u64, clipped: &[u8], buckets: &[u8], side: &[u
         × Inside (paper s) r
         × ((key : List ℕ) → Goes (goes-to-bucket (card-at (paper s) h) (now (clipped .entry)) (now (buckets .entry)) key) r) ⌝ }
 {
-    let choice = choose(s, h, clipped);
-    if choice.above {
-        return Place::Invalid;
-    }
-    let least = choice.least.0 as usize;
-    if least == 0 {
-        return Place::Nowhere;
-    }
-    if least == s.top {
-        return side_place(s, side, 0);
-    }
-    bucket_place(s, buckets, choice.bucket, side)
+    place_by(s, choose(s, h, clipped), buckets, side)
 }

@@ -51,7 +51,7 @@ fn counters_valid(s: Settings, clipped: &[u8]) -> bool
     let mut b: usize = 0;
     while b < m {
         let c = counter(clipped, b);
-        if top < (c.0 as usize) {
+        if c.above(top) {
             return false;
         }
         b += 1;

@@ -1,99 +1,123 @@
--- `lookup::counters::choose` meets its contract: at hash j, what is found so far joined with the hashes from j on is what all hashes give. Assumes nothing.
-use mathlib.Core.Path.{_≡_, refl, ap, _∙_}
-use mathlib.Core.Bool.{_||_}
-use mathlib.Core.List.{map}
+-- `lookup::counters::choose` meets its contract: at hash j, what is found so far joined with the hashes from j on is what all hashes give.
+use mathlib.Core.Path.{_≡_, refl, sym, ap, _∙_}
+use mathlib.Core.Bool.{Bool, _||_}
+use mathlib.Core.List.{List, map}
 use Prim.Native.Nat.{ℕ, _+_, _-_, _*_, _/_, _%_, _^_, _≤_, _<_}
 use native.Mathlib.Nat.{mod-lt}
 use native.Mathlib.Omega.{arith}
+use borrow.Author.Needs.{needs}
 use borrow.Author.Tests.{le-ltb}
 use lib.Dec.{ltb}
 use Rattle.theory.specs.Lists.{any, least}
 use Rattle.theory.specs.Hash.{hash}
+use Rattle.theory.specs.Settings as plain
 use Rattle.theory.specs.Lookup.{counter}
 use Rattle.theory.proofs.SettingsLaws.{ranges}
+use Rattle.theory.proofs.RankLaws.{hashes, rank, rest-start, rest-next, rest-hash, any-again, any-end, best-again, best-end}
 use Rattle.settings.specs.Checked.{paper}
 use Rattle.settings.proofs.Laws.{buckets-are, bounds}
-use Rattle.lookup.proofs.CounterLaws.{hashes, both, counter-there, above-again, best-again, above-end, best-end, above-higher, rest-start, rest-next, rest-hash, choice-of}
+use Rattle.lookup.proofs.CounterLaws.{above-higher, counter-there, choice-of}
 use Rattle.lookup.proofs.counters.choose.Statement.{statement}
 use Rattle.lookup.proofs.counters.choose.Tie as tie
 
+record Found (top k m h : ℕ) (clipped : List ℕ) (rest most best best₀ j : ℕ) : Type 0 where
+  few : j ≤ k
+  low : best ≤ best₀
+  rest-is : rest ≡ h / 2 ^ (16 * j)
+  above : (ltb top most || any (λ b. ltb top (counter clipped b)) (hashes m h j k)) ≡ any (λ b. ltb top (counter clipped b)) (hashes m h 0 k)
+  ranked : least best (map (rank (counter clipped)) (hashes m h j k)) ≡ least best₀ (map (rank (counter clipped)) (hashes m h 0 k))
+
 abbrev Inv-loop : tie.InvT-loop
-Inv-loop h clipped k m top rest₀ most₀ best₀ j₀ rest most best j =
-    (j ≤ k)
-    × (best ≤ best₀)
-    × (rest ≡ h / 2 ^ (16 * j))
-    × ((ltb top most || any (λ b. ltb top (counter clipped b)) (hashes m h j k)) ≡ any (λ b. ltb top (counter clipped b)) (hashes m h 0 k))
-    × (least best (map (both (counter clipped)) (hashes m h j k)) ≡ least best₀ (map (both (counter clipped)) (hashes m h 0 k)))
+Inv-loop s h clipped k m rest₀ most₀ best₀ j₀ rest most best j = Found (s .top) k m h clipped rest (most .0) best best₀ j
 
 abbrev μ-loop : tie.MeasureT-loop
-μ-loop h clipped k m top rest₀ most₀ best₀ j₀ rest most best j = k - j
+μ-loop s h clipped k m rest₀ most₀ best₀ j₀ rest most best j = k - j
 
-buckets-requires : tie.Need-buckets-requires Inv-loop μ-loop
-buckets-requires c κs = c .before .pre .0
+-- ---- the settings are allowed
+module _ (c : tie.After-buckets Inv-loop μ-loop) where
+  abbrev start : tie.Start Inv-loop μ-loop
+  start = c .before .before
 
-mul-best : tie.Need-mul-best Inv-loop μ-loop
-mul-best c = let r = ranges (paper (c .before .before .args .s)) (c .before .before .pre .0) in omega arith
+  abbrev t : plain.Settings
+  t = paper (start .args .s)
 
-add-best : tie.Need-add-best Inv-loop μ-loop
-add-best c = let r = ranges (paper (c .before .before .args .s)) (c .before .before .pre .0) in let b = bounds (paper (c .before .before .args .s)) (c .before .before .pre .0) in omega (arith, c .buckets .ensures)
+  m-small : (c .buckets .result ≤ 4096) × (16 ≤ c .buckets .result)
+  m-small = let b = bounds t (start .pre .0) in (omega (arith, c .buckets .ensures), omega (arith, c .buckets .ensures))
+
+  m-is : c .buckets .result ≡ 2 ^ t .p
+  m-is = c .buckets .ensures ∙ buckets-are t
+
+  top-small : t .top ≤ 15
+  top-small = let r = ranges t (start .pre .0) in omega arith
+
+-- ---- hash j
+module _ (c : tie.In-loop Inv-loop μ-loop) where
+  abbrev counted : tie.After-buckets Inv-loop μ-loop
+  counted = c .before .before
+
+  abbrev h : ℕ
+  h = start counted .args .h
+
+  abbrev m : ℕ
+  m = counted .buckets .result
+
+  abbrev b : ℕ
+  b = c .before .loop .rest % m
+
+  is-hash : b ≡ hash m h (c .before .loop .j)
+  is-hash = rest-hash m h (c .before .loop .j) (c .before .loop .rest) (c .before .loop .inv .rest-is)
+
+  below : b < 4096
+  below = let p = m-small counted in let pos : 0 < m = omega (arith, p .1) in omega (arith, mod-lt (c .before .loop .rest) pos, p .0)
 
 loop-holds : tie.Need-loop-holds Inv-loop μ-loop
-loop-holds c = (omega arith, omega arith, rest-start (c .before .before .args .h), rw (le-ltb (c .before .before .args .s .top) 0 (omega arith)), refl)
+loop-holds c =
+    record {
+      few = omega arith;
+      low = omega arith;
+      rest-is = rest-start (start c .args .h);
+      above = rw (le-ltb (t c .top) 0 (omega arith));
+      ranked = refl;
+    }
 
-rem-b : tie.Need-rem-b Inv-loop μ-loop
-rem-b c = let b = bounds (paper (c .before .before .before .before .args .s)) (c .before .before .before .before .pre .0) in omega (arith, c .before .before .buckets .ensures)
+counter-requires : tie.Need-counter-requires Inv-loop μ-loop
+counter-requires c κs =
+    let at = counted c in
+    counter-there (t at) (start at .pre .0) (h c) (c .before .loop .j) (start at .args .clipped .now) (start at .pre .1) (b c)
+    (is-hash c ∙ ap (λ (x : ℕ). hash x (h c) (c .before .loop .j)) (m-is at))
 
-wide-counter-requires : tie.Need-wide-counter-requires Inv-loop μ-loop
-wide-counter-requires c κs =
-    counter-there (paper (c .before .before .before .before .args .s)) (c .before .before .before .before .pre .0) (c .before .before .before .before .args .h) (c .before .loop .j) (c .before .before .before .before .args .clipped .now) (c .before .before .before .before .pre .1) (c .before .loop .rest % c .before .before .buckets .result)
-    (rest-hash (c .before .before .buckets .result) (c .before .before .before .before .args .h) (c .before .loop .j) (c .before .loop .rest) (c .before .loop .inv .2) ∙ ap (λ (x : ℕ). hash x (c .before .before .before .before .args .h) (c .before .loop .j)) (c .before .before .buckets .ensures ∙ buckets-are (paper (c .before .before .before .before .args .s))))
-
-higher-requires : tie.Need-higher-requires Inv-loop μ-loop
-higher-requires c κs = tt
-
-mul-lower : tie.Need-mul-lower Inv-loop μ-loop
-mul-lower c = omega (arith, c .before .wide-counter .ensures .1)
-
-add-lower : tie.Need-add-lower Inv-loop μ-loop
-add-lower c =
-    let b = bounds (paper (c .before .before .before .before .before .before .args .s)) (c .before .before .before .before .before .before .pre .0) in
-    let pos : 0 < c .before .before .before .before .buckets .result = omega (arith, c .before .before .before .before .buckets .ensures) in
-    let lt = mod-lt (c .before .before .before .loop .rest) pos in
-    omega (arith, c .before .wide-counter .ensures .1, c .before .before .before .before .buckets .ensures, lt)
-
-lower-requires : tie.Need-lower-requires Inv-loop μ-loop
-lower-requires c κs = tt
-
-add-j : tie.Need-add-j Inv-loop μ-loop
-add-j c = omega arith
-
-loop-less : tie.Need-loop-less Inv-loop μ-loop
-loop-less c = omega arith
+rank-requires : tie.Need-rank-requires Inv-loop μ-loop
+rank-requires c κs = let at = c .before .before in (omega (arith, c .before .counter .ensures .1), omega (arith, below at))
 
 loop-again : tie.Need-loop-again Inv-loop μ-loop
 loop-again c =
-    let is-hash = rest-hash (c .before .before .before .before .before .buckets .result) (c .before .before .before .before .before .before .before .args .h) (c .before .before .before .before .loop .j) (c .before .before .before .before .loop .rest) (c .before .before .before .before .loop .inv .2) in
-    let above = above-again (c .before .before .before .before .before .buckets .result) (c .before .before .before .before .before .before .before .args .h) (c .before .before .before .before .loop .j) (c .before .before .before .before .before .before .before .args .s .k) (c .before .before .before .before .before .before .before .args .s .top) (c .before .before .before .before .before .before .before .args .clipped .now) (ltb (c .before .before .before .before .before .before .before .args .s .top) (c .before .before .before .before .loop .most)) (c .before .before .before .before .loop .best) (c .before .before .before .loop-test .taken) (c .before .before .before .before .loop .rest % c .before .before .before .before .before .buckets .result) (c .before .before .wide-counter .result) is-hash (c .before .before .wide-counter .ensures .0) (c .before .before .before .before .loop .inv .3) in
-    let low = best-again (c .before .before .before .before .before .buckets .result) (c .before .before .before .before .before .before .before .args .h) (c .before .before .before .before .loop .j) (c .before .before .before .before .before .before .before .args .s .k) (c .before .before .before .before .before .before .before .args .s .top) (c .before .before .before .before .before .before .before .args .clipped .now) (ltb (c .before .before .before .before .before .before .before .args .s .top) (c .before .before .before .before .loop .most)) (c .before .before .before .before .loop .best) (c .before .before .before .loop-test .taken) (c .before .before .before .before .loop .rest % c .before .before .before .before .before .buckets .result) (c .before .before .wide-counter .result) is-hash (c .before .before .wide-counter .ensures .0) (c .before .before .before .before .loop .inv .4) in (
-      omega arith,
-      omega (arith, c .lower .ensures, c .before .before .before .before .loop .inv .1),
-      rest-next (c .before .before .before .before .before .before .before .args .h) (c .before .before .before .before .loop .j) (c .before .before .before .before .loop .rest) (c .before .before .before .before .loop .inv .2),
-      rw (c .before .higher .ensures, above-higher (c .before .before .before .before .before .before .before .args .s .top) (c .before .before .wide-counter .result) (c .before .before .before .before .loop .most)) above,
-      rw (c .lower .ensures) low,
-    )
-
-cast-t19 : tie.Need-cast-t19 Inv-loop μ-loop
-cast-t19 c =
-    let r = ranges (paper (c .before .before .before .before .args .s)) (c .before .before .before .before .pre .0) in let b = bounds (paper (c .before .before .before .before .args .s)) (c .before .before .before .before .pre .0) in omega (arith, c .before .before .buckets .ensures, c .before .loop .inv .1)
+    let at = c .before .before .before .before in
+    let l = at .before .loop in
+    let first = start (counted at) in
+    let clipped = first .args .clipped .now in
+    let read = c .before .before .before .counter .ensures .0 in
+    let over = any-again (m at) (h at) (l .j) (first .args .s .k) (λ x. ltb (t (counted at) .top) (counter clipped x)) (ltb (t (counted at) .top) (l .most .0)) (l .inv .above) (b at) (is-hash at) (at .loop-test .taken) in
+    let low = best-again (m at) (h at) (l .j) (first .args .s .k) (counter clipped) (l .best) (l .inv .ranked) (b at) (is-hash at) (at .loop-test .taken) in
+    record {
+      few = omega arith;
+      low = omega (arith, c .lower .ensures, l .inv .low);
+      rest-is = rest-next (h at) (l .j) (l .rest) (l .inv .rest-is);
+      above = rw (c .before .before .higher .ensures, above-higher (t (counted at) .top) (c .before .before .before .counter .result .0) (l .most .0), read) over;
+      ranked = rw (c .lower .ensures, c .before .rank .ensures, read) low;
+    }
 
 returns : tie.Need-returns Inv-loop μ-loop
 returns c =
-    let m-is = c .before .before .buckets .ensures ∙ buckets-are (paper (c .before .before .before .before .args .s)) in
-    choice-of (paper (c .before .before .before .before .args .s)) (c .before .before .before .before .pre .0) (c .before .before .before .before .args .h) (c .before .before .before .before .args .clipped .now) (ltb (c .before .before .before .before .args .s .top) (c .before .loop .most)) (c .before .loop .best)
-    (above-end (c .before .before .buckets .result) (c .before .before .before .before .args .h) (c .before .loop .j) (c .before .before .before .before .args .s .k) (c .before .before .before .before .args .s .top) (c .before .before .before .before .args .clipped .now) (ltb (c .before .before .before .before .args .s .top) (c .before .loop .most)) (c .before .loop .best) (c .loop-test .left) (c .before .loop .inv .3)
-    ∙ ap (λ (m : ℕ). any (λ b. ltb (c .before .before .before .before .args .s .top) (counter (c .before .before .before .before .args .clipped .now) b)) (hashes m (c .before .before .before .before .args .h) 0 (c .before .before .before .before .args .s .k))) m-is)
-    (best-end (c .before .before .buckets .result) (c .before .before .before .before .args .h) (c .before .loop .j) (c .before .before .before .before .args .s .k) (c .before .before .before .before .args .s .top) (c .before .before .before .before .args .clipped .now) (ltb (c .before .before .before .before .args .s .top) (c .before .loop .most)) (c .before .loop .best) (c .loop-test .left) (c .before .loop .inv .4)
-    ∙ ap (λ (m : ℕ). least ((c .before .before .before .before .args .s .top) * 65536 + m) (map (both (counter (c .before .before .before .before .args .clipped .now))) (hashes m (c .before .before .before .before .args .h) 0 (c .before .before .before .before .args .s .k)))) m-is)
+    let done = c .before .before in
+    let l = done .before .loop in
+    let at = done .before .before in
+    let first = start at in
+    let m = at .buckets .result in
+    let clipped = first .args .clipped .now in
+    let seen = c .before .above .ensures ∙ any-end m (first .args .h) (l .j) (first .args .s .k) (λ x. ltb (t at .top) (counter clipped x)) (ltb (t at .top) (l .most .0)) (l .inv .above) (done .loop-test .left) in
+    let low = best-end m (first .args .h) (l .j) (first .args .s .k) (counter clipped) (l .best) (l .inv .ranked) (done .loop-test .left) in
+    let choice = choice-of (t at) (first .pre .0) (first .args .h) clipped (c .before .above .result) (l .best) (rw (m-is at) at seen) (rw (m-is at) at low) in
+    record { above = choice .above; least = λ key. c .of-rank .ensures ∙ choice .least key; bucket = choice .bucket }
 
 pub choose-spec : {M : Type 1} → statement M
 choose-spec =
@@ -101,18 +125,18 @@ choose-spec =
     (tie.spec
     Inv-loop
     μ-loop
-    buckets-requires
-    mul-best
-    add-best
+    (λ c κs. c .before .pre .0)
+    (λ c. omega (arith, top-small c))
+    (λ c. omega (arith, top-small c, m-small c .0))
     loop-holds
-    rem-b
-    wide-counter-requires
-    higher-requires
-    mul-lower
-    add-lower
-    lower-requires
-    add-j
-    loop-less
+    (λ c. omega (arith, m-small (counted c) .1))
+    counter-requires
+    (λ c κs. tt)
+    rank-requires
+    (λ c κs. tt)
+    (λ c. omega arith)
+    (λ c. omega arith)
     loop-again
-    cast-t19
+    (λ c κs. tt)
+    (λ c κs. tt)
     returns)

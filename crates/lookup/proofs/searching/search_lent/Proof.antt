@@ -55,7 +55,7 @@ returns-2 c =
     let e = sym (judge-lent .ensures) ∙ judged2 .given .1 in let q = lent-ready (start .args .table .now) (record { p = start .args .p; k = start .args .k; room = start .args .room; top = start .args .top; capacity = start .args .capacity; side-places = start .args .side-places }) (start .args .clipped .now) (start .args .buckets .now) (start .args .side .now) (start .args .key .now) (judged2 .given .0 .0) e in let g = fine (record { p = start .args .p; k = start .args .k; room = start .args .room; top = start .args .top; capacity = start .args .capacity; side-places = start .args .side-places }) (start .args .clipped .now) (start .args .buckets .now) (start .args .side .now) (start .args .key .now) (judged2 .given .0 .0) (q .1) in
     lent-answers (start .args .table .now) (record { p = start .args .p; k = start .args .k; room = start .args .room; top = start .args .top; capacity = start .args .capacity; side-places = start .args .side-places }) (start .args .clipped .now) (start .args .buckets .now) (start .args .side .now) (start .args .key .now) (judged2 .given .0 .0) e (answer-of (c .search-at .result))
     (λ right. c .search-at .ensures
-    ∙ hashed (paper (judged2 .given .0 .0)) (start .args .clipped .now) (start .args .buckets .now) (start .args .side .now) (start .args .key .now) (h-lent .result) (h-lent .ensures (subst (λ (w : ℕ). TableRight w (start .args .table .now)) (sym (g .wide ∙ ap (λ (t : Settings). card-of t .width) (g .same))) right))
+    ∙ hashed (paper (judged2 .given .0 .0)) (start .args .clipped .now) (start .args .buckets .now) (start .args .side .now) (start .args .key .now) (h-lent .result) (h-lent .ensures .1 (subst (λ (w : ℕ). TableRight w (start .args .table .now)) (sym (g .wide ∙ ap (λ (t : Settings). card-of t .width) (g .same))) right))
     ∙ ap (λ (t : Settings). search-areas (card-of t) (start .args .clipped .now) (start .args .buckets .now) (start .args .side .now) (start .args .key .now)) (g .same))
 
 pub search-lent-spec : {M : Type 1} → statement M

@@ -1,5 +1,5 @@
 -- `lookup::tallying::counters_valid` meets its contract: whether a counter from bucket b on is above T is whether any is. Assumes nothing.
-use mathlib.Core.Path.{_≡_, ap}
+use mathlib.Core.Path.{_≡_, ap, sym, _∙_}
 use mathlib.Core.List.{List, map}
 use Prim.Native.Nat.{ℕ, _-_, _≤_}
 use native.Mathlib.Omega.{arith}
@@ -31,8 +31,8 @@ counter-requires c κs =
     let buckets = c .before .before .buckets in
     counter-in (paper (start .args .s)) (start .pre .0) (start .args .clipped .now) (c .before .loop .b) (buckets .result) (c .loop-test .taken) (buckets .ensures) (start .pre .1)
 
-cast-if1 : tie.Need-cast-if1 Inv-loop μ-loop
-cast-if1 c = search needs
+above-requires : tie.Need-above-requires Inv-loop μ-loop
+above-requires c κs = search needs
 
 returns : tie.Need-returns Inv-loop μ-loop
 returns c =
@@ -40,7 +40,7 @@ returns c =
     let buckets = c .before .before .before .before .before .buckets in
     let loop = c .before .before .before .before .loop in
     let loop-test = c .before .before .before .loop-test in
-    let e = any-here (counter (start .args .clipped .now)) (λ x. ltb (start .args .s .top) x) (loop .b) (buckets .result) (loop-test .taken) (rw (← c .before .before .counter .ensures) (lt-ltb _ _ (c .if1 .taken))) (loop .inv .1) in
+    let e = any-here (counter (start .args .clipped .now)) (λ x. ltb (start .args .s .top) x) (loop .b) (buckets .result) (loop-test .taken) (rw (← c .before .before .counter .ensures .0) (sym (c .before .above .ensures) ∙ c .if1 .taken)) (loop .inv .1) in
     rw (← buckets .ensures, ← any-map (λ x. ltb (start .args .s .top) x) (counter (start .args .clipped .now)) (upto 0 (buckets .result)), e)
 
 add-b : tie.Need-add-b Inv-loop μ-loop
@@ -55,7 +55,7 @@ loop-again c =
     let buckets = c .before .before .before .before .before .buckets in
     let loop = c .before .before .before .before .loop in
     let loop-test = c .before .before .before .loop-test in
-    (omega arith, any-on (counter (start .args .clipped .now)) (λ x. ltb (start .args .s .top) x) (loop .b) (buckets .result) (loop-test .taken) (rw (← c .before .before .counter .ensures) (le-ltb _ _ (c .if1 .left))) (loop .inv .1))
+    (omega arith, any-on (counter (start .args .clipped .now)) (λ x. ltb (start .args .s .top) x) (loop .b) (buckets .result) (loop-test .taken) (rw (← c .before .before .counter .ensures .0) (sym (c .before .above .ensures) ∙ c .if1 .left)) (loop .inv .1))
 
 returns-2 : tie.Need-returns-2 Inv-loop μ-loop
 returns-2 c =
@@ -74,7 +74,7 @@ counters-valid-spec =
     buckets-requires
     loop-holds
     counter-requires
-    cast-if1
+    above-requires
     returns
     add-b
     loop-less
