@@ -7,21 +7,12 @@ use lib.Dec.{eqb}
 use lib.ListN.{length}
 use Rattle.theory.specs.Settings.{Settings, allowed, card-of}
 use Rattle.theory.specs.Lookup.{bare, driver-number}
-use Rattle.theory.specs.Ledger.{search, tally, Totals, no-totals, Reply, answered, handed, totalled}
+use Rattle.theory.specs.Ledger.{tally, Totals, no-totals, Reply, answered, handed, totalled}
 use Rattle.theory.specs.Calls.{perform}
 use Rattle.hash.specs.Table.{TableRight}
-use Rattle.lookup.specs.Answers.{lookup-areas}
+use Rattle.lookup.specs.Answers.{search-of}
 use Rattle.lookup.specs.Tallies.{read-areas}
 use Rattle.card.specs.Doors.{Filled, refused, filled, unless}
-
--- "gets answer × 2^32 + class": the number of what a search call gives back
-abbrev pub driver-of : Reply → ℕ
-driver-of (answered x) = driver-number x
-driver-of (handed x) = 0
-driver-of (totalled x) = 0
-
-unfoldable pub search-of : Settings → List ℕ → List ℕ → List ℕ → List ℕ → ℕ
-search-of t clipped buckets side key = driver-of (perform t 0 (search key) (lookup-areas clipped buckets side) .reply)
 
 -- the search door with a lent table: a table of another length is refused with 2 (after 1); with the right table it is the search door's number. On another
 -- table of the right length the number is some number, and nothing is altered

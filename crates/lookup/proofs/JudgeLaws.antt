@@ -1,6 +1,6 @@
 -- Laws of what both searches judge first, and of what they then give: each is `perform`'s. Assumes nothing.
 use mathlib.Core.Path.{_≡_, sym, ap, _∙_}
-use mathlib.Core.Bool.{Bool, true, false, cond, not, _&&_, and-true}
+use mathlib.Core.Bool.{Bool, true, false, cond, not, _&&_}
 use mathlib.Core.List.{List, []}
 use Prim.Native.Nat.{ℕ, _*_}
 use native.Mathlib.Omega.{arith}
@@ -9,46 +9,92 @@ use borrow.Author.Tests.{eqb-true, eq-eqb, ne-eqb}
 use lib.ListN.{length}
 use Rattle.theory.specs.Lists.{all}
 use Rattle.theory.specs.Settings as plain
-use Rattle.theory.specs.Settings.{allowed, card-of, clipped-length, buckets-length, side-length}
+use Rattle.theory.specs.Settings.{allowed, card-of}
 use Rattle.theory.specs.Lookup.{Answer, bare, search-areas, fetch-areas}
 use Rattle.theory.specs.Ledger.{search, fetch, answered, handed, key-wrong}
 use Rattle.theory.specs.Calls.{call, lookup-lengths, lent-lengths, perform}
-use Rattle.theory.proofs.ListLaws.{by-test, all-each}
+use Rattle.theory.proofs.ListLaws.{and-left, and-right, by-test, all-each}
 use Rattle.hash.specs.Table.{TableRight}
 use Rattle.settings.specs.declared.Settings.{Settings}
 use Rattle.settings.specs.Checked.{paper, code}
 use Rattle.lookup.specs.declared.judging.Judged.the-variants.{Ready, Refused}
 use Rattle.lookup.specs.Places.{Lent}
 use Rattle.lookup.specs.Answers.{lookup-areas, judged-of, judged-lent, LentAnswer}
+use Rattle.lookup.specs.Bursts.{judged-burst}
+
+module _ (t : plain.Settings) (clipped buckets side : List ℕ) where
+  abbrev pub lengths-right : Bool
+  lengths-right = all (λ x. x) (lookup-lengths (card-of t) (lookup-areas clipped buckets side))
 
 module _ (t : plain.Settings) (clipped buckets side key : List ℕ) where
   pub judged-1 : allowed t ≡ false → Refused 1 ≡ judged-of t clipped buckets side key
   unfolding judged-of
   judged-1 e = rw e
 
-  module _ (ok : allowed t ≡ true) (c : Settings) (same : paper c ≡ t) (x y z : ℕ)
-      (ex : x ≡ clipped-length (card-of (paper c))) (ey : y ≡ buckets-length (card-of (paper c))) (ez : z ≡ side-length (card-of (paper c))) where
-    abbrev lengths : Bool
-    lengths = eqb (length clipped) x && (eqb (length buckets) y && eqb (length side) z)
-
-    lengths-are : all (λ x. x) (lookup-lengths (card-of t) (lookup-areas clipped buckets side)) ≡ lengths
-    unfolding lookup-lengths
-    lengths-are = rw (and-true, ex, ey, ez, same)
-
-    pub judged-2 : lengths ≡ false → Refused 2 ≡ judged-of t clipped buckets side key
+  module _ (ok : allowed t ≡ true) where
+    pub judged-2 : lengths-right t clipped buckets side ≡ false → Refused 2 ≡ judged-of t clipped buckets side key
     unfolding judged-of
-    judged-2 e = rw (ok, lengths-are, e)
+    judged-2 e = rw (ok, e)
 
-    module _ (right : lengths ≡ true) (w : ℕ) (wide : w ≡ card-of (paper c) .width) where
-      pub judged-3 : (length key ≡ w → ⊥) → Refused 3 ≡ judged-of t clipped buckets side key
+    module _ (right : lengths-right t clipped buckets side ≡ true) where
+      pub judged-3 : (length key ≡ card-of t .width → ⊥) → Refused 3 ≡ judged-of t clipped buckets side key
       unfolding judged-of
-      judged-3 n = rw (ok, lengths-are, right, ne-eqb (length key) (card-of t .width) (λ e. n (e ∙ ap (λ (u : plain.Settings). card-of u .width) (sym same) ∙ sym wide)))
+      judged-3 n = rw (ok, right, ne-eqb (length key) (card-of t .width) n)
 
-      pub judged-ready : length key ≡ w → Ready c ≡ judged-of t clipped buckets side key
+      pub judged-ready : length key ≡ card-of t .width → Ready (code t) ≡ judged-of t clipped buckets side key
       unfolding judged-of
-      judged-ready e =
-          rw (ok, lengths-are, right, eq-eqb (length key) (card-of t .width) (e ∙ wide ∙ ap (λ (u : plain.Settings). card-of u .width) same))
-          (ap (λ (u : plain.Settings). Ready (code u)) same)
+      judged-ready e = rw (ok, right, eq-eqb (length key) (card-of t .width) e)
+
+-- ---- a burst
+module _ (table clipped buckets side keys : List ℕ) (n : ℕ) (t : plain.Settings) where
+  abbrev pub burst-lengths : Bool
+  burst-lengths = eqb (length table) (256 * card-of t .width) && lengths-right t clipped buckets side
+
+  pub burst-1 : allowed t ≡ false → Refused 1 ≡ judged-burst table t clipped buckets side keys n
+  unfolding judged-burst
+  burst-1 e = rw e
+
+  module _ (ok : allowed t ≡ true) where
+    pub burst-2 : burst-lengths ≡ false → Refused 2 ≡ judged-burst table t clipped buckets side keys n
+    unfolding judged-burst
+    burst-2 e = rw (ok, e)
+
+    module _ (right : burst-lengths ≡ true) where
+      pub burst-3 : eqb (length keys) (n * card-of t .width) ≡ false → Refused 3 ≡ judged-burst table t clipped buckets side keys n
+      unfolding judged-burst
+      burst-3 e = rw (ok, right, e)
+
+      pub burst-ready : eqb (length keys) (n * card-of t .width) ≡ true → Ready (code t) ≡ judged-burst table t clipped buckets side keys n
+      unfolding judged-burst
+      burst-ready e = rw (ok, right, e)
+
+  -- what a judgement says
+  pub record FineBurst (c : Settings) : Type 0 where
+    pub same : paper c ≡ t
+    pub lent : Lent (paper c) clipped buckets side
+    pub table-size : length table ≡ 256 * card-of (paper c) .width
+    pub keys-size : length keys ≡ n * card-of (paper c) .width
+
+  pub fine-burst : (c : Settings) → judged-burst table t clipped buckets side keys n ≡ Ready c → FineBurst c
+  unfolding judged-burst lookup-lengths
+  fine-burst c e =
+      by-test (allowed t)
+      (λ a. by-test burst-lengths
+      (λ l. by-test (eqb (length keys) (n * card-of t .width))
+      (λ w. let e′ = rw (a, l, w) at e in
+      let q : c ≡ code t = cc in
+      let s : paper c ≡ t = ap paper q in
+      let areas = and-right (eqb (length table) (256 * card-of t .width)) (lengths-right t clipped buckets side) l in
+      let h = all-each (λ x. x) (lookup-lengths (card-of t) (lookup-areas clipped buckets side)) areas in
+      record {
+        same = s;
+        lent = rw s (record { ok = a; clipped-size = eqb-true _ _ (h .0); buckets-size = eqb-true _ _ (h .1 .0); side-size = eqb-true _ _ (h .1 .1 .0) });
+        table-size = rw s (eqb-true _ _ (and-left (eqb (length table) (256 * card-of t .width)) (lengths-right t clipped buckets side) l));
+        keys-size = rw s (eqb-true _ _ w);
+      })
+      (λ w. let e′ = rw (a, l, w) at e in let z : _≡_ {A = ℕ} 0 1 = cc in absurd (omega arith)))
+      (λ l. let e′ = rw (a, l) at e in let z : _≡_ {A = ℕ} 0 1 = cc in absurd (omega arith)))
+      (λ a. let e′ = rw a at e in let z : _≡_ {A = ℕ} 0 1 = cc in absurd (omega arith))
 
 -- ---- with a lent table
 module _ (table : List ℕ) (t : plain.Settings) (clipped buckets side key : List ℕ) where
@@ -70,18 +116,15 @@ module _ (table : List ℕ) (t : plain.Settings) (clipped buckets side key : Lis
 
 -- ---- what a judgement says
 module _ (t : plain.Settings) (clipped buckets side key : List ℕ) where
-  abbrev lengths-right : Bool
-  lengths-right = all (λ x. x) (lookup-lengths (card-of t) (lookup-areas clipped buckets side))
-
   -- 1, 2, 3, or x
   abbrev pub refused-or : {X : Type 0} → (ℕ → X) → X → X
-  refused-or n x = cond (not (allowed t)) (n 1) (cond (not lengths-right) (n 2) (cond (key-wrong (card-of t) key) (n 3) x))
+  refused-or n x = cond (not (allowed t)) (n 1) (cond (not (lengths-right t clipped buckets side)) (n 2) (cond (key-wrong (card-of t) key) (n 3) x))
 
   pub refused-is : {X : Type 0} (f : ℕ → X) (x : X) (n : ℕ) → judged-of t clipped buckets side key ≡ Refused n → refused-or f x ≡ f n
   unfolding judged-of key-wrong
   refused-is f x n e =
       by-test (allowed t)
-      (λ a. by-test lengths-right
+      (λ a. by-test (lengths-right t clipped buckets side)
       (λ l. by-test (eqb (length key) (card-of t .width)) (λ w. let e′ = rw (a, l, w) at e in let z : _≡_ {A = ℕ} 0 1 = cc in absurd (omega arith))
       (λ w. let e′ = rw (a, l, w) at e in let q : 3 ≡ n = cc in rw (a, l, w, q)))
       (λ l. let e′ = rw (a, l) at e in let q : 2 ≡ n = cc in rw (a, l, q)))
@@ -97,7 +140,7 @@ module _ (t : plain.Settings) (clipped buckets side key : List ℕ) where
   unfolding judged-of key-wrong lookup-lengths
   fine c e =
       by-test (allowed t)
-      (λ a. by-test lengths-right
+      (λ a. by-test (lengths-right t clipped buckets side)
       (λ l. by-test (eqb (length key) (card-of t .width))
       (λ w. let e′ = rw (a, l, w) at e in
       let q : c ≡ code t = cc in
@@ -117,7 +160,7 @@ module _ (t : plain.Settings) (clipped buckets side key : List ℕ) where
   unfolding judged-of key-wrong
   passes c e f x =
       by-test (allowed t)
-      (λ a. by-test lengths-right
+      (λ a. by-test (lengths-right t clipped buckets side)
       (λ l. by-test (eqb (length key) (card-of t .width)) (λ w. rw (a, l, w))
       (λ w. let e′ = rw (a, l, w) at e in let z : _≡_ {A = ℕ} 0 1 = cc in absurd (omega arith)))
       (λ l. let e′ = rw (a, l) at e in let z : _≡_ {A = ℕ} 0 1 = cc in absurd (omega arith)))
@@ -128,13 +171,13 @@ module _ (t : plain.Settings) (clipped buckets side key : List ℕ) where
       → record { reply = answered x; state = lookup-areas clipped buckets side } ≡ perform t 0 (search key) (lookup-areas clipped buckets side)
   unfolding perform call lent-lengths
   search-performs x e =
-      rw (← e) (by-test (allowed t) (λ a. rw a (by-test lengths-right (λ l. rw l) (λ l. rw l))) (λ a. rw a))
+      rw (← e) (by-test (allowed t) (λ a. rw a (by-test (lengths-right t clipped buckets side) (λ l. rw l) (λ l. rw l))) (λ a. rw a))
 
   pub fetch-performs : (x : List ℕ) → refused-or (λ n. []) (fetch-areas (card-of t) clipped buckets side key) ≡ x
       → record { reply = handed x; state = lookup-areas clipped buckets side } ≡ perform t 0 (fetch key) (lookup-areas clipped buckets side)
   unfolding perform call lent-lengths
   fetch-performs x e =
-      rw (← e) (by-test (allowed t) (λ a. rw a (by-test lengths-right (λ l. rw l) (λ l. rw l))) (λ a. rw a))
+      rw (← e) (by-test (allowed t) (λ a. rw a (by-test (lengths-right t clipped buckets side) (λ l. rw l) (λ l. rw l))) (λ a. rw a))
 
 -- ---- the same with a lent table
 module _ (table : List ℕ) (t : plain.Settings) (clipped buckets side key : List ℕ) where

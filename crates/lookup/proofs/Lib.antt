@@ -4,3 +4,4 @@ pub mod PlaceLaws
 pub mod JudgeLaws
 pub mod FetchLaws
 pub mod TallyLaws
+pub mod BurstLaws

@@ -9,7 +9,7 @@ use Rattle.theory.specs.Lists.{all}
 use Rattle.theory.specs.Settings as plain
 use Rattle.theory.specs.Layout.{Areas}
 use Rattle.theory.specs.Lookup as plain-lookup
-use Rattle.theory.specs.Ledger.{search, Step, answered}
+use Rattle.theory.specs.Ledger.{search, Step, Reply, answered, handed, totalled}
 use Rattle.theory.specs.Calls.{lookup-lengths, perform}
 use Rattle.hash.specs.Table.{TableRight}
 use Rattle.settings.specs.Checked.{code}
@@ -25,6 +25,15 @@ answer-of r =
 -- the three lookup areas as the areas of a call that is lent no others
 abbrev pub lookup-areas : List ℕ → List ℕ → List ℕ → Areas
 lookup-areas clipped buckets side = record { ledger = []; true-counts = []; clipped-counts = clipped; buckets = buckets; side-store = side }
+
+-- "gets answer × 2^32 + class": the number of what a search call gives back
+abbrev pub driver-of : Reply → ℕ
+driver-of (answered x) = plain-lookup.driver-number x
+driver-of (handed x) = 0
+driver-of (totalled x) = 0
+
+unfoldable pub search-of : plain.Settings → List ℕ → List ℕ → List ℕ → List ℕ → ℕ
+search-of t clipped buckets side key = driver-of (perform t 0 (search key) (lookup-areas clipped buckets side) .reply)
 
 -- what both searches judge first: 1, 2 and 3
 unfoldable pub judged-of : plain.Settings → List ℕ → List ℕ → List ℕ → List ℕ → Judged

@@ -2,5 +2,6 @@ pub mod Choosing
 pub mod Scanning
 pub mod Places
 pub mod Answers
+pub mod Bursts
 pub mod Parts
 pub mod Tallies

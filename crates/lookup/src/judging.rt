@@ -3,13 +3,27 @@ use settings::Checked;
 use settings::Settings;
 ghost use mathlib.Core.Path.{_≡_};
 ghost use mathlib.Core.Bool.{true};
-ghost use Rattle.theory.specs.Settings.{allowed};
+ghost use Rattle.theory.specs.Lists.{all};
+ghost use Rattle.theory.specs.Settings.{allowed, card-of};
+ghost use Rattle.theory.specs.Calls.{lookup-lengths};
 ghost use Rattle.settings.specs.Checked.{paper};
-ghost use Rattle.lookup.specs.Answers.{judged-of, judged-lent};
+ghost use Rattle.lookup.specs.Answers.{lookup-areas, judged-of, judged-lent};
+ghost use Rattle.lookup.specs.Bursts.{judged-burst};
 
 pub enum Judged {
     Ready(Settings),
     Refused(u32),
+}
+
+// The lookup areas have their lengths.
+fn areas_right(s: Settings, clipped: &[u8], buckets: &[u8], side: &[u8]) -> bool
+    requires { ⌜ allowed (paper s) ≡ true ⌝ }
+    ensures { λ r. ⌜ r ≡ all (λ x. x) (lookup-lengths (card-of (paper s)) (lookup-areas (now (clipped .entry)) (now (buckets .entry)) (now (side .entry)))) ⌝ }
+{
+    let clipped_right = clipped.len() == s.clipped_length();
+    let buckets_right = buckets.len() == s.buckets_length();
+    let side_right = side.len() == s.side_length();
+    clipped_right & (buckets_right & side_right)
 }
 
 // 2, the length of an area; 3, a key not of the card's width.
@@ -17,10 +31,7 @@ fn judge_areas(s: Settings, clipped: &[u8], buckets: &[u8], side: &[u8], key: &[
     requires { ⌜ allowed (paper s) ≡ true ⌝ }
     ensures { λ r. ⌜ r ≡ judged-of (paper s) (now (clipped .entry)) (now (buckets .entry)) (now (side .entry)) (now (key .entry)) ⌝ }
 {
-    let clipped_right = clipped.len() == s.clipped_length();
-    let buckets_right = buckets.len() == s.buckets_length();
-    let side_right = side.len() == s.side_length();
-    if !(clipped_right & (buckets_right & side_right)) {
+    if !areas_right(s, clipped, buckets, side) {
         return Judged::Refused(2);
     }
     if key.len() != s.width() {
@@ -77,4 +88,38 @@ pub fn judge_lent(
         return Judged::Refused(2);
     }
     judge_areas(s, clipped, buckets, side, key)
+}
+
+// The same for a burst of n keys: 3 is keys not of n times the key's bytes, judged by a division, since a product may not fit.
+pub fn judge_burst(
+    table: &[u64],
+    p: u64,
+    k: u64,
+    room: u64,
+    top: u64,
+    capacity: u64,
+    side_places: u64,
+    clipped: &[u8],
+    buckets: &[u8],
+    side: &[u8],
+    keys: &[u8],
+    n: usize,
+) -> Judged
+    ensures { λ r. ⌜ r ≡ judged-burst (now (table .entry)) (record { p = p; k = k; room = room; top = top; capacity = capacity; side-places = «side_places» })
+        (now (clipped .entry)) (now (buckets .entry)) (now (side .entry)) (now (keys .entry)) n ⌝ }
+{
+    let checked = Settings::new(p, k, room, top, capacity, side_places);
+    let Checked::Allowed(s) = checked else {
+        return Judged::Refused(1);
+    };
+    let width = s.width();
+    let table_right = table.len() == 256 * width;
+    if !(table_right & areas_right(s, clipped, buckets, side)) {
+        return Judged::Refused(2);
+    }
+    let whole_keys = keys.len() % width == 0;
+    if !(whole_keys & (keys.len() / width == n)) {
+        return Judged::Refused(3);
+    }
+    Judged::Ready(s)
 }

@@ -1,4 +1,5 @@
 // Document 01, the calls that only read: search, the second search call, tally.
+pub mod bursts; // bursts.rt: many keys at once
 pub mod counters; // counters.rt: what the counters of a key say
 pub mod fetching; // fetching.rt: the record itself
 pub mod judging; // judging.rt: refusals 1, 2 and 3

@@ -43,6 +43,13 @@ pub fn bare(number: u32) -> Answer
     }
 }
 
+// "answer × 2^32 + class"
+pub fn driver_number(a: Answer) -> u64
+    ensures { λ r. ⌜ r ≡ plain.driver-number (answer-of a) ⌝ }
+{
+    (a.number as u64) * 4294967296 + (a.class as u64)
+}
+
 // The answer of a scan of some records.
 fn compare(place: &[u8], n: usize, key: &[u8], read: u32) -> Answer
     requires { ⌜ (n * (length (now key) + 4) ≤ length (now place)) × (length (now key) ≤ 64) × (n ≤ 4096) ⌝ }
@@ -92,7 +99,7 @@ fn compare_all(place: &[u8], n: usize, room: usize, key: &[u8], read: u32) -> An
 }
 
 // The records of a bucket, which start after its mark.
-fn compare_bucket(s: Settings, buckets: &[u8], from: usize, n: usize, key: &[u8]) -> Answer
+pub fn compare_bucket(s: Settings, buckets: &[u8], from: usize, n: usize, key: &[u8]) -> Answer
     requires { ⌜ (allowed (paper s) ≡ true) × (length (now buckets) ≡ buckets-length (card-of (paper s))) × (length (now key) ≡ card-of (paper s) .width)
         × (from + (bucket-size (card-of (paper s)) - 1) ≤ length (now buckets)) × (n ≤ s .room) ⌝ }
     ensures { λ r. ⌜ answer-of r ≡ plain.answer-at (card-of (paper s)) (now (key .entry))
@@ -105,7 +112,7 @@ fn compare_bucket(s: Settings, buckets: &[u8], from: usize, n: usize, key: &[u8]
 }
 
 // The records of the side store, which start after its count.
-fn compare_side(s: Settings, side: &[u8], n: usize, read: u32, key: &[u8]) -> Answer
+pub fn compare_side(s: Settings, side: &[u8], n: usize, read: u32, key: &[u8]) -> Answer
     requires { ⌜ (allowed (paper s) ≡ true) × (length (now side) ≡ side-length (card-of (paper s))) × (length (now key) ≡ card-of (paper s) .width)
         × (n ≤ s .«side_places») ⌝ }
     ensures { λ r. ⌜ answer-of r ≡ plain.answer-at (card-of (paper s)) (now (key .entry)) (plain.among (drop 2 (now (side .entry))) n read) ⌝ }
@@ -113,7 +120,8 @@ fn compare_side(s: Settings, side: &[u8], n: usize, read: u32, key: &[u8]) -> An
     compare(&side[2..], n, key, read)
 }
 
-// Search for a key whose H is h, whichever way it was hashed.
+// Search for a key whose H is h, whichever way it was hashed. The static library has one caller of it, so that the compiler makes one piece of both
+// (bursts.rt says how the other door goes); a second caller there costs the first a tenth of its time.
 pub fn search_at(
     s: Settings,
     h: u64,

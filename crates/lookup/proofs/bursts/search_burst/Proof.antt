@@ -1,0 +1,84 @@
+-- `lookup::bursts::search_burst` meets its contract: judged first, then the three passes.
+use mathlib.Core.Path.{_≡_, refl, sym, ap, _∙_}
+use mathlib.Core.List.{List}
+use Prim.Native.Nat.{ℕ, _*_}
+use native.Mathlib.Omega.{arith}
+use borrow.Author.Needs.{needs}
+use lib.ListN.{length}
+use Rattle.theory.specs.Settings as plain
+use Rattle.theory.specs.Settings.{card-of}
+use Rattle.hash.specs.Table.{H-by}
+use Rattle.settings.specs.Checked.{paper}
+use Rattle.settings.specs.declared.Settings.{Settings}
+use Rattle.lookup.specs.Bursts.{key-at, judged-burst}
+use Rattle.lookup.specs.declared.judging.Judged.the-variants.{Ready}
+use Rattle.lookup.proofs.BurstLaws.{each-length, packed-length, packed-fits, numbered, burst-refused, burst-answered}
+use Rattle.lookup.proofs.JudgeLaws.{FineBurst, fine-burst}
+use Rattle.lookup.proofs.bursts.search_burst.Statement.{statement}
+use Rattle.lookup.proofs.bursts.search_burst.Tie as tie
+
+-- the settings as they are given
+abbrev given : tie.Start → plain.Settings
+given start =
+    record {
+      p = start .args .p;
+      k = start .args .k;
+      room = start .args .room;
+      top = start .args .top;
+      capacity = start .args .capacity;
+      side-places = start .args .side-places;
+    }
+
+-- ---- nothing is refused
+module _ (c : tie.After-known-told2) where
+  abbrev start : tie.Start
+  start = c .before .before .before .before .before .before .before .before .before .before
+
+  abbrev s : Settings
+  s = c .before .judged2 .given .0 .0
+
+  abbrev answers : List ℕ
+  answers = start .args .answers .now
+
+  ready : judged-burst (start .args .table .now) (given start) (start .args .clipped .now) (start .args .buckets .now) (start .args .side .now) (start .args .keys .now) (length answers) ≡ Ready s
+  ready = sym (c .before .before .before .judge-burst .ensures) ∙ c .before .judged2 .given .1
+
+  fine : FineBurst (start .args .table .now) (start .args .clipped .now) (start .args .buckets .now) (start .args .side .now) (start .args .keys .now) (length answers) (given start) s
+  fine = fine-burst _ _ _ _ _ _ (given start) s ready
+
+  -- the H of key j
+  abbrev h : ℕ → ℕ
+  h j = H-by (start .args .table .now) (key-at (card-of (paper s) .width) (start .args .keys .now) j)
+
+answer-all-requires : tie.Need-answer-all-requires
+answer-all-requires c κs =
+    let at = c .before .before .before .before .before .before .before .before .before in
+    let lent = fine at .lent in
+    let clipped = start at .args .clipped .now in
+    let long = packed-length (paper (s at)) (lent .ok) clipped (h at) (length (answers at)) _ _ (c .before .before .before .before .before .before .before .hash-all .ensures) (c .before .before .before .choose-all .ensures) in (
+      record { ok = lent .ok; buckets-size = lent .buckets-size; side-size = lent .side-size },
+      fine at .keys-size ∙ ap (λ (n : ℕ). n * card-of (paper (s at)) .width) (sym long),
+      packed-fits (paper (s at)) (lent .ok) clipped (h at) (length (answers at)) _ _ (c .before .before .before .before .before .before .before .hash-all .ensures) (c .before .before .before .choose-all .ensures),
+    )
+
+returns-2 : tie.Need-returns-2
+returns-2 c =
+    let at = c .before .before .before .before .before .before .before .before .before .before .before .before in
+    let args = start at .args in
+    burst-answered (args .table .now) (args .clipped .now) (args .buckets .now) (args .side .now) (args .keys .now) (answers at) (given (start at)) (s at) (ready at) (fine at .same) _
+    (numbered (paper (s at)) (fine at .lent .ok) (args .clipped .now) (h at) (length (answers at)) _ _ (c .before .before .before .before .before .before .before .before .before .before .hash-all .ensures) (c .before .before .before .before .before .before .choose-all .ensures)
+    (args .buckets .now) (args .side .now) (args .keys .now) (card-of (paper (s at)) .width) _ (c .before .before .answer-all .ensures))
+
+pub search-burst-spec : {M : Type 1} → statement M
+search-burst-spec =
+    tie.close
+    (tie.spec
+    (λ c κs. search needs)
+    (λ c. search needs)
+    (λ c. search needs)
+    (λ c κs. (fine (c .before) .table-size, fine (c .before) .keys-size))
+    (λ c κs. let at = c .before .before .before .before .before in (fine at .lent .ok, fine at .lent .clipped-size))
+    answer-all-requires
+    (λ c. burst-refused _ _ _ _ _ _ _ _ (sym (c .before .before .before .judge-burst .ensures) ∙ c .before .judged .given .1))
+    (λ c. search needs)
+    returns-2)

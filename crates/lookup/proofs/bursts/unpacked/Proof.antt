@@ -1,0 +1,11 @@
+-- `lookup::bursts::unpacked` meets its contract, part by part.
+use mathlib.Core.Path.{refl}
+use borrow.Author.Needs.{needs}
+use Rattle.lookup.proofs.bursts.unpacked.Statement.{statement}
+use Rattle.lookup.proofs.bursts.unpacked.Tie as tie
+
+returns : tie.Need-returns
+returns c = rw (← c .of-rank .ensures)
+
+pub unpacked-spec : {M : Type 1} → statement M
+unpacked-spec = tie.close (tie.spec (λ c κs. search needs) returns)

@@ -1,0 +1,14 @@
+-- `lookup::judging::areas_right` meets its contract: each length is the definition's.
+use mathlib.Core.Path.{sym}
+use mathlib.Core.Bool.{and-true}
+use borrow.Author.Needs.{needs}
+use Rattle.theory.specs.Calls.{lookup-lengths}
+use Rattle.lookup.proofs.judging.areas_right.Statement.{statement}
+use Rattle.lookup.proofs.judging.areas_right.Tie as tie
+
+returns : tie.Need-returns
+unfolding lookup-lengths
+returns c = rw (and-true, c .before .before .clipped-length .ensures, c .before .buckets-length .ensures, c .side-length .ensures)
+
+pub areas-right-spec : {M : Type 1} → statement M
+areas-right-spec = tie.close (tie.spec (λ c κs. search needs) (λ c κs. search needs) (λ c κs. search needs) returns)

@@ -1,0 +1,199 @@
+// A burst of searches, in three passes over the answers: all hashes, then all choices, then the buckets, so that the reads of one key do not wait for another's.
+// The number of a single search without a table goes the same way, so that `searching::search_at` has one caller in the static library: the compiler
+// then makes one piece of it and the door with a lent table, which takes 0.9 of the time.
+use crate::counters::Choice;
+use crate::counters::choose;
+use crate::judging::Judged;
+use crate::judging::judge;
+use crate::judging::judge_burst;
+use crate::placing::Place;
+use crate::placing::place_by;
+use crate::searching::Answer;
+use crate::searching::bare;
+use crate::searching::compare_bucket;
+use crate::searching::compare_side;
+use crate::searching::driver_number;
+use settings::Settings;
+use settings::counts::ClippedCount;
+ghost use mathlib.Core.Path.{_≡_};
+ghost use mathlib.Core.Bool.{true, cond};
+ghost use Prim.Native.Nat.{ℕ, _*_, _<_};
+ghost use lib.ListN.{length, getD};
+ghost use Rattle.theory.specs.Settings.{allowed, card-of, clipped-length};
+ghost use Rattle.theory.specs.Lookup as plain;
+ghost use Rattle.hash.specs.Table.{H-by};
+ghost use Rattle.settings.specs.Checked.{paper};
+ghost use Rattle.lookup.specs.Places as places;
+ghost use Rattle.lookup.specs.Places.{place-by, ChoiceFits};
+ghost use Rattle.lookup.specs.Answers.{answer-of, search-of};
+ghost use Rattle.lookup.specs.Bursts.{key-at, each, packed-of, unpacked-of, choice-at, number-by, Burst, burst-of};
+
+fn pick(test: bool, a: u64, b: u64) -> u64
+    ensures { λ r. ⌜ r ≡ cond test a b ⌝ }
+{
+    if test { a } else { b }
+}
+
+// What the counters say, as one number, and back.
+fn packed(choice: Choice) -> u64
+    requires { ⌜ (choice .least .0 < 65536) × (choice .bucket < 65536) ⌝ }
+    ensures { λ r. ⌜ r ≡ packed-of choice ⌝ }
+{
+    pick(choice.above, 4294967296, 0) + choice.least.rank(choice.bucket as u64)
+}
+
+fn unpacked(x: u64) -> Choice
+    ensures { λ r. ⌜ r ≡ unpacked-of x ⌝ }
+{
+    Choice {
+        above: 4294967295 < x,
+        least: ClippedCount::of_rank(x % 4294967296),
+        bucket: (x % 65536) as usize,
+    }
+}
+
+// What is left of a search once the counters are read.
+fn search_chosen(s: Settings, choice: Choice, buckets: &[u8], side: &[u8], key: &[u8]) -> Answer
+    requires { ⌜ places.Judged (paper s) (now buckets) (now side) × ChoiceFits (paper s) choice × (length (now key) ≡ card-of (paper s) .width) ⌝ }
+    ensures { λ r. ⌜ answer-of r ≡ plain.answer-at (card-of (paper s)) (now (key .entry)) (place-by (card-of (paper s)) choice (now (buckets .entry)) (now (side .entry))) ⌝ }
+{
+    let place = place_by(s, choice, buckets, side);
+    match place {
+        Place::Invalid => bare(5),
+        Place::Nowhere => bare(100),
+        Place::Bucket { from, records } => compare_bucket(s, buckets, from, records, key),
+        Place::Side { records, read } => compare_side(s, side, records, read, key),
+    }
+}
+
+// The first pass: what the table gives for each key.
+fn hash_all(s: Settings, table: &[u64], keys: &[u8], answers: &mut [u64])
+    requires { ⌜ (length (now table) ≡ 256 * card-of (paper s) .width) × (length (now keys) ≡ length (now answers) * card-of (paper s) .width) ⌝ }
+    ensures { λ _. ⌜ now (answers .exit) ≡ each (λ j. H-by (now (table .entry)) (key-at (card-of (paper s) .width) (now (keys .entry)) j)) (length (now (answers .entry))) ⌝ }
+{
+    let width = s.width();
+    let mut i: usize = 0;
+    let mut at: usize = 0;
+    while i < answers.len() {
+        let end = at + width;
+        answers[i] = hash::h_lent(table, &keys[at..end]);
+        at = end;
+        i += 1;
+    }
+}
+
+// The second pass: what the counters say of each key, by its H.
+fn choose_all(s: Settings, clipped: &[u8], answers: &mut [u64])
+    requires { ⌜ (allowed (paper s) ≡ true) × (length (now clipped) ≡ clipped-length (card-of (paper s))) ⌝ }
+    ensures { λ _. ⌜ now (answers .exit) ≡ each (λ j. packed-of (choice-at (paper s) (now (clipped .entry)) (getD (now (answers .entry)) j 0))) (length (now (answers .entry))) ⌝ }
+{
+    let mut i: usize = 0;
+    while i < answers.len() {
+        answers[i] = packed(choose(s, answers[i], clipped));
+        i += 1;
+    }
+}
+
+// The third pass: the driver's number of each key.
+fn answer_all(s: Settings, buckets: &[u8], side: &[u8], keys: &[u8], answers: &mut [u64])
+    requires { ⌜ places.Judged (paper s) (now buckets) (now side) × (length (now keys) ≡ length (now answers) * card-of (paper s) .width)
+        × ((j : ℕ) → j < length (now answers) → ChoiceFits (paper s) (unpacked-of (getD (now answers) j 0))) ⌝ }
+    ensures { λ _. ⌜ now (answers .exit) ≡ each (λ j. number-by (paper s) (now (buckets .entry)) (now (side .entry))
+        (key-at (card-of (paper s) .width) (now (keys .entry)) j) (getD (now (answers .entry)) j 0)) (length (now (answers .entry))) ⌝ }
+{
+    let width = s.width();
+    let mut i: usize = 0;
+    let mut at: usize = 0;
+    while i < answers.len() {
+        let end = at + width;
+        let choice = unpacked(answers[i]);
+        answers[i] = driver_number(search_chosen(s, choice, buckets, side, &keys[at..end]));
+        at = end;
+        i += 1;
+    }
+}
+
+// Search for many keys with a lent table of the hash: 1; 2; 3; else the driver's number of each key.
+pub fn search_burst(
+    table: &[u64],
+    p: u64,
+    k: u64,
+    room: u64,
+    top: u64,
+    capacity: u64,
+    side_places: u64,
+    clipped: &[u8],
+    buckets: &[u8],
+    side: &[u8],
+    keys: &[u8],
+    answers: &mut [u64],
+) -> u32
+    ensures { λ r. ⌜ _≡_ {A = Burst} (record { number = r; answers = now (answers .exit) })
+        (burst-of (now (table .entry)) (record { p = p; k = k; room = room; top = top; capacity = capacity; side-places = «side_places» })
+        (now (clipped .entry)) (now (buckets .entry)) (now (side .entry)) (now (keys .entry)) (now (answers .entry))) ⌝ }
+{
+    let n = answers.len();
+    let judged = judge_burst(
+        table,
+        p,
+        k,
+        room,
+        top,
+        capacity,
+        side_places,
+        clipped,
+        buckets,
+        side,
+        keys,
+        n,
+    );
+    match judged {
+        Judged::Refused(number) => number,
+        Judged::Ready(s) => {
+            hash_all(s, table, keys, answers);
+            choose_all(s, clipped, answers);
+            answer_all(s, buckets, side, keys, answers);
+            0
+        }
+    }
+}
+
+// The driver's number of one key, hashed from the rows.
+pub fn search_number(
+    p: u64,
+    k: u64,
+    room: u64,
+    top: u64,
+    capacity: u64,
+    side_places: u64,
+    clipped: &[u8],
+    buckets: &[u8],
+    side: &[u8],
+    key: &[u8],
+) -> u64
+    ensures { λ r. ⌜ r ≡ search-of (record { p = p; k = k; room = room; top = top; capacity = capacity; side-places = «side_places» })
+        (now (clipped .entry)) (now (buckets .entry)) (now (side .entry)) (now (key .entry)) ⌝ }
+{
+    let judged = judge(
+        p,
+        k,
+        room,
+        top,
+        capacity,
+        side_places,
+        clipped,
+        buckets,
+        side,
+        key,
+    );
+    match judged {
+        Judged::Refused(number) => driver_number(bare(number)),
+        Judged::Ready(s) => {
+            let mut answers = [0u64; 1];
+            answers[0] = hash::h_rows(key);
+            choose_all(s, clipped, &mut answers[..]);
+            answer_all(s, buckets, side, key, &mut answers[..]);
+            answers[0]
+        }
+    }
+}
