@@ -9,9 +9,9 @@ use Rattle.theory.specs.Layout.{Areas}
 use Rattle.theory.specs.Lookup.{Answer, driver-number}
 use Rattle.theory.specs.Ledger.{search, tally, Totals, Step, answered, totalled}
 use Rattle.theory.specs.Calls.{perform}
-use Rattle.lookup.specs.Answers.{lookup-areas, LentAnswer}
+use Rattle.lookup.specs.Answers.{driver-of, lookup-areas, search-of, LentAnswer}
 use Rattle.lookup.specs.Tallies.{read-areas}
-use Rattle.card.specs.Reading.{driver-of, search-of, SearchedLent, totals-in, tally-of}
+use Rattle.card.specs.Reading.{SearchedLent, totals-in, tally-of}
 
 module _ (t : Settings) (clipped buckets side key : List ℕ) (x : Answer) (n : ℕ) (number : n ≡ driver-number x) where
   pub searched : record { reply = answered x; state = lookup-areas clipped buckets side } ≡ perform t 0 (search key) (lookup-areas clipped buckets side)

@@ -1,20 +1,12 @@
 // The doors that only read: search and tally.
-use lookup::searching::Answer;
 use lookup::tallying::Totals;
 ghost use mathlib.Core.Path.{_≡_};
 ghost use mathlib.Core.List.{[], _∷_};
 ghost use lib.ListN.{length};
-ghost use Rattle.theory.specs.Lookup.{driver-number};
-ghost use Rattle.lookup.specs.Answers.{answer-of};
+ghost use Rattle.lookup.specs.Answers.{search-of};
+ghost use Rattle.lookup.specs.Bursts.{Burst, burst-of};
 ghost use Rattle.card.specs.Doors.{Filled};
-ghost use Rattle.card.specs.Reading.{search-of, SearchedLent, tally-of};
-
-// "answer × 2^32 + class"
-fn one_number(a: Answer) -> u64
-    ensures { λ r. ⌜ r ≡ driver-number (answer-of a) ⌝ }
-{
-    (a.number as u64) * 4294967296 + (a.class as u64)
-}
+ghost use Rattle.card.specs.Reading.{SearchedLent, tally-of};
 
 // The forwarding driver's search, whole by itself.
 #[no_mangle]
@@ -32,7 +24,7 @@ pub extern "C" fn flow_search(
 ) -> u64
     ensures { λ r. ⌜ r ≡ search-of (record { p = p; k = k; room = room; top = top; capacity = capacity; side-places = «side_places» }) (now (clipped .entry)) (now (buckets .entry)) (now (side .entry)) (now (key .entry)) ⌝ }
 {
-    one_number(lookup::searching::search(
+    lookup::bursts::search_number(
         p,
         k,
         room,
@@ -43,7 +35,7 @@ pub extern "C" fn flow_search(
         buckets,
         side,
         key,
-    ))
+    )
 }
 
 // The same with a table that the driver keeps: one read of it a byte.
@@ -63,7 +55,7 @@ pub extern "C" fn flow_search_lent(
 ) -> u64
     ensures { λ r. ⌜ SearchedLent (now (table .entry)) (record { p = p; k = k; room = room; top = top; capacity = capacity; side-places = «side_places» }) (now (clipped .entry)) (now (buckets .entry)) (now (side .entry)) (now (key .entry)) r ⌝ }
 {
-    one_number(lookup::searching::search_lent(
+    lookup::searching::driver_number(lookup::searching::search_lent(
         table,
         p,
         k,
@@ -76,6 +68,42 @@ pub extern "C" fn flow_search_lent(
         side,
         key,
     ))
+}
+
+// Many keys at once, with a table that the driver keeps: 1; 2; 3 if `keys` is not of as many keys as there are answers; else each answer is the number of its key.
+#[no_mangle]
+pub extern "C" fn flow_search_burst(
+    table: &[u64],
+    p: u64,
+    k: u64,
+    room: u64,
+    top: u64,
+    capacity: u64,
+    side_places: u64,
+    clipped: &[u8],
+    buckets: &[u8],
+    side: &[u8],
+    keys: &[u8],
+    answers: &mut [u64],
+) -> u32
+    ensures { λ r. ⌜ _≡_ {A = Burst} (record { number = r; answers = now (answers .exit) })
+        (burst-of (now (table .entry)) (record { p = p; k = k; room = room; top = top; capacity = capacity; side-places = «side_places» })
+        (now (clipped .entry)) (now (buckets .entry)) (now (side .entry)) (now (keys .entry)) (now (answers .entry))) ⌝ }
+{
+    lookup::bursts::search_burst(
+        table,
+        p,
+        k,
+        room,
+        top,
+        capacity,
+        side_places,
+        clipped,
+        buckets,
+        side,
+        keys,
+        answers,
+    )
 }
 
 // Records in buckets, records in the side store, buckets marked 255, fill.

@@ -87,8 +87,9 @@ fn choose_all(s: Settings, clipped: &[u8], answers: &mut [u64])
     requires { ⌜ (allowed (paper s) ≡ true) × (length (now clipped) ≡ clipped-length (card-of (paper s))) ⌝ }
     ensures { λ _. ⌜ now (answers .exit) ≡ each (λ j. packed-of (choice-at (paper s) (now (clipped .entry)) (getD (now (answers .entry)) j 0))) (length (now (answers .entry))) ⌝ }
 {
+    let n = answers.len();
     let mut i: usize = 0;
-    while i < answers.len() {
+    while i < n {
         answers[i] = packed(choose(s, answers[i], clipped));
         i += 1;
     }
@@ -103,12 +104,12 @@ fn answer_all(s: Settings, buckets: &[u8], side: &[u8], keys: &[u8], answers: &m
 {
     let width = s.width();
     let mut i: usize = 0;
-    let mut at: usize = 0;
+    let mut from: usize = 0;
     while i < answers.len() {
-        let end = at + width;
+        let to = from + width;
         let choice = unpacked(answers[i]);
-        answers[i] = driver_number(search_chosen(s, choice, buckets, side, &keys[at..end]));
-        at = end;
+        answers[i] = driver_number(search_chosen(s, choice, buckets, side, &keys[from..to]));
+        from = to;
         i += 1;
     }
 }

@@ -39,7 +39,7 @@ returns-4 c =
     let wide : length (start .args .key .now) ≡ 13 = c .before .if3 .left in
     rw (one-stored (start .args .h .now) (c .h-lent .result) (c .before .before .if2 .left))
     (lent-0 (start .args .key .now) (start .args .h .now) (start .args .lent .now) (c .before .before .before .if1 .left) (c .before .before .if2 .left) wide (c .h-lent .result)
-    (λ right. c .h-lent .ensures (subst (λ (w : ℕ). TableRight w (start .args .lent .now)) (sym wide) right)))
+    (λ right. c .h-lent .ensures .1 (subst (λ (w : ℕ). TableRight w (start .args .lent .now)) (sym wide) right)))
 
 pub flow-hash-lent-spec : {M : Type 1} → statement M
 flow-hash-lent-spec =

@@ -16,15 +16,15 @@ use Rattle.lookup.proofs.BurstLaws.{Passed, passed-none, passed-more, p
 use Rattle.lookup.proofs.bursts.answer_all.Statement.{statement}
 use Rattle.lookup.proofs.bursts.answer_all.Tie as tie
 
-record Answered (t : plain.Settings) (buckets side keys before : List ℕ) (width : ℕ) (now : List ℕ) (i at : ℕ) : Type 0 where
+record Answered (t : plain.Settings) (buckets side keys before : List ℕ) (width : ℕ) (now : List ℕ) (i from : ℕ) : Type 0 where
   passed : Passed (λ j. number-by t buckets side (key-at width keys j) (getD before j 0)) before i now
-  here : at ≡ i * width
+  here : from ≡ i * width
 
 abbrev Inv-loop : tie.InvT-loop
-Inv-loop s buckets side keys answers₀ width i₀ at₀ answers i at = Answered (paper s) buckets side keys answers₀ width answers i at
+Inv-loop s buckets side keys answers₀ width i₀ from₀ answers i from = Answered (paper s) buckets side keys answers₀ width answers i from
 
 abbrev μ-loop : tie.MeasureT-loop
-μ-loop s buckets side keys answers₀ width i₀ at₀ answers i at = length answers₀ - i
+μ-loop s buckets side keys answers₀ width i₀ from₀ answers i from = length answers₀ - i
 
 -- ---- a key is at hand
 module _ (c : tie.In-loop Inv-loop μ-loop) where
@@ -40,9 +40,9 @@ module _ (c : tie.In-loop Inv-loop μ-loop) where
   abbrev w : ℕ
   w = card-of (paper (start .args .s)) .width
 
-  inside : c .before .loop .at + width ≤ length (start .args .keys .now)
+  inside : c .before .loop .from + width ≤ length (start .args .keys .now)
   inside =
-      key-within w width (c .before .loop .at) (c .before .loop .i) (measured .width .ensures) (c .before .loop .inv .here)
+      key-within w width (c .before .loop .from) (c .before .loop .i) (measured .width .ensures) (c .before .loop .inv .here)
       (length (start .args .answers .now)) (start .args .keys .now) (start .pre .1) (omega (arith, c .before .loop .inv .passed .long))
 
 -- ---- its choice is read
@@ -65,7 +65,7 @@ search-chosen-requires : tie.Need-search-chosen-requires Inv-loop μ-loop
 search-chosen-requires c κs =
     let at = c .before in
     let h = hand at in
-    let size = key-size (width h) (h .before .loop .at) (start h .args .keys .now) (inside h) in
+    let size = key-size (width h) (h .before .loop .from) (start h .args .keys .now) (inside h) in
     (start h .pre .0, fits at, size ∙ measured h .width .ensures)
 
 loop-again : tie.Need-loop-again Inv-loop μ-loop
@@ -74,11 +74,11 @@ loop-again c =
     let h = hand read in
     let l = h .before .loop in
     let args = start h .args in
-    let key = key-lent (w h) (width h) (l .at) (l .i) (measured h .width .ensures) (l .inv .here) (args .keys .now) in
+    let key = key-lent (w h) (width h) (l .from) (l .i) (measured h .width .ensures) (l .inv .here) (args .keys .now) in
     let e = number-from (paper (args .s)) (args .buckets .now) (args .side .now) _ _ _ _ _ _ (c .driver-number .ensures) (c .before .search-chosen .ensures) key (is-choice read) in
     record {
       passed = passed-more _ _ (l .i) (l .answers) (l .inv .passed) (c .driver-number .result) (h .loop-test .taken) e;
-      here = next-key (w h) (width h) (l .at) (l .i) (measured h .width .ensures) (l .inv .here);
+      here = next-key (w h) (width h) (l .from) (l .i) (measured h .width .ensures) (l .inv .here);
     }
 
 returns : tie.Need-returns Inv-loop μ-loop

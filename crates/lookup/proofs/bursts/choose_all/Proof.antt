@@ -11,10 +11,10 @@ use Rattle.lookup.proofs.bursts.choose_all.Statement.{statement}
 use Rattle.lookup.proofs.bursts.choose_all.Tie as tie
 
 abbrev Inv-loop : tie.InvT-loop
-Inv-loop s clipped answers₀ i₀ answers i = Passed (λ j. packed-of (choice-at (paper s) clipped (getD answers₀ j 0))) answers₀ i answers
+Inv-loop s clipped answers₀ n i₀ answers i = Passed (λ j. packed-of (choice-at (paper s) clipped (getD answers₀ j 0))) answers₀ i answers
 
 abbrev μ-loop : tie.MeasureT-loop
-μ-loop s clipped answers₀ i₀ answers i = length answers₀ - i
+μ-loop s clipped answers₀ n i₀ answers i = n - i
 
 -- ---- the choice of the H that stands there
 module _ (c : tie.After-choose Inv-loop μ-loop) where
@@ -35,7 +35,7 @@ module _ (c : tie.After-choose Inv-loop μ-loop) where
 loop-again : tie.Need-loop-again Inv-loop μ-loop
 loop-again c =
     let l = at (c .before) .before .loop in
-    passed-more _ _ (l .i) (l .answers) (l .inv) (c .packed .result) (at (c .before) .loop-test .taken) (c .packed .ensures ∙ ap packed-of (is-choice (c .before)))
+    passed-more _ _ (l .i) (l .answers) (l .inv) (c .packed .result) (omega (arith, l .inv .long)) (c .packed .ensures ∙ ap packed-of (is-choice (c .before)))
 
 pub choose-all-spec : {M : Type 1} → statement M
 choose-all-spec =
@@ -54,4 +54,4 @@ choose-all-spec =
     (λ c. omega arith)
     loop-again
     (λ c. c .before .loop .inv .long)
-    (λ c. passed-all _ _ (c .before .loop .i) (c .before .loop .answers) (c .before .loop .inv) (c .loop-test .left)))
+    (λ c. passed-all _ _ (c .before .loop .i) (c .before .loop .answers) (c .before .loop .inv) (omega (arith, c .before .loop .inv .long))))
