@@ -3,19 +3,21 @@ use hash::Numbers;
 use settings::Settings;
 use settings::counts::TrueCount;
 ghost use mathlib.Core.Path.{_≡_};
-ghost use mathlib.Core.Bool.{false, not, cond, _&&_};
+ghost use mathlib.Core.Bool.{true, false, not, cond, _&&_};
+ghost use mathlib.Core.List.{List};
 ghost use Prim.Native.Nat.{ℕ, _+_, _*_, _<_, _≤_, min};
 ghost use lib.Dec.{eqb};
 ghost use lib.ListN.{length, take, drop, replicate};
 ghost use Rattle.theory.specs.Lists.{filter};
 ghost use Rattle.theory.specs.Records.{records};
-ghost use Rattle.theory.specs.Settings.{card-of};
+ghost use Rattle.theory.specs.Hash.{H as H-of};
+ghost use Rattle.theory.specs.Settings.{allowed, card-of};
 ghost use Rattle.theory.specs.Placing.{true-count, all-top, chosen, choosers};
 ghost use Rattle.theory.specs.Ledger.{side-need-of};
 ghost use Rattle.settings.specs.Checked.{paper};
 ghost use Rattle.hash.specs.Numbering.{list-of, Holds};
 ghost use Rattle.placing.specs.Ready.{Ready};
-ghost use Rattle.placing.specs.Counting.{Within, times, low-of, pick-of, picked};
+ghost use Rattle.placing.specs.Counting.{Within, times};
 ghost use Rattle.placing.specs.Worked.{nth, belongs-by, Worked, side-by-choice, parts};
 
 // "A key's bucket numbers are its first k hashes, repeats dropped."
@@ -70,53 +72,45 @@ pub fn count_more(s: Settings, t: &[u64], counts: &mut [u16], area: &[u8], n: us
     }
 }
 
-// The least so far of the top count and of the counts seen, and the lowest bucket with it.
-struct Best {
-    low: usize,
-    bucket: usize,
-}
-
-// One bucket more, with its true count.
-fn better(best: Best, b: usize, count: TrueCount) -> Best
-    ensures { λ r. ⌜ (r .low ≡ min (count .0) (best .low)) × (r .bucket ≡ picked (best .low) (best .bucket) b (count .0)) ⌝ }
-{
-    let v = count.0 as usize;
-    if v < best.low {
-        return Best { low: v, bucket: b };
-    }
-    if v == best.low {
-        if b < best.bucket {
-            return Best { low: v, bucket: b };
-        }
-    }
-    best
-}
-
-// "of its bucket numbers with the least count, the lowest"; the least count is top where all are top or more.
-fn best_of(top: usize, counts: &[u16], ns: Numbers) -> Best
-    requires { ⌜ Within ns (length (now counts)) ⌝ }
-    ensures { λ r. ⌜ (r .low ≡ low-of top (nth (now (counts .entry))) (list-of ns)) × (r .bucket ≡ pick-of (length (now (counts .entry))) top (nth (now (counts .entry))) (list-of ns)) ⌝ }
-{
-    let at = ns.at;
-    let n = ns.count;
-    let mut best = Best {
-        low: top,
-        bucket: counts.len(),
-    };
-    let mut i: usize = 0;
-    while i < n {
-        let b = at[i] as usize;
-        let count = counts[b];
-        best = better(best, b, TrueCount(count));
-        i += 1;
-    }
-    best
-}
-
 // Where a key goes: to the side if all its counts are top or more, else to the bucket that it chooses.
 pub struct Choice {
     pub all_top: bool,
     pub bucket: usize,
+}
+
+fn lower(a: u64, b: u64) -> u64
+    ensures { λ r. ⌜ r ≡ min a b ⌝ }
+{
+    if a < b { a } else { b }
+}
+
+// The choice of a key whose H is h: the least rank has the least count, or top where all are top or more, and the lowest bucket with it.
+// No branch; repeated hashes are read again and alter nothing.
+fn choose_at(s: Settings, h: u64, counts: &[u16]) -> Choice
+    requires { ⌜ (allowed (paper s) ≡ true) × (length (now counts) ≡ card-of (paper s) .buckets) ⌝ }
+    ensures { λ r. ⌜ ((key : List ℕ) → h ≡ H-of key
+        → (r .«all_top» ≡ all-top (card-of (paper s)) (nth (now (counts .entry))) key)
+        × (r .bucket ≡ chosen (card-of (paper s)) (nth (now (counts .entry))) key)) ⌝ }
+{
+    let k = s.k;
+    let m = s.buckets() as u64;
+    let top = s.top as u64;
+    // H from hash j on
+    let mut rest = h;
+    let mut best: u64 = top * 65536 + m;
+    let mut j: usize = 0;
+    while j < k {
+        let b = rest % m;
+        let at = b as usize;
+        let rank = TrueCount(counts[at]).rank(b);
+        best = lower(rank, best);
+        rest = rest / 65536;
+        j += 1;
+    }
+    Choice {
+        all_top: best / 65536 == top,
+        bucket: (best % 65536) as usize,
+    }
 }
 
 // A key's choice by true counts.
@@ -124,13 +118,8 @@ pub fn choose(s: Settings, t: &[u64], counts: &[u16], key: &[u8]) -> Choice
     requires { ⌜ Ready s (now t) × (length (now counts) ≡ card-of (paper s) .buckets) × (length (now key) ≡ card-of (paper s) .width) ⌝ }
     ensures { λ r. ⌜ (r .«all_top» ≡ all-top (card-of (paper s)) (nth (now (counts .entry))) (now (key .entry))) × (r .bucket ≡ chosen (card-of (paper s)) (nth (now (counts .entry))) (now (key .entry))) ⌝ }
 {
-    let ns = numbers(s, t, key);
-    let top = s.top;
-    let best = best_of(top, counts, ns);
-    Choice {
-        all_top: best.low == top,
-        bucket: best.bucket,
-    }
+    let h = hash::h_lent(t, key);
+    choose_at(s, h, counts)
 }
 
 // One more for the chosen bucket, if there is one.

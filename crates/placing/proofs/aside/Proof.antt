@@ -1,9 +1,7 @@
 -- `placing::aside` meets its contract: the choosers of a bucket stand m places after its count.
-use mathlib.Core.Path.{_≡_, sym, ap, _∙_}
-use Prim.Native.Nat.{ℕ}
+use mathlib.Core.Path.{sym, _∙_}
 use borrow.Author.Needs.{needs}
 use borrow.Author.Tests.{eq-eqb, ne-eqb}
-use lib.Dec.{ltb}
 use lib.Seq.{getD-drop}
 use Rattle.settings.specs.Checked.{paper}
 use Rattle.settings.proofs.Laws.{room-is}
