@@ -33,6 +33,10 @@ module _ {A : Type 0} (p : A → Bool) where
 take-more : (l : List ℕ) (i : ℕ) → i < length l → take (i + 1) l ≡ take i l ++ (getD l i 0 ∷ [])
 take-more l i h = rw (add-one i) (take-suc l i 0 h)
 
+pub count-take : (p : ℕ → Bool) (l : List ℕ) (i : ℕ) → i < length l
+    → length (filter p (take (i + 1) l)) ≡ length (filter p (take i l)) + cond (p (getD l i 0)) 1 0
+count-take p l i h = rw (take-more l i h) (count-end p (take i l) (getD l i 0))
+
 pub all-in : (P : ℕ → Type 0) (l : List ℕ) (n i : ℕ) → All P (take n l) → i < n → n ≤ length l → P (getD l i 0)
 all-in P l n i a h e = rw (getD-take n l i 0 h) at (all-at P (take n l) i 0 (rw (length-take-le n l e) h) a)
 
