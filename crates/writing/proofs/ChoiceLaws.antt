@@ -1,36 +1,21 @@
 -- What a kept choice says of its record: whether it belongs to the side and, where it does not, the bucket that it chooses.
-use mathlib.Core.Path.{_≡_, refl, ap, _∙_}
+use mathlib.Core.Path.{_≡_, ap, _∙_}
 use mathlib.Core.List.{List}
 use Prim.Native.Nat.{ℕ, zero, suc, _+_, _*_, _<_, _≤_}
 use native.Mathlib.Nat.{zero-mul, suc-mul, add-comm, le-of-suc-le-suc}
 use native.Mathlib.Omega.{arith}
-use borrow.Author.Tests.{eq-eqb, ne-eqb}
 use lib.ListN.{length, take, drop, length-map}
 use lib.Seq.{drop-drop}
 use Rattle.theory.specs.Records.{entries, record-at, records}
 use Rattle.theory.specs.Settings.{Card, card-of}
-use Rattle.theory.specs.Placing.{true-count, all-top, chosen}
-use Rattle.theory.proofs.ListLaws.{by-test}
+use Rattle.theory.specs.Placing.{true-count}
 use Rattle.theory.proofs.ByteLaws.{length-records}
-use Rattle.theory.proofs.SettingsLaws.{Sound, sound}
-use Rattle.theory.proofs.PlacingLaws.{chosen-below}
+use Rattle.theory.proofs.SettingsLaws.{sound}
 use Rattle.settings.specs.declared.Settings.{Settings}
 use Rattle.settings.specs.Checked.{paper}
 use Rattle.placing.specs.Worked.{nth, belongs-by, choice-by, choices-by, side-by-choice}
-use Rattle.placing.proofs.WorkLaws.{counts-are}
+use Rattle.placing.proofs.WorkLaws.{counts-are, side-choice, kept-within}
 use Rattle.writing.specs.Laying.{Laying}
-
--- ---- the choice of a key by counts c
-module _ {s : Card} (ok : Sound s) (c : ℕ → ℕ) (k : List ℕ) where
-  choice-most : choice-by s c k ≤ s .buckets
-  unfolding choice-by
-  choice-most = by-test (all-top s c k) (λ e. rw e (omega arith)) (λ e. rw e (omega (arith, chosen-below s ok c k e)))
-
-  choice-side : (d : ℕ → ℕ) → side-by-choice s (s .buckets) d (choice-by s c k) ≡ belongs-by s c d k
-  unfolding choice-by belongs-by
-  choice-side d =
-      by-test (all-top s c k) (λ e. rw (e, eq-eqb (s .buckets) (s .buckets) refl))
-      (λ e. rw (e, ne-eqb (chosen s c k) (s .buckets) (λ q. omega (arith, chosen-below s ok c k e))))
 
 -- ---- the choices of n records in an area, whose keys have w bytes
 abbrev pub key-at : ℕ → ℕ → List ℕ → List ℕ
@@ -49,16 +34,16 @@ module _ {s : Settings} {m n : ℕ} {work kept area : List ℕ} (h : Laying s m 
   pub kept-length : length kept ≡ n
   kept-length = ap length (h .placed .choices) ∙ simp (length-map, length-records)
 
-  module _ (i : ℕ) (below : i < n) where
-    pub kept-is : nth kept i ≡ choice-by (card-of (paper s)) (nth (take m work)) (key-at (card-of (paper s) .width) i area)
-    kept-is =
+  module _ (i : ℕ) where
+    pub kept-most : nth kept i ≤ m
+    kept-most = kept-within (sound (paper s) (h .ok)) (h .buckets) (h .placed) i
+
+    pub kept-is : i < n → nth kept i ≡ choice-by (card-of (paper s)) (nth (take m work)) (key-at (card-of (paper s) .width) i area)
+    kept-is below =
         let l = records (card-of (paper s) .width) n area in
         rw (counts-are (card-of (paper s)) m l work (h .placed .worked))
         (ap (λ (k : List ℕ). nth k i) (h .placed .choices) ∙ choice-at (card-of (paper s)) (true-count (card-of (paper s)) l) _ n i area below)
 
-    pub kept-most : nth kept i ≤ m
-    kept-most = rw (kept-is, h .buckets) (choice-most (sound (paper s) (h .ok)) _ _)
-
-    pub kept-side : side-by-choice (card-of (paper s)) m (nth (drop m work)) (nth kept i)
+    pub kept-side : i < n → side-by-choice (card-of (paper s)) m (nth (drop m work)) (nth kept i)
         ≡ belongs-by (card-of (paper s)) (nth (take m work)) (nth (drop m work)) (key-at (card-of (paper s) .width) i area)
-    kept-side = rw (kept-is, h .buckets) (choice-side (sound (paper s) (h .ok)) _ _ _)
+    kept-side below = rw (kept-is below) (side-choice (card-of (paper s)) (sound (paper s) (h .ok)) m (h .buckets) _ _ _)

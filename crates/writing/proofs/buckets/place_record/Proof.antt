@@ -44,7 +44,7 @@ module _ (c : tie.Start) where
   is-kept = omega (arith, c .pre .1, kept-length (c .pre .0))
 
   choice-most : choice ≤ c .args .m
-  choice-most = kept-most (c .pre .0) (c .args .i) (c .pre .1)
+  choice-most = kept-most (c .pre .0) (c .args .i)
 
 -- ---- the area's bytes are known
 module _ (c : tie.After-shared-slice-known3) where

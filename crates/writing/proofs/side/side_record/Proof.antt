@@ -92,7 +92,7 @@ next-free z size free j k e f g = rw (e, f, g, mul-add, mul-one)
 aside-requires : tie.Need-aside-requires
 aside-requires c κs =
     let start = entry (c .before) in
-    (start .pre .0 .buckets, start .pre .0 .work-length, kept-most (start .pre .0) (start .args .i) (start .pre .1))
+    (start .pre .0 .buckets, start .pre .0 .work-length, kept-most (start .pre .0) (start .args .i))
 
 returns : tie.Need-returns
 returns c =
