@@ -78,7 +78,8 @@ module _ {c : Card} {l : List Record} {a : List ℕ} (w : Written c l a) where
       rw (et, ec, eb, es, all, w .is)
 
 -- ---- what a plan says of the list that it makes
-module _ {s : Settings} {m : ℕ} {edit : Edit} {k : List ℕ} {x : ℕ} {ledger work kept : List ℕ} {plan : Plan} (p : Planned s m edit k x ledger work kept plan) where
+module _ {s : Settings} {m : ℕ} {edit : Edit} {k : List ℕ} {x : ℕ} {ledger work kept : List ℕ} {plan : Plan}
+    (p : Planned s m edit k x ledger work kept plan) where
   abbrev flows : List Record
   flows = ledger-records (card-of (paper s)) ledger
 

@@ -8,7 +8,7 @@ ghost use Prim.Native.Nat.{_+_, _-_, _≤_};
 ghost use lib.ListN.{length, take, drop};
 ghost use Rattle.theory.specs.Settings.{card-of, record-size, work-length};
 ghost use Rattle.theory.specs.Records.{Record, records, record-bytes};
-ghost use Rattle.theory.specs.Ledger.{side-need-of, next};
+ghost use Rattle.theory.specs.Ledger.{side-need-of};
 ghost use Rattle.theory.specs.Calls.{ledger-records};
 ghost use Rattle.theory.specs.Calls as calls;
 ghost use Rattle.theory.specs.Calls.{perform};
@@ -20,7 +20,8 @@ ghost use Rattle.ledger.specs.Edits.{ValidLedger};
 ghost use Rattle.theory.proofs.ByteLaws.{Fit};
 ghost use Rattle.placing.specs.Ready.{Ready};
 ghost use Rattle.placing.specs.Worked.{Placed};
-ghost use Rattle.update.specs.Editing.{call-of, edited, brings, leaves-out, by-list, Fits, judged-number, PlacingNew, Judging, Planned, Making, lent, before, after, replied};
+ghost use Rattle.update.specs.Editing.{lent, before, after, replied, call-of, edited, brings, leaves-out, by-list, Fits, judged-number, list-after};
+ghost use Rattle.update.specs.Editing.{PlacingNew, Judging, Planned, Making};
 
 // Add, change or remove.
 pub enum Edit {
@@ -198,7 +199,7 @@ fn write_new(
 )
     requires { ⌜ Making s m edit (now key) class (now «record») (lent ledger «true_counts» clipped buckets side) (now work) (now kept) plan ⌝ }
     ensures { λ _. ⌜ after ledger «true_counts» clipped buckets side
-        ≡ layout (card-of (paper s)) (next (card-of (paper s)) (call-of edit (now (key .entry)) class) (ledger-records (card-of (paper s)) (now (ledger .entry)))) ⌝ }
+        ≡ layout (card-of (paper s)) (list-after s edit (now (key .entry)) class (now (ledger .entry))) ⌝ }
 {
     let at = plan.at;
     let count = plan.count;
@@ -217,13 +218,6 @@ fn write_new(
         count,
         need,
     );
-}
-
-// Places for the choices of as many records as a list can have.
-fn new_choices() -> [u16; Settings::CAPACITY_MOST as usize]
-    ensures { λ r. ⌜ length r ≡ 4096 ⌝ }
-{
-    [0u16; Settings::CAPACITY_MOST as usize]
 }
 
 // A buffer for the longest record.
@@ -269,7 +263,7 @@ fn update_lent(
     let m = s.buckets();
     let size = s.record_size();
     let buffer = record_of(key, class, size);
-    let mut kept = new_choices();
+    let mut kept = [0u16; Settings::CAPACITY_MOST as usize];
     let plan = judge(
         s,
         t,
@@ -324,7 +318,8 @@ pub fn update(
     class: u32,
 ) -> u32
     ensures { λ r. ⌜ replied r (after ledger «true_counts» clipped buckets side)
-        ≡ perform (record { p = p; k = k; room = room; top = top; capacity = capacity; side-places = «side_places» }) (length (now (work .entry))) (call-of edit (now (key .entry)) class)
+        ≡ perform (record { p = p; k = k; room = room; top = top; capacity = capacity; side-places = «side_places» }) (length (now (work .entry)))
+        (call-of edit (now (key .entry)) class)
         (before ledger «true_counts» clipped buckets side) ⌝ }
 {
     let checked = Settings::new(p, k, room, top, capacity, side_places);

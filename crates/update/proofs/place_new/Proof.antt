@@ -10,7 +10,6 @@ use Rattle.theory.specs.Records.{Record, records, record-bytes}
 use Rattle.theory.proofs.SettingsLaws.{sound}
 use Rattle.theory.proofs.ByteLaws.{Fit}
 use Rattle.settings.specs.Checked.{paper}
-use Rattle.settings.proofs.Laws.{width-is}
 use Rattle.placing.specs.Worked.{Placed}
 use Rattle.placing.proofs.WorkLaws.{front-length, front-take, kept-within}
 use Rattle.update.specs.Editing.{edited, brings, leaves-out}

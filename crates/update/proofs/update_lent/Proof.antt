@@ -4,7 +4,7 @@ use Prim.Native.Nat.{ℕ, _+_, _≤_}
 use native.Mathlib.Omega.{arith}
 use lib.ListN.{length, take}
 use lib.Seq.{length-take-le}
-use Rattle.theory.specs.Settings.{Settings, Card, card-of}
+use Rattle.theory.specs.Settings.{Settings, card-of}
 use Rattle.theory.specs.Layout.{Areas}
 use Rattle.theory.proofs.SettingsLaws.{ranges}
 use Rattle.settings.specs.Checked.{paper}
@@ -45,10 +45,10 @@ module _ (c : tie.After-record-size) where
   small : c .record-size .result ≤ 64
   small = omega (arith, size, width-is (t start))
 
--- ---- its record is written, and there are places for the choices
-module _ (c : tie.After-new-choices) where
+-- ---- its record is written
+module _ (c : tie.After-record-of) where
   abbrev sized : tie.After-record-size
-  sized = c .before .before
+  sized = c .before
 
   abbrev e : tie.Start
   e = start sized
@@ -59,12 +59,12 @@ module _ (c : tie.After-new-choices) where
   halves : length (e .args .work .now) ≡ m + m
   halves = double (card-of (t e)) (e .args .work .now) m (sized .before .buckets .ensures) (e .pre .1)
 
-  in-buffer : length (take (sized .record-size .result) (c .before .record-of .result)) ≡ sized .record-size .result
-  in-buffer = length-take-le (sized .record-size .result) (c .before .record-of .result) (omega (arith, c .before .record-of .ensures .1, small sized))
+  in-buffer : length (take (sized .record-size .result) (c .record-of .result)) ≡ sized .record-size .result
+  in-buffer = length-take-le (sized .record-size .result) (c .record-of .result) (omega (arith, c .record-of .ensures .1, small sized))
 
 -- ---- the call is judged, and refused nothing
 module _ (c : tie.Else2) where
-  abbrev opened : tie.After-new-choices
+  abbrev opened : tie.After-record-of
   opened = c .before .before .before .before .before .before .before .before .before
 
   planned : Planned (e opened .args .s) (m opened) (e opened .args .edit) (e opened .args .key .now) (e opened .args .class) (e opened .args .ledger .now)
@@ -84,10 +84,10 @@ judge-requires c κs =
       ready = e .pre .0;
       buckets = sized opened .before .buckets .ensures;
       halves = halves opened;
-      choices = omega (arith, opened .new-choices .ensures, ranges (t e) (e .pre .0 .ok) .capacity-high, capacity-is (t e));
+      choices = omega (arith, ranges (t e) (e .pre .0 .ok) .capacity-high, capacity-is (t e));
       whole = e .pre .2 .ledger;
       wide = wide (sized opened);
-      written = opened .before .record-of .ensures .0;
+      written = opened .record-of .ensures .0;
     }
 
 returns-2 : tie.Need-returns-2
@@ -108,7 +108,7 @@ write-new-requires c κs =
       buckets = sized opened .before .buckets .ensures;
       halves = good .before .before .before .before .judge .kept .1 .1 .1 .0 ∙ halves opened;
       wide = wide (sized opened);
-      written = opened .before .record-of .ensures .0;
+      written = opened .record-of .ensures .0;
       sized = e .pre .2;
       planned = planned good;
     }
@@ -132,9 +132,8 @@ update-lent-spec =
     (λ c κs. search needs)
     (λ c κs. search needs)
     record-of-requires
-    (λ c κs. search needs)
     (λ c. search needs)
-    (λ c. let opened = c .before .before .before in omega (arith, opened .before .record-of .ensures .1, small (sized opened)))
+    (λ c. let opened = c .before .before .before in omega (arith, opened .record-of .ensures .1, small (sized opened)))
     (λ c. sym (in-buffer (c .before .before .before .before)))
     judge-requires
     (λ c. search needs)
@@ -142,7 +141,7 @@ update-lent-spec =
     returns-2
     (λ c. search needs)
     (λ c. let opened = opened (c .before .before .before .before .before .before .before) in
-    omega (arith, opened .before .record-of .ensures .1, small (sized opened)))
+    omega (arith, opened .record-of .ensures .1, small (sized opened)))
     (λ c. sym (in-buffer (opened (c .before .before .before .before .before .before .before .before))))
     write-new-requires
     (λ c. search needs)

@@ -1,5 +1,5 @@
 -- `update::write_new` meets its contract: the edited ledger holds the new list, and the writers lay that out.
-use mathlib.Core.Path.{_≡_, refl, sym, ap, _∙_}
+use mathlib.Core.Path.{refl, sym, ap, _∙_}
 use mathlib.Core.List.{List}
 use Prim.Native.Nat.{ℕ}
 use lib.ListN.{length}
