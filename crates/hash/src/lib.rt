@@ -1,4 +1,4 @@
-// The hash of document 01, 'Hash': a step of xorshift64, H of a key with a table and without, hash j, and a key's bucket numbers.
+// The hash of document 01, 'Hash': a step of xorshift64, H of a key with a table and without, hash j, repeats, and a key's bucket numbers.
 // The constants are in entries.rt and rows.rt, which bin/hash-constants writes.
 mod entries;
 mod rows;
@@ -9,7 +9,7 @@ ghost use mathlib.Core.List.{[], _∷_};
 ghost use Prim.Native.Nat.{_*_, _%_, _^_, _<_, _≤_};
 ghost use lib.ListN.{length};
 ghost use Rattle.theory.specs.Lists.{has};
-ghost use Rattle.theory.specs.Hash.{xorshift64, if-set, H as H-of, hash, numbers-of};
+ghost use Rattle.theory.specs.Hash.{xorshift64, if-set, H as H-of, hash, hashes, numbers-of};
 ghost use Rattle.hash.specs.Table.{TableRight, H-by, table-entries, xor-set};
 ghost use Rattle.hash.specs.Numbering.{Holds};
 
@@ -116,6 +116,23 @@ pub fn hash_at(h: u64, j: usize, p: usize) -> u16
     ensures { λ r. ⌜ r ≡ hash (2 ^ p) h j ⌝ }
 {
     ((h >> (16 * j)) % (1 << p)) as u16
+}
+
+// b is one of the first j hashes of a key whose H is h, for m buckets. No early exit.
+pub fn repeats(h: u64, j: usize, m: u64, b: u64) -> bool
+    requires { ⌜ 0 < m ⌝ }
+    ensures { λ r. ⌜ r ≡ has b (hashes m h 0 j) ⌝ }
+{
+    // H from hash i on
+    let mut rest = h;
+    let mut seen = false;
+    let mut i: usize = 0;
+    while i < j {
+        seen = seen | (b == rest % m);
+        rest = rest / 65536;
+        i += 1;
+    }
+    seen
 }
 
 // A key's bucket numbers: the first `count` of `at`.

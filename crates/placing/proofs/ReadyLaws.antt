@@ -1,21 +1,25 @@
 -- What allowed settings and the right table give: the card is sound, and a key's bucket numbers are below the bucket count, none twice.
 -- From the laws of settings. Assumes nothing.
-use mathlib.Core.Path.{_≡_, refl}
+use mathlib.Core.Path.{_≡_, refl, sym, _∙_}
 use mathlib.Core.Bool.{true, false}
-use mathlib.Core.List.{List}
-use Prim.Native.Nat.{ℕ, _^_, _<_}
+use mathlib.Core.List.{List, map}
+use Prim.Native.Nat.{ℕ, _+_, _*_, _/_, _%_, _^_, _<_}
 use native.Mathlib.Omega.{arith}
+use lib.Dec.{eqb}
 use lib.ListN.{length}
+use Rattle.theory.specs.Lists.{least}
 use Rattle.theory.specs.Hash.{H, numbers-of}
 use Rattle.theory.specs.Settings as plain
 use Rattle.theory.specs.Settings.{allowed, card-of}
-use Rattle.theory.specs.Placing.{all-top, chosen}
+use Rattle.theory.specs.Placing.{all-top, least-count, chosen}
+use Rattle.theory.proofs.ListLaws.{least-top}
 use Rattle.theory.proofs.NumberLaws.{distinct}
+use Rattle.theory.proofs.RankLaws.{hashes, rank, rank-least, rank-chosen}
 use Rattle.theory.proofs.SettingsLaws.{Sound, sound, numbers-of-distinct}
 use Rattle.theory.proofs.PlacingLaws.{chosen-below}
 use Rattle.settings.specs.declared.Settings.{Settings}
 use Rattle.settings.specs.Checked.{paper}
-use Rattle.settings.proofs.Laws.{width-is}
+use Rattle.settings.proofs.Laws.{width-is, buckets-are, top-is, bounds}
 use Rattle.hash.specs.declared.Numbers.{Numbers}
 use Rattle.hash.specs.Numbering.{Holds}
 use Rattle.hash.specs.Table.{TableRight}
@@ -29,6 +33,22 @@ module _ (t : plain.Settings) (k : List ℕ) where
 
   pub numbers-apart : distinct (card-of t .numbers k) ≡ true
   numbers-apart = rw numbers-are (numbers-of-distinct (2 ^ t .p) (t .k) (H k))
+
+all-top-by : (t : plain.Settings) (c : ℕ → ℕ) (key : List ℕ) → eqb (least-count (card-of t) c key) (t .top) ≡ all-top (card-of t) c key
+unfolding all-top least-count card-of
+all-top-by t c key = sym (least-top c (t .top) (card-of t .numbers key))
+
+-- the least rank of a key's hashes tells whether its counts are all top or more, and the bucket that it chooses
+pub choice-by-rank : (t : plain.Settings) → allowed t ≡ true → (c : ℕ → ℕ) (m h best : ℕ) → m ≡ card-of t .buckets
+    → best ≡ least (t .top * 65536 + m) (map (rank c) (hashes m h 0 (t .k))) → (key : List ℕ) → h ≡ H key
+    → (eqb (best / 65536) (t .top) ≡ all-top (card-of t) c key) × (best % 65536 ≡ chosen (card-of t) c key)
+choice-by-rank t ok c m h best m-is is-least key e =
+    let s = card-of t in
+    let b = bounds t ok in
+    let least-is : best ≡ least (s .top * 65536 + s .buckets) (map (rank c) (hashes (s .buckets) h 0 (t .k))) = is-least ∙ rw (m-is, top-is t) in
+    let by-hash : s .numbers key ≡ numbers-of (s .buckets) (t .k) h = numbers-are t key ∙ rw (e, buckets-are t) in
+    let low = rank-least s c (t .k) h best (omega arith) (omega arith) least-is key by-hash in
+    (rw low (all-top-by t c key), rank-chosen s c (t .k) h best (omega arith) (omega arith) least-is key by-hash)
 
 module _ (s : Settings) (t : List ℕ) (ready : Ready s t) where
   pub sound-card : Sound (card-of (paper s))

@@ -1,15 +1,15 @@
 -- What the loops over the records of an area ask: the next record and its key, and what is counted of the records, with one record more.
 -- By the last record of a list that grows at its end. Assumes nothing.
-use mathlib.Core.Path.{_≡_, refl, ap, _∙_}
+use mathlib.Core.Path.{_≡_, refl, sym, ap, _∙_}
 use mathlib.Core.Bool.{Bool, true, false, cond, not, _&&_}
-use mathlib.Core.List.{List, [], _∷_, _++_}
+use mathlib.Core.List.{List, [], _∷_, _++_, map-append}
 use Prim.Native.Nat.{ℕ, zero, suc, _+_, _-_, _*_, _<_, _≤_}
-use native.Mathlib.Nat.{add-sub-cancel-left, add-comm, suc-mul, zero-mul, mul-le-mul-right}
+use native.Mathlib.Nat.{add-zero, add-sub-cancel-left, add-comm, suc-mul, zero-mul, mul-le-mul-right}
 use native.Mathlib.Numerals.{add-one}
 use native.Mathlib.Omega.{arith}
 use lib.Dec.{eqb}
-use lib.ListN.{length, take, drop, length-drop}
-use lib.Seq.{length-take-le, drop-drop}
+use lib.ListN.{length, take, drop, set, length-drop}
+use lib.Seq.{length-take-le, drop-drop, take-suc-set, take-all}
 use Rattle.theory.specs.Lists.{filter, has}
 use Rattle.theory.specs.Records.{Record, entries, record-at, records}
 use Rattle.theory.specs.Settings.{Card, record-size}
@@ -18,7 +18,7 @@ use Rattle.theory.proofs.ListLaws.{filter-len}
 use Rattle.theory.proofs.NumberLaws.{distinct}
 use Rattle.theory.proofs.ByteLaws.{length-records}
 use Rattle.placing.specs.Counting.{times}
-use Rattle.placing.specs.Worked.{nth}
+use Rattle.placing.specs.Worked.{nth, choice-by, choices-by, Chose}
 use Rattle.placing.proofs.CountingLaws.{count-append, count-end, times-has}
 
 -- ---- the place of record i, where width and size are the card's
@@ -96,10 +96,6 @@ module _ (s : Card) where
 
   -- ---- choosers, by counts c
   module _ (c : ℕ → ℕ) where
-    pub choosers-none : (w : ℕ) (a : List ℕ) (b : ℕ) → length (choosers s c (records w 0 a) b) ≡ 0
-    unfolding choosers
-    choosers-none w a b = kept-none (chooses s c b) w a
-
     pub choosers-bound : (w n : ℕ) (a : List ℕ) (b : ℕ) → length (choosers s c (records w n a) b) ≤ n
     unfolding choosers
     choosers-bound w n a b = kept-bound (chooses s c b) w n a
@@ -108,13 +104,51 @@ module _ (s : Card) where
     unfolding choosers
     choosers-append l m b = kept-append (chooses s c b) l m
 
-    -- one record's choice: f, all counts are top or more, else bucket x
-    pub choose-more : (w i at : ℕ) (a old cur new : List ℕ) (f : Bool) (x : ℕ) → at ≡ i * (w + 4) → f ≡ all-top s c (take w (drop at a)) → x ≡ chosen s c (take w (drop at a))
-        → ((b : ℕ) → nth cur b ≡ nth old b + length (choosers s c (records w i a) b)) → ((b : ℕ) → nth new b ≡ nth cur b + cond (not f && eqb b x) 1 0)
-        → (b : ℕ) → nth new b ≡ nth old b + length (choosers s c (records w (i + 1) a) b)
-    unfolding choosers chooses
-    choose-more w i at a old cur new f x e top choice g h b =
-        rw (kept-more (chooses s c b) w i at a e, ← top, ← choice) (omega (arith, g b, h b))
+    choices-more : (w i at : ℕ) (a : List ℕ) → at ≡ i * (w + 4)
+        → choices-by s c (records w (i + 1) a) ≡ choices-by s c (records w i a) ++ (choice-by s c (take w (drop at a)) ∷ [])
+    unfolding record-at
+    choices-more w i at a e = rw (records-more w i a, map-append, ← e)
+
+  pub chose-none : (m w : ℕ) (a work kept : List ℕ) → Chose s m (records w 0 a) work work (take 0 kept)
+  unfolding records entries choosers
+  chose-none m w a work kept = record { same = refl; more = λ b. sym (add-zero _); choices = refl }
+
+  pub chose-all : (m w i n : ℕ) (a old work kept : List ℕ) → Chose s m (records w i a) old work (take i kept) → i ≡ n → length kept ≡ n
+      → Chose s m (records w n a) old work kept
+  chose-all m w i n a old work kept chose e long = rw (e, take-all n kept (omega arith)) at chose
+
+  -- two lists that choose one after the other
+  pub chose-append : (m : ℕ) (l r : List Record) (old work new ys zs : List ℕ) → Chose s m l old work ys → Chose s m r work new zs
+      → Chose s m (l ++ r) old new (ys ++ zs)
+  chose-append m l r old work new ys zs f g =
+      record {
+        same = g .same ∙ f .same;
+        more = λ b. omega (arith, f .more b, rw (f .same) at (g .more b), choosers-append (nth (take m old)) l r b);
+        choices = rw (f .choices, g .choices, f .same, map-append);
+      }
+
+  -- from zeros
+  pub chose-few : (m : ℕ) (l : List Record) (old work ys : List ℕ) → Chose s m l old work ys → ((b : ℕ) → nth (drop m old) b ≡ 0)
+      → (b : ℕ) → nth (drop m work) b ≤ length l
+  unfolding choosers
+  chose-few m l old work ys f zeros b = omega (arith, f .more b, zeros b, filter-len (λ r. chooses s (nth (take m old)) b (r .key)) l)
+
+  -- one record's choice: f, all counts are top or more, else bucket x
+  module _ (m w i : ℕ) (a old work kept : List ℕ) (so-far : Chose s m (records w i a) old work (take i kept)) (f : Bool) (x at : ℕ) (here : at ≡ i * (w + 4))
+      (top : f ≡ all-top s (nth (take m work)) (take w (drop at a))) (choice : x ≡ chosen s (nth (take m work)) (take w (drop at a))) where
+    pub chose-more : (new : List ℕ) → take m new ≡ take m work → ((b : ℕ) → nth (drop m new) b ≡ nth (drop m work) b + cond (not f && eqb b x) 1 0)
+        → (v : ℕ) → v ≡ cond f (s .buckets) x → i < length kept → Chose s m (records w (i + 1) a) old new (take (i + 1) (set kept i v))
+    unfolding choosers chooses choice-by
+    chose-more new same more v v-is there =
+        let c = nth (take m old) in
+        let top-is = rw (so-far .same) at top in
+        let choice-is = rw (so-far .same) at choice in
+        let stored : take (i + 1) (set kept i v) ≡ take i kept ++ (v ∷ []) = rw (add-one i) (take-suc-set kept i v there) in
+        record {
+          same = same ∙ so-far .same;
+          more = λ b. rw (kept-more (chooses s c b) w i at a here, ← top-is, ← choice-is) (omega (arith, so-far .more b, more b));
+          choices = rw (stored, v-is, choices-more c w i at a here, so-far .choices, ← top-is, ← choice-is);
+        }
 
 pub one-bound : (t : Bool) → cond {A = ℕ} t 1 0 ≤ 1
 one-bound true = omega arith

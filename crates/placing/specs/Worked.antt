@@ -2,7 +2,7 @@
 use mathlib.Core.Path.{_≡_}
 use mathlib.Core.Bool.{Bool, cond, _||_}
 use mathlib.Core.List.{List, _++_, map}
-use Prim.Native.Nat.{ℕ}
+use Prim.Native.Nat.{ℕ, _+_}
 use lib.Dec.{eqb, ltb}
 use lib.ListN.{length, take, drop, getD}
 use Rattle.theory.specs.Records.{Record, records}
@@ -29,6 +29,12 @@ choice-by s c k = cond (all-top s c k) (s .buckets) (chosen s c k)
 -- the choices of a list's records, one number a record
 abbrev pub choices-by : Card → (ℕ → ℕ) → List Record → List ℕ
 choices-by s c l = map (λ r. choice-by s c (r .key)) l
+
+-- the records of l have chosen: the counts of the first half are as they were, the choosers are on top of the second, and the choices are kept
+pub record Chose (s : Card) (m : ℕ) (l : List Record) (old work kept : List ℕ) : Type 0 where
+  pub same : take m work ≡ take m old
+  pub more : (b : ℕ) → nth (drop m work) b ≡ nth (drop m old) b + length (choosers s (nth (take m old)) l b)
+  pub choices : kept ≡ choices-by s (nth (take m old)) l
 
 -- a list is placed: work holds its true counts and how many keys choose each bucket, kept the choice of each record
 pub record Placed (s : Card) (m : ℕ) (l : List Record) (work kept : List ℕ) : Type 0 where

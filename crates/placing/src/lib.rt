@@ -3,20 +3,21 @@ use hash::Numbers;
 use settings::Settings;
 use settings::counts::TrueCount;
 ghost use mathlib.Core.Path.{_≡_};
-ghost use mathlib.Core.Bool.{false, not, cond, _&&_};
+ghost use mathlib.Core.Bool.{true, false, not, cond, _&&_};
+ghost use mathlib.Core.List.{List};
 ghost use Prim.Native.Nat.{ℕ, _+_, _*_, _<_, _≤_, min};
 ghost use lib.Dec.{eqb};
-ghost use lib.ListN.{length, take, drop, replicate};
-ghost use Rattle.theory.specs.Lists.{filter};
-ghost use Rattle.theory.specs.Records.{records};
-ghost use Rattle.theory.specs.Settings.{card-of};
+ghost use lib.ListN.{length, drop, replicate};
+ghost use Rattle.theory.specs.Records.{Record, records};
+ghost use Rattle.theory.specs.Hash.{H as H-of};
+ghost use Rattle.theory.specs.Settings.{allowed, card-of};
 ghost use Rattle.theory.specs.Placing.{true-count, all-top, chosen, choosers};
 ghost use Rattle.theory.specs.Ledger.{side-need-of};
 ghost use Rattle.settings.specs.Checked.{paper};
 ghost use Rattle.hash.specs.Numbering.{list-of, Holds};
-ghost use Rattle.placing.specs.Ready.{Ready};
-ghost use Rattle.placing.specs.Counting.{Within, times, low-of, pick-of, picked};
-ghost use Rattle.placing.specs.Worked.{nth, belongs-by, Worked, side-by-choice, parts};
+ghost use Rattle.placing.specs.Ready.{Ready, Choosing, Placing};
+ghost use Rattle.placing.specs.Counting.{Within, times};
+ghost use Rattle.placing.specs.Worked.{nth, Placed, Chose, side-by-choice, parts};
 
 // "A key's bucket numbers are its first k hashes, repeats dropped."
 pub fn numbers(s: Settings, t: &[u64], key: &[u8]) -> Numbers
@@ -70,67 +71,54 @@ pub fn count_more(s: Settings, t: &[u64], counts: &mut [u16], area: &[u8], n: us
     }
 }
 
-// The least so far of the top count and of the counts seen, and the lowest bucket with it.
-struct Best {
-    low: usize,
+// Where a key goes: to the side if all its counts are top or more, else to the bucket that it chooses.
+struct Choice {
+    all_top: bool,
     bucket: usize,
 }
 
-// One bucket more, with its true count.
-fn better(best: Best, b: usize, count: TrueCount) -> Best
-    ensures { λ r. ⌜ (r .low ≡ min (count .0) (best .low)) × (r .bucket ≡ picked (best .low) (best .bucket) b (count .0)) ⌝ }
+fn lower(a: u64, b: u64) -> u64
+    ensures { λ r. ⌜ r ≡ min a b ⌝ }
 {
-    let v = count.0 as usize;
-    if v < best.low {
-        return Best { low: v, bucket: b };
-    }
-    if v == best.low {
-        if b < best.bucket {
-            return Best { low: v, bucket: b };
-        }
-    }
-    best
+    if a < b { a } else { b }
 }
 
-// "of its bucket numbers with the least count, the lowest"; the least count is top where all are top or more.
-fn best_of(top: usize, counts: &[u16], ns: Numbers) -> Best
-    requires { ⌜ Within ns (length (now counts)) ⌝ }
-    ensures { λ r. ⌜ (r .low ≡ low-of top (nth (now (counts .entry))) (list-of ns)) × (r .bucket ≡ pick-of (length (now (counts .entry))) top (nth (now (counts .entry))) (list-of ns)) ⌝ }
+// The choice of a key whose H is h: the least rank has the least count, or top where all are top or more, and the lowest bucket with it.
+// No branch; repeated hashes are read again and alter nothing.
+fn choose_at(s: Settings, h: u64, counts: &[u16]) -> Choice
+    requires { ⌜ (allowed (paper s) ≡ true) × (length (now counts) ≡ card-of (paper s) .buckets) ⌝ }
+    ensures { λ r. ⌜ ((key : List ℕ) → h ≡ H-of key
+        → (r .«all_top» ≡ all-top (card-of (paper s)) (nth (now (counts .entry))) key)
+        × (r .bucket ≡ chosen (card-of (paper s)) (nth (now (counts .entry))) key)) ⌝ }
 {
-    let at = ns.at;
-    let n = ns.count;
-    let mut best = Best {
-        low: top,
-        bucket: counts.len(),
-    };
-    let mut i: usize = 0;
-    while i < n {
-        let b = at[i] as usize;
-        let count = counts[b];
-        best = better(best, b, TrueCount(count));
-        i += 1;
+    let k = s.k;
+    let m = s.buckets() as u64;
+    let top = s.top as u64;
+    // H from hash j on
+    let mut rest = h;
+    let mut best: u64 = top * 65536 + m;
+    let mut j: usize = 0;
+    while j < k {
+        let b = rest % m;
+        let at = b as usize;
+        let rank = TrueCount(counts[at]).rank(b);
+        best = lower(rank, best);
+        rest = rest / 65536;
+        j += 1;
     }
-    best
-}
-
-// Where a key goes: to the side if all its counts are top or more, else to the bucket that it chooses.
-pub struct Choice {
-    pub all_top: bool,
-    pub bucket: usize,
+    Choice {
+        all_top: best / 65536 == top,
+        bucket: (best % 65536) as usize,
+    }
 }
 
 // A key's choice by true counts.
-pub fn choose(s: Settings, t: &[u64], counts: &[u16], key: &[u8]) -> Choice
+fn choose(s: Settings, t: &[u64], counts: &[u16], key: &[u8]) -> Choice
     requires { ⌜ Ready s (now t) × (length (now counts) ≡ card-of (paper s) .buckets) × (length (now key) ≡ card-of (paper s) .width) ⌝ }
     ensures { λ r. ⌜ (r .«all_top» ≡ all-top (card-of (paper s)) (nth (now (counts .entry))) (now (key .entry))) × (r .bucket ≡ chosen (card-of (paper s)) (nth (now (counts .entry))) (now (key .entry))) ⌝ }
 {
-    let ns = numbers(s, t, key);
-    let top = s.top;
-    let best = best_of(top, counts, ns);
-    Choice {
-        all_top: best.low == top,
-        bucket: best.bucket,
-    }
+    let h = hash::h_lent(t, key);
+    choose_at(s, h, counts)
 }
 
 // One more for the chosen bucket, if there is one.
@@ -145,10 +133,26 @@ fn add_choice(choosers: &mut [u16], choice: Choice)
     choosers[b] = choosers[b] + 1;
 }
 
+fn pick(test: bool, a: usize, b: usize) -> usize
+    ensures { λ r. ⌜ r ≡ cond test a b ⌝ }
+{
+    if test { a } else { b }
+}
+
 // How many of n records choose each bucket, on top of what is in the second half of work; the true counts are in the first.
-pub fn choose_more(s: Settings, t: &[u64], m: usize, work: &mut [u16], area: &[u8], n: usize)
-    requires { ⌜ Ready s (now t) × (m ≡ card-of (paper s) .buckets) × (length (now work) ≡ m + m) × (n * (card-of (paper s) .width + 4) ≤ length (now area)) × ((b : ℕ) → nth (drop m (now work)) b + n ≤ 60000) ⌝ }
-    ensures { λ _. ⌜ (take m (now (work .exit)) ≡ take m (now (work .entry))) × ((b : ℕ) → nth (drop m (now (work .exit))) b ≡ nth (drop m (now (work .entry))) b + length (choosers (card-of (paper s)) (nth (take m (now (work .entry)))) (records (card-of (paper s) .width) n (now (area .entry))) b)) ⌝ }
+// Each record's choice is kept as one number: m where its counts are all top or more.
+fn choose_more(
+    s: Settings,
+    t: &[u64],
+    m: usize,
+    work: &mut [u16],
+    area: &[u8],
+    n: usize,
+    kept: &mut [u16],
+)
+    requires { ⌜ Choosing s (now t) m (now work) (now area) n (now kept) ⌝ }
+    ensures { λ _. ⌜ Chose (card-of (paper s)) m (records (card-of (paper s) .width) n (now (area .entry)))
+        (now (work .entry)) (now (work .exit)) (now (kept .exit)) ⌝ }
 {
     let width = s.width();
     let size = s.record_size();
@@ -157,6 +161,7 @@ pub fn choose_more(s: Settings, t: &[u64], m: usize, work: &mut [u16], area: &[u
     while i < n {
         let end = at + width;
         let choice = choose(s, t, &work[..m], &area[at..end]);
+        kept[i] = pick(choice.all_top, m, choice.bucket) as u16;
         add_choice(&mut work[m..], choice);
         at = at + size;
         i += 1;
@@ -169,21 +174,7 @@ fn wide(v: u16) -> usize
     v as usize
 }
 
-// A key belongs to the side, by the true counts and the choosers in work.
-pub fn belongs_to_side(s: Settings, t: &[u64], m: usize, work: &[u16], key: &[u8]) -> bool
-    requires { ⌜ Ready s (now t) × (m ≡ card-of (paper s) .buckets) × (length (now work) ≡ m + m) × (length (now key) ≡ card-of (paper s) .width) ⌝ }
-    ensures { λ r. ⌜ r ≡ belongs-by (card-of (paper s)) (nth (take m (now (work .entry)))) (nth (drop m (now (work .entry)))) (now (key .entry)) ⌝ }
-{
-    let choice = choose(s, t, &work[..m], key);
-    if choice.all_top {
-        return true;
-    }
-    let at = m + choice.bucket;
-    let choosers = wide(work[at]);
-    s.room < choosers
-}
-
-// The same by the key's choice, kept as one number: m where its counts are all top or more.
+// A key belongs to the side, by its choice and the choosers in work.
 pub fn aside(s: Settings, m: usize, work: &[u16], choice: u16) -> bool
     requires { ⌜ (m ≡ card-of (paper s) .buckets) × (length (now work) ≡ m + m) × (choice ≤ m) ⌝ }
     ensures { λ r. ⌜ r ≡ side-by-choice (card-of (paper s)) m (nth (drop m (now (work .entry)))) choice ⌝ }
@@ -201,26 +192,6 @@ fn one(b: bool) -> usize
     ensures { λ r. ⌜ r ≡ cond b 1 0 ⌝ }
 {
     if b { 1 } else { 0 }
-}
-
-// How many of n records belong to the side.
-pub fn need_more(s: Settings, t: &[u64], m: usize, work: &[u16], area: &[u8], n: usize) -> usize
-    requires { ⌜ Ready s (now t) × (m ≡ card-of (paper s) .buckets) × (length (now work) ≡ m + m) × (n * (card-of (paper s) .width + 4) ≤ length (now area)) ⌝ }
-    ensures { λ r. ⌜ r ≡ length (filter (λ x. belongs-by (card-of (paper s)) (nth (take m (now (work .entry)))) (nth (drop m (now (work .entry)))) (x .key)) (records (card-of (paper s) .width) n (now (area .entry)))) ⌝ }
-{
-    let width = s.width();
-    let size = s.record_size();
-    let mut i: usize = 0;
-    let mut at: usize = 0;
-    let mut need: usize = 0;
-    while i < n {
-        let end = at + width;
-        let side = belongs_to_side(s, t, m, work, &area[at..end]);
-        need = need + one(side);
-        at = at + size;
-        i += 1;
-    }
-    need
 }
 
 // The true counts of three areas' records, from zeros.
@@ -243,7 +214,7 @@ fn count_parts(
     count_more(s, t, &mut counts[..], b, j);
 }
 
-// Their choosers, from zeros.
+// Their choices and choosers, from zeros.
 fn choose_parts(
     s: Settings,
     t: &[u64],
@@ -255,16 +226,19 @@ fn choose_parts(
     k: usize,
     b: &[u8],
     j: usize,
+    kept: &mut [u16],
 )
-    requires { ⌜ Ready s (now t) × (m ≡ card-of (paper s) .buckets) × (length (now work) ≡ m + m) × (n * (card-of (paper s) .width + 4) ≤ length (now a)) × (k * (card-of (paper s) .width + 4) ≤ length (now mid)) × (j * (card-of (paper s) .width + 4) ≤ length (now b)) × (n + k + j ≤ 60000) × ((x : ℕ) → nth (drop m (now work)) x ≡ 0) ⌝ }
-    ensures { λ _. ⌜ (take m (now (work .exit)) ≡ take m (now (work .entry))) × ((x : ℕ) → nth (drop m (now (work .exit))) x ≡ length (choosers (card-of (paper s)) (nth (take m (now (work .entry)))) (parts (card-of (paper s) .width) (now (a .entry)) n (now (mid .entry)) k (now (b .entry)) j) x)) ⌝ }
+    requires { ⌜ Placing s (now t) m (now work) (now a) n (now mid) k (now b) j (now kept) × ((x : ℕ) → nth (drop m (now work)) x ≡ 0) ⌝ }
+    ensures { λ _. ⌜ Chose (card-of (paper s)) m (parts (card-of (paper s) .width) (now (a .entry)) n (now (mid .entry)) k (now (b .entry)) j)
+        (now (work .entry)) (now (work .exit)) (now (kept .exit)) ⌝ }
 {
-    choose_more(s, t, m, &mut work[..], a, n);
-    choose_more(s, t, m, &mut work[..], mid, k);
-    choose_more(s, t, m, &mut work[..], b, j);
+    let end = n + k;
+    choose_more(s, t, m, work, a, n, &mut kept[..n]);
+    choose_more(s, t, m, work, mid, k, &mut kept[n..end]);
+    choose_more(s, t, m, work, b, j, &mut kept[end..]);
 }
 
-// The work area of the list that a call would make: its true counts, then its choosers.
+// The list that a call would make, placed: work gets its true counts, then its choosers, and kept the choice of each record.
 // The list lies in three areas: n records before, k (the new record or none), j records after.
 pub fn place_parts(
     s: Settings,
@@ -277,34 +251,27 @@ pub fn place_parts(
     k: usize,
     b: &[u8],
     j: usize,
+    kept: &mut [u16],
 )
-    requires { ⌜ Ready s (now t) × (m ≡ card-of (paper s) .buckets) × (length (now work) ≡ m + m) × (n * (card-of (paper s) .width + 4) ≤ length (now a)) × (k * (card-of (paper s) .width + 4) ≤ length (now mid)) × (j * (card-of (paper s) .width + 4) ≤ length (now b)) × (n + k + j ≤ 60000) ⌝ }
-    ensures { λ _. ⌜ Worked (card-of (paper s)) m (parts (card-of (paper s) .width) (now (a .entry)) n (now (mid .entry)) k (now (b .entry)) j) (now (work .exit)) ⌝ }
+    requires { ⌜ Placing s (now t) m (now work) (now a) n (now mid) k (now b) j (now kept) ⌝ }
+    ensures { λ _. ⌜ Placed (card-of (paper s)) m (parts (card-of (paper s) .width) (now (a .entry)) n (now (mid .entry)) k (now (b .entry)) j)
+        (now (work .exit)) (now (kept .exit)) ⌝ }
 {
-    zero_counts(&mut work[..]);
+    zero_counts(work);
     count_parts(s, t, &mut work[..m], a, n, mid, k, b, j);
-    choose_parts(s, t, m, &mut work[..], a, n, mid, k, b, j);
+    choose_parts(s, t, m, work, a, n, mid, k, b, j, kept);
 }
 
 // "Side need is how many keys belong there."
-pub fn need_parts(
-    s: Settings,
-    t: &[u64],
-    m: usize,
-    work: &[u16],
-    a: &[u8],
-    n: usize,
-    mid: &[u8],
-    k: usize,
-    b: &[u8],
-    j: usize,
-) -> usize
-    requires { ⌜ Ready s (now t) × (m ≡ card-of (paper s) .buckets) × (length (now work) ≡ m + m) × (n * (card-of (paper s) .width + 4) ≤ length (now a)) × (k * (card-of (paper s) .width + 4) ≤ length (now mid)) × (j * (card-of (paper s) .width + 4) ≤ length (now b)) × (n + k + j ≤ 60000)
-        × Worked (card-of (paper s)) m (parts (card-of (paper s) .width) (now a) n (now mid) k (now b) j) (now work) ⌝ }
-    ensures { λ r. ⌜ r ≡ side-need-of (card-of (paper s)) (parts (card-of (paper s) .width) (now (a .entry)) n (now (mid .entry)) k (now (b .entry)) j) ⌝ }
+pub fn side_need(s: Settings, m: usize, work: &[u16], kept: &[u16]) -> usize
+    requires { ⌜ (allowed (paper s) ≡ true) × (m ≡ card-of (paper s) .buckets) × (length (now work) ≡ m + m) × ((i : ℕ) → nth (now kept) i ≤ m) ⌝ }
+    ensures { λ r. ⌜ ((l : List Record) → Placed (card-of (paper s)) m l (now (work .entry)) (now (kept .entry)) → r ≡ side-need-of (card-of (paper s)) l) ⌝ }
 {
-    let x = need_more(s, t, m, work, a, n);
-    let y = need_more(s, t, m, work, mid, k);
-    let z = need_more(s, t, m, work, b, j);
-    x + y + z
+    let mut need: usize = 0;
+    let mut i: usize = 0;
+    while i < kept.len() {
+        need = need + one(aside(s, m, work, kept[i]));
+        i += 1;
+    }
+    need
 }

@@ -119,39 +119,49 @@ module _ (f : List ℕ) (w : ℕ) (a : Areas) where
     unfolding load head-wrong
     loads-2 ok s same x ex e = let q = rw (ex, ← lengths-are (card-of (paper s)) a, same) at e in rw (whole, ok, q)
 
-    -- settings t, from the file
-    module _ (t : plain.Settings) (same : t ≡ file-settings f) (ok : allowed t ≡ true) (ew : w ≡ work-length (card-of t)) (z : Sized (card-of t) a) where
-      loads-on : load f w a
-          ≡ cond (ltb (t .capacity) (file-count f)) (not-loaded 8 a)
-          (cond (not (eqb (length f) (16 + record-size (card-of t) * file-count f))) (not-loaded 12 a)
-          (cond (not (rising (listed t f))) (not-loaded 13 a)
-          (cond (side-short (card-of t) (listed t f)) (not-loaded 9 a) (record { number = 0; settings = t; areas = layout (card-of t) (listed t f) }))))
-      unfolding load head-wrong file-records
-      loads-on = rw (whole, ← same, ok, eq-eqb w (work-length (card-of t)) ew, all-lengths-right (card-of t) a z)
+-- settings t from the file, and areas of their lengths
+pub record Loading (f : List ℕ) (w : ℕ) (a : Areas) (t : plain.Settings) : Type 0 where
+  pub whole : head-wrong f ≡ false
+  pub same : t ≡ file-settings f
+  pub ok : allowed t ≡ true
+  pub work : w ≡ work-length (card-of t)
+  pub sized : Sized (card-of t) a
 
-      -- what the file decides, and 9
-      loads-by : load f w a
-          ≡ cond (eqb (by-file t f) 0) (cond (side-short (card-of t) (listed t f)) (not-loaded 9 a) (record { number = 0; settings = t; areas = layout (card-of t) (listed t f) }))
-          (not-loaded (by-file t f) a)
-      unfolding by-file
-      loads-by =
-          loads-on
-          ∙ by-test (ltb (t .capacity) (file-count f)) (λ e. rw e)
-          (λ e. rw e (by-test (eqb (length f) (16 + record-size (card-of t) * file-count f)) (λ q. rw q (by-test (rising (listed t f)) (λ r. rw r) (λ r. rw r))) (λ q. rw q)))
+module _ {f : List ℕ} {w : ℕ} {a : Areas} {t : plain.Settings} (g : Loading f w a t) where
+  loads-on : load f w a
+      ≡ cond (ltb (t .capacity) (file-count f)) (not-loaded 8 a)
+      (cond (not (eqb (length f) (16 + record-size (card-of t) * file-count f))) (not-loaded 12 a)
+      (cond (not (rising (listed t f))) (not-loaded 13 a)
+      (cond (side-short (card-of t) (listed t f)) (not-loaded 9 a) (record { number = 0; settings = t; areas = layout (card-of t) (listed t f) }))))
+  unfolding load head-wrong file-records
+  loads-on = rw (g .whole, ← g .same, g .ok, eq-eqb w (work-length (card-of t)) (g .work), all-lengths-right (card-of t) a (g .sized))
 
-      pub loads-refused : (n : ℕ) → n ≡ by-file t f → (n ≡ 0 → ⊥) → not-loaded n a ≡ load f w a
-      loads-refused n e some = rw (loads-by, ← e, ne-eqb n 0 some)
+  -- what the file decides, and 9
+  loads-by : load f w a
+      ≡ cond (eqb (by-file t f) 0)
+      (cond (side-short (card-of t) (listed t f)) (not-loaded 9 a) (record { number = 0; settings = t; areas = layout (card-of t) (listed t f) }))
+      (not-loaded (by-file t f) a)
+  unfolding by-file
+  loads-by =
+      loads-on
+      ∙ by-test (ltb (t .capacity) (file-count f)) (λ e. rw e)
+      (λ e. rw e
+      (by-test (eqb (length f) (16 + record-size (card-of t) * file-count f)) (λ q. rw q (by-test (rising (listed t f)) (λ r. rw r) (λ r. rw r))) (λ q. rw q)))
 
-      module _ (none : by-file t f ≡ 0) (need : ℕ) (is : need ≡ side-need-of (card-of t) (listed t f)) where
-        short-is : side-short (card-of t) (listed t f) ≡ ltb (card-of t .side-places) need
-        unfolding side-short
-        short-is = rw is
+  pub loads-refused : (n : ℕ) → n ≡ by-file t f → (n ≡ 0 → ⊥) → not-loaded n a ≡ load f w a
+  loads-refused n e some = rw (loads-by, ← e, ne-eqb n 0 some)
 
-        pub loads-9 : card-of t .side-places < need → not-loaded 9 a ≡ load f w a
-        loads-9 h = rw (loads-by, none, short-is, lt-ltb (card-of t .side-places) need h)
+  module _ (none : by-file t f ≡ 0) (need : ℕ) (is : need ≡ side-need-of (card-of t) (listed t f)) where
+    short-is : side-short (card-of t) (listed t f) ≡ ltb (card-of t .side-places) need
+    unfolding side-short
+    short-is = rw is
 
-        pub loads-0 : need ≤ card-of t .side-places → (b : Areas) → b ≡ layout (card-of t) (listed t f) → record { number = 0; settings = t; areas = b } ≡ load f w a
-        loads-0 h b e = rw (loads-by, none, short-is, le-ltb (card-of t .side-places) need h, e)
+    pub loads-9 : card-of t .side-places < need → not-loaded 9 a ≡ load f w a
+    loads-9 h = rw (loads-by, none, short-is, lt-ltb (card-of t .side-places) need h)
+
+    pub loads-0 : need ≤ card-of t .side-places → (b : Areas) → b ≡ layout (card-of t) (listed t f)
+        → record { number = 0; settings = t; areas = b } ≡ load f w a
+    loads-0 h b e = rw (loads-by, none, short-is, le-ltb (card-of t .side-places) need h, e)
 
 -- ---- 1 is answered where the head is right and a setting is out of range, whatever the areas
 not-1 : (t : Bool) (x y : Loaded) → eqb (x .number) 1 ≡ false → eqb (y .number) 1 ≡ false → eqb (cond t x y .number) 1 ≡ false

@@ -1,7 +1,8 @@
 -- What save and load share with a file as the code reads and writes it. Assumes nothing.
+use mathlib.Core.Path.{_≡_}
 use mathlib.Core.Bool.{Bool, cond, not, _||_}
 use mathlib.Core.List.{List, _++_}
-use Prim.Native.Nat.{ℕ, _+_, _*_}
+use Prim.Native.Nat.{ℕ, _+_, _*_, _≤_}
 use lib.Dec.{ltb, eqb}
 use lib.ListN.{length, take, drop}
 use Rattle.theory.specs.Settings as plain
@@ -10,7 +11,9 @@ use Rattle.theory.specs.Records.{Record, to-bytes, count-of, records, rising}
 use Rattle.theory.specs.Layout.{Areas}
 use Rattle.theory.specs.Snapshot as snapshots
 use Rattle.theory.specs.Snapshot.{file-count}
+use Rattle.settings.specs.declared.Settings.{Settings}
 use Rattle.settings.specs.Checked.{paper}
+use Rattle.placing.specs.Ready.{Ready}
 use Rattle.snapshot.specs.declared.loading.Loaded.{Loaded}
 
 -- a number in the two bytes from a place on
@@ -28,6 +31,15 @@ head-wrong f = ltb (length f) 16 || not (eqb (count-of f) 6)
 -- the records of a file under settings
 abbrev pub listed : plain.Settings → List ℕ → List Record
 listed t f = records (card-of t .width) (file-count f) (drop 16 f)
+
+-- what placing n records of an area asks, with room in work and kept
+pub record PlacingRecords (s : Settings) (t : List ℕ) (m : ℕ) (work kept area : List ℕ) (n : ℕ) : Type 0 where
+  pub ready : Ready s t
+  pub buckets : m ≡ card-of (paper s) .buckets
+  pub halves : length work ≡ m + m
+  pub choices : n ≤ length kept
+  pub room : n * (card-of (paper s) .width + 4) ≤ length area
+  pub few : n ≤ 4096
 
 -- 8, 12, 13, or 0
 unfoldable pub by-file : plain.Settings → List ℕ → ℕ

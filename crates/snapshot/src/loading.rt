@@ -24,7 +24,7 @@ ghost use Rattle.theory.specs.Snapshot.{file-settings, not-loaded};
 ghost use Rattle.theory.proofs.CallLaws.{Sized};
 ghost use Rattle.settings.specs.Checked.{paper};
 ghost use Rattle.placing.specs.Ready.{Ready};
-ghost use Rattle.placing.specs.Worked.{Worked};
+ghost use Rattle.writing.specs.Laying.{Laying};
 ghost use Rattle.snapshot.specs.Files.{loaded-of, head-wrong};
 
 // The answer, and the settings handed back: zeros when refused.
@@ -64,7 +64,6 @@ fn write_ledger(s: Settings, ledger: &mut [u8], area: &[u8], n: usize)
 // The layout of n records that fill an area, in every area.
 fn write_list(
     s: Settings,
-    t: &[u64],
     m: usize,
     ledger: &mut [u8],
     true_counts: &mut [u16],
@@ -72,28 +71,27 @@ fn write_list(
     buckets: &mut [u8],
     side: &mut [u8],
     work: &[u16],
+    kept: &[u16],
     area: &[u8],
     n: usize,
     need: usize,
 )
-    requires { ⌜ Ready s (now t) × (m ≡ card-of (paper s) .buckets) × (length (now work) ≡ m + m)
-        × (n ≤ card-of (paper s) .capacity) × (length (now area) ≡ record-size (card-of (paper s)) * n)
-        × Worked (card-of (paper s)) m (records (card-of (paper s) .width) n (now area)) (now work)
+    requires { ⌜ Laying s m (now work) (now kept) (now area) n × (n ≤ card-of (paper s) .capacity) × (length (now area) ≡ record-size (card-of (paper s)) * n)
         × (need ≡ side-need-of (card-of (paper s)) (records (card-of (paper s) .width) n (now area))) × (need ≤ card-of (paper s) .side-places)
         × Sized (card-of (paper s)) (record { ledger = now ledger; true-counts = now «true_counts»; clipped-counts = now clipped; buckets = now buckets; side-store = now side }) ⌝ }
     ensures { λ _. ⌜ _≡_ {A = Areas} (record { ledger = now (ledger .exit); true-counts = now («true_counts» .exit); clipped-counts = now (clipped .exit); buckets = now (buckets .exit); side-store = now (side .exit) })
         (layout (card-of (paper s)) (records (card-of (paper s) .width) n (now (area .entry)))) ⌝ }
 {
-    write_ledger(s, &mut ledger[..], area, n);
+    write_ledger(s, ledger, area, n);
     writing::write_areas(
         s,
-        t,
         m,
         work,
-        &mut true_counts[..],
-        &mut clipped[..],
-        &mut buckets[..],
-        &mut side[..],
+        kept,
+        true_counts,
+        clipped,
+        buckets,
+        side,
         area,
         n,
         need,
@@ -125,20 +123,21 @@ fn load_lent(
     let n = count_at(&file[14..]);
     let m = s.buckets();
     let area = &file[crate::HEAD..];
-    let need = place_records(s, t, m, &mut work[..], area, n);
+    let mut kept = [0u16; Settings::CAPACITY_MOST as usize];
+    let need = place_records(s, t, m, work, &mut kept[..], area, n);
     if s.side_places < need {
         return not_loaded(9);
     }
     write_list(
         s,
-        t,
         m,
-        &mut ledger[..],
-        &mut true_counts[..],
-        &mut clipped[..],
-        &mut buckets[..],
-        &mut side[..],
+        ledger,
+        true_counts,
+        clipped,
+        buckets,
+        side,
         work,
+        &kept[..n],
         area,
         n,
         need,
@@ -185,11 +184,11 @@ pub fn load(
         s,
         &table[..],
         file,
-        &mut ledger[..],
-        &mut true_counts[..],
-        &mut clipped[..],
-        &mut buckets[..],
-        &mut side[..],
-        &mut work[..],
+        ledger,
+        true_counts,
+        clipped,
+        buckets,
+        side,
+        work,
     )
 }

@@ -64,14 +64,15 @@ fn save_lent(s: Settings, t: &[u64], ledger: &[u8], work: &mut [u16], target: &m
     }
     let n = count_at(ledger);
     let m = s.buckets();
-    let need = place_records(s, t, m, &mut work[..], &ledger[2..], n);
+    let mut kept = [0u16; Settings::CAPACITY_MOST as usize];
+    let need = place_records(s, t, m, work, &mut kept[..], &ledger[2..], n);
     if s.side_places < need {
         return 9;
     }
     if target.len() != crate::HEAD + s.record_size() * n {
         return 12;
     }
-    write_snapshot(s, &mut target[..], ledger, n);
+    write_snapshot(s, target, ledger, n);
     0
 }
 
@@ -98,5 +99,5 @@ pub fn save(
         return 2;
     }
     let table = hash::table();
-    save_lent(s, &table[..], ledger, &mut work[..], &mut target[..])
+    save_lent(s, &table[..], ledger, work, target)
 }

@@ -1,5 +1,5 @@
 -- Laws of the edits: the list that one makes lies in three areas in a row, and its refusal is the plain ledger's. Assumes nothing.
-use mathlib.Core.Path.{_≡_, refl, sym, ap, _∙_}
+use mathlib.Core.Path.{_≡_, refl, sym, _∙_}
 use mathlib.Core.Bool.{false, cond}
 use mathlib.Core.List.{List, [], _∷_, append-nil}
 use Prim.Native.Nat.{ℕ, zero, suc, _+_, _-_, _*_, _≤_}
@@ -72,29 +72,42 @@ within Insert at n h = (h, omega arith)
 within Replace at n h = (omega arith, omega arith)
 within Remove at n h = (omega arith, omega arith)
 
-module _ (w : ℕ) (edit : Edit) (at n : ℕ) (fits : Fits edit at n) (a : List ℕ) (room : 2 + n * (w + 4) ≤ length a) (lo z : ℕ) (el : lo ≡ leaves-out edit) (ez : z ≡ w + 4) where
-  from-within : at + lo ≤ n
-  from-within = rw el (within edit at n fits .1)
+-- an edit at a place among n records of a ledger area, in the code's numbers: it leaves out lo records, and a record has z bytes
+pub record Around (w : ℕ) (edit : Edit) (at n : ℕ) (a : List ℕ) (lo z : ℕ) : Type 0 where
+  pub fits : Fits edit at n
+  pub room : 2 + n * (w + 4) ≤ length a
+  pub left : lo ≡ leaves-out edit
+  pub size : z ≡ w + 4
+
+module _ {w : ℕ} {edit : Edit} {at n : ℕ} {a : List ℕ} {lo z : ℕ} (p : Around w edit at n a lo z) where
+  pub from-within : at + lo ≤ n
+  from-within = rw (p .left) (within edit at n (p .fits) .1)
 
   sizes : ((at + lo) * z ≤ n * (w + 4)) × (at * (w + 4) ≤ n * (w + 4))
-  sizes = (rw ez (mul-le-mul-right (w + 4) from-within), mul-le-mul-right (w + 4) (within edit at n fits .0))
+  sizes = (rw (p .size) (mul-le-mul-right (w + 4) from-within), mul-le-mul-right (w + 4) (within edit at n (p .fits) .0))
 
   pub after-within : 2 + (at + lo) * z ≤ length a
-  after-within = omega (arith, sizes .0)
+  after-within = omega (arith, sizes .0, p .room)
 
   pub first-room : at * (w + 4) ≤ length (take (length a - 2) (drop 2 a))
-  first-room = rw (length-take, length-drop) (omega (arith, sizes .1))
+  first-room = rw (length-take, length-drop) (omega (arith, sizes .1, p .room))
 
   pub last-room : (n - (at + lo)) * (w + 4) ≤ length (take (length a - (2 + (at + lo) * z)) (drop (2 + (at + lo) * z) a))
   last-room =
-      let split : (n - (at + lo)) * (w + 4) + (at + lo) * (w + 4) ≡ n * (w + 4) = sym (add-mul (n - (at + lo)) (at + lo) (w + 4)) ∙ ap (λ (x : ℕ). x * (w + 4)) (omega (arith, from-within)) in
-      rw (length-take, length-drop, ez) (omega (arith, split))
+      let all : n - (at + lo) + (at + lo) ≡ n = omega (arith, from-within) in
+      let split : (n - (at + lo)) * (w + 4) + (at + lo) * (w + 4) ≡ n * (w + 4) = sym (add-mul (n - (at + lo)) (at + lo) (w + 4)) ∙ rw all in
+      rw (length-take, length-drop, p .size) (omega (arith, split, p .room))
 
   pub new-list : (k : ℕ) → k ≡ brings edit → (rec : List ℕ) (x : Record) → record-bytes x ≡ rec → Fit w x
-      → parts w (take (length a - 2) (drop 2 a)) at rec k (take (length a - (2 + (at + lo) * z)) (drop (2 + (at + lo) * z) a)) (n - (at + lo)) ≡ edited edit at x (records w n (drop 2 a))
+      → parts w (take (length a - 2) (drop 2 a)) at rec k (take (length a - (2 + (at + lo) * z)) (drop (2 + (at + lo) * z) a)) (n - (at + lo))
+      ≡ edited edit at x (records w n (drop 2 a))
   new-list k ek rec x e f =
-      rw (tail-is 2 a (omega arith), tail-is (2 + (at + lo) * z) a after-within, ← drop-drop ((at + lo) * z) 2 a, ek, el, ez)
-      (parts-edited w edit at n (drop 2 a) rec x fits e f)
+      rw (tail-is 2 a (omega (arith, p .room)), tail-is (2 + (at + lo) * z) a after-within, ← drop-drop ((at + lo) * z) 2 a, ek, p .left, p .size)
+      (parts-edited w edit at n (drop 2 a) rec x (p .fits) e f)
+
+  -- how many records the new list has
+  pub total-is : (k : ℕ) → k ≡ brings edit → at + k + (n - (at + lo)) ≡ n - leaves-out edit + brings edit
+  total-is k ek = omega (arith, ek, p .left, within edit at n (p .fits))
 
 pub mid-room : (w k : ℕ) → k ≤ 1 → (rec : List ℕ) → length rec ≡ w + 4 → k * (w + 4) ≤ length rec
 mid-room w zero h rec e = rw zero-mul (omega arith)

@@ -1,11 +1,11 @@
 -- Laws of writing the new list: what stands in the edited ledger is that list, and the five areas are its layout. Assumes nothing.
-use mathlib.Core.Path.{_≡_, _∙_}
+use mathlib.Core.Path.{_≡_, sym, ap, _∙_}
 use mathlib.Core.Bool.{false}
 use mathlib.Core.List.{List, [], _∷_, _++_, map}
 use Prim.Native.Nat.{ℕ, zero, suc, _+_, _-_, _*_, _≤_}
 use native.Mathlib.Omega.{arith}
 use borrow.Author.Tests.{eq-eqb, ne-eqb}
-use lib.ListN.{length, take, drop, length-drop}
+use lib.ListN.{length, take, drop, length-map, length-take, length-drop}
 use lib.Seq.{take-all}
 use Rattle.theory.specs.Lists.{upto}
 use Rattle.theory.specs.Records.{Record, records}
@@ -20,7 +20,7 @@ use Rattle.ledger.proofs.PartLaws.{tail-is}
 use Rattle.update.specs.declared.Edit.{Edit}
 use Rattle.update.specs.declared.Edit.the-variants.{Insert, Replace, Remove}
 use Rattle.update.specs.declared.Plan.{Plan}
-use Rattle.update.specs.Editing.{call-of, edited, brings, leaves-out, judged-number, Planned}
+use Rattle.update.specs.Editing.{call-of, edited, brings, leaves-out, judged-number, list-after, Planned}
 use Rattle.settings.specs.declared.Settings.{Settings}
 use Rattle.settings.specs.Checked.{paper}
 use Rattle.theory.specs.Lookup.{bare}
@@ -46,45 +46,60 @@ all-edited P Replace at x l p a = all-append P (take at l) (x ∷ drop (at + 1) 
 all-edited P Remove at x l p a = all-append P (take at l) (drop (at + 1) l) (all-take P at l a) (all-drop P (at + 1) l a)
 
 -- ---- the records of a ledger area that was laid out, as they are lent
-module _ (c : Card) (l : List Record) (fit : All (Fit (c .width)) l) (few : length l ≤ c .capacity) (a : List ℕ) (is : a ≡ counted-places c (c .capacity) l) where
+pub record Written (c : Card) (l : List Record) (a : List ℕ) : Type 0 where
+  pub fit : All (Fit (c .width)) l
+  pub few : length l ≤ c .capacity
+  pub is : a ≡ counted-places c (c .capacity) l
+
+module _ {c : Card} {l : List Record} {a : List ℕ} (w : Written c l a) where
   pub long : length a ≡ ledger-length c
   unfolding ledger-length
-  long = rw is (length-counted c (c .capacity) l fit few)
+  long = rw (w .is) (length-counted c (c .capacity) l (w .fit) (w .few))
 
   lent : take (length a - 2) (drop 2 a) ≡ places c (c .capacity) l
-  lent = take-all (length a - 2) (drop 2 a) (rw length-drop (omega arith)) ∙ rw (is, after-count c (c .capacity) l)
+  lent = take-all (length a - 2) (drop 2 a) (rw length-drop (omega arith)) ∙ rw (w .is, after-count c (c .capacity) l)
 
   pub lent-records : (n : ℕ) → n ≡ length l → records (c .width) n (take (length a - 2) (drop 2 a)) ≡ l
-  lent-records n e = rw (lent, e) (read-places c (c .capacity) l fit)
+  lent-records n e = rw (lent, e) (read-places c (c .capacity) l (w .fit))
 
   pub lent-room : (n : ℕ) → n ≡ length l → n * (c .width + 4) ≤ length (take (length a - 2) (drop 2 a))
-  lent-room n e = rw (tail-is 2 a (has-count c a long)) (records-room c a long n (omega (arith, few, e)))
+  lent-room n e = rw (tail-is 2 a (has-count c a long)) (records-room c a long n (omega (arith, w .few, e)))
 
   -- ---- the five areas are the layout
-  pub laid-out : (n : ℕ) → n ≡ length l → (trues clipped buckets side : List ℕ)
-      → trues ≡ map (true-count c (records (c .width) n (take (length a - 2) (drop 2 a)))) (upto 0 (c .buckets))
-      → clipped ≡ counter-bytes c (true-count c (records (c .width) n (take (length a - 2) (drop 2 a))))
-      → buckets ≡ buckets-bytes c (true-count c (records (c .width) n (take (length a - 2) (drop 2 a)))) (records (c .width) n (take (length a - 2) (drop 2 a)))
-      → side ≡ side-bytes c (true-count c (records (c .width) n (take (length a - 2) (drop 2 a)))) (records (c .width) n (take (length a - 2) (drop 2 a)))
+  pub laid-out : (n : ℕ) → n ≡ length l → (area trues clipped buckets side : List ℕ) → area ≡ take (length a - 2) (drop 2 a)
+      → trues ≡ map (true-count c (records (c .width) n area)) (upto 0 (c .buckets))
+      → clipped ≡ counter-bytes c (true-count c (records (c .width) n area))
+      → buckets ≡ buckets-bytes c (true-count c (records (c .width) n area)) (records (c .width) n area)
+      → side ≡ side-bytes c (true-count c (records (c .width) n area)) (records (c .width) n area)
       → record { ledger = a; true-counts = trues; clipped-counts = clipped; buckets = buckets; side-store = side } ≡ layout c l
   unfolding layout layout-by
-  laid-out n e trues clipped buckets side et ec eb es = rw (et, ec, eb, es, lent-records n e, is)
+  laid-out n e area trues clipped buckets side ea et ec eb es =
+      let all : records (c .width) n area ≡ l = ap (records (c .width) n) ea ∙ lent-records n e in
+      rw (et, ec, eb, es, all, w .is)
 
 -- ---- what a plan says of the list that it makes
-module _ (s : Settings) (m : ℕ) (edit : Edit) (k : List ℕ) (x : ℕ) (ledger work : List ℕ) (plan : Plan) (p : Planned s m edit k x ledger work plan) where
+module _ {s : Settings} {m : ℕ} {edit : Edit} {k : List ℕ} {x : ℕ} {ledger work kept : List ℕ} {plan : Plan}
+    (p : Planned s m edit k x ledger work kept plan) where
   abbrev flows : List Record
   flows = ledger-records (card-of (paper s)) ledger
 
-  abbrev made : List Record
-  made = next (card-of (paper s)) (call-of edit k x) flows
+  abbrev new : Record
+  new = record { key = k; class = x }
 
   pub plan-room : length flows + brings edit ≤ card-of (paper s) .capacity + leaves-out edit
   plan-room =
-      let few : length (edited edit (plan .at) (record { key = k; class = x }) flows) ≤ card-of (paper s) .capacity = rw (p .list) at (p .room) in
-      omega (arith, few, length-edited edit (plan .at) (record { key = k; class = x }) flows (p .place), within edit (plan .at) (length flows) (p .place))
+      let few : length (edited edit (plan .at) new flows) ≤ card-of (paper s) .capacity = rw (p .list) at (p .room) in
+      omega (arith, few, length-edited edit (plan .at) new flows (p .place), within edit (plan .at) (length flows) (p .place))
 
-  pub plan-fit : Fit (card-of (paper s) .width) (record { key = k; class = x }) → All (Fit (card-of (paper s) .width)) flows → All (Fit (card-of (paper s) .width)) made
-  plan-fit f a = rw (p .list) (all-edited (Fit (card-of (paper s) .width)) edit (plan .at) (record { key = k; class = x }) flows f a)
+  pub plan-fit : Fit (card-of (paper s) .width) new → All (Fit (card-of (paper s) .width)) flows
+      → All (Fit (card-of (paper s) .width)) (list-after s edit k x ledger)
+  plan-fit f a = rw (p .list) (all-edited (Fit (card-of (paper s) .width)) edit (plan .at) new flows f a)
+
+  -- the choices of all its records are kept
+  pub plan-kept : plan .count ≤ length kept
+  plan-kept =
+      let taken : length (take (plan .count) kept) ≡ plan .count = ap length (p .placed .choices) ∙ rw length-map (sym (p .count)) in
+      omega (arith, taken, length-take (plan .count) kept)
 
 -- the work area has room for two numbers a bucket
 pub double : (c : Card) (work : List ℕ) (m : ℕ) → m ≡ c .buckets → length work ≡ work-length c → length work ≡ m + m

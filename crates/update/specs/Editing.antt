@@ -1,24 +1,48 @@
 -- Add, change and remove as one: what they share as the code holds it. Assumes nothing.
 use mathlib.Core.Path.{_≡_}
-use mathlib.Core.Bool.{Bool, false, cond, not}
+use mathlib.Core.Bool.{Bool, true, false, cond, not}
 use mathlib.Core.List.{List}
-use Prim.Native.Nat.{ℕ, _≤_, _<_}
+use Prim.Native.Nat.{ℕ, _+_, _-_, _*_, _≤_, _<_}
 use lib.Dec.{leb}
-use lib.ListN.{length}
+use lib.ListN.{length, take}
+use denote.Ref.{RefT, now}
+use denote.Triple.Both.{Both}
 use Rattle.theory.specs.Settings as plain
-use Rattle.theory.specs.Settings.{Card, card-of}
-use Rattle.theory.specs.Records.{Record}
-use Rattle.theory.specs.Ledger.{Call, add, change, remove, refusal, next, side-need-of}
+use Rattle.theory.specs.Settings.{Card, allowed, card-of, ledger-length}
+use Rattle.theory.specs.Records.{Record, record-bytes}
+use Rattle.theory.specs.Layout.{Areas}
+use Rattle.theory.specs.Lookup.{bare}
+use Rattle.theory.specs.Ledger.{Call, add, change, remove, refusal, next, side-need-of, Step, answered}
 use Rattle.theory.specs.Calls.{ledger-records, ledger-invalid}
+use Rattle.theory.proofs.CallLaws.{Sized}
 use Rattle.settings.specs.declared.Settings.{Settings}
 use Rattle.settings.specs.Checked.{paper}
 use Rattle.ledger.specs.Edits.{inserted-at, removed-at, replaced-at}
-use Rattle.placing.specs.Worked.{Worked}
+use Rattle.placing.specs.Ready.{Ready}
+use Rattle.placing.specs.Worked.{Placed}
 use Rattle.update.specs.declared.Edit.{Edit}
 use Rattle.update.specs.declared.Edit.the-variants.{Insert, Replace, Remove}
 use Rattle.update.specs.declared.Plan.{Plan}
 
--- the call that an edit is
+-- ---- the five areas that a call is lent: where it requires, and before and after it
+abbrev Lent : Type 0
+Lent = RefT (List ℕ)
+
+abbrev pub lent : Lent → Lent → Lent → Lent → Lent → Areas
+lent ledger true-counts clipped buckets side =
+    record { ledger = now ledger; true-counts = now true-counts; clipped-counts = now clipped; buckets = now buckets; side-store = now side }
+
+abbrev pub before : Both Lent Lent → Both Lent Lent → Both Lent Lent → Both Lent Lent → Both Lent Lent → Areas
+before ledger true-counts clipped buckets side = lent (ledger .entry) (true-counts .entry) (clipped .entry) (buckets .entry) (side .entry)
+
+abbrev pub after : Both Lent Lent → Both Lent Lent → Both Lent Lent → Both Lent Lent → Both Lent Lent → Areas
+after ledger true-counts clipped buckets side = lent (ledger .exit) (true-counts .exit) (clipped .exit) (buckets .exit) (side .exit)
+
+-- a call that answers a number alone, and leaves the areas so
+abbrev pub replied : ℕ → Areas → Step Areas
+replied number areas = record { reply = answered (bare number); state = areas }
+
+-- ---- the call that an edit is
 abbrev pub call-of : Edit → List ℕ → ℕ → Call
 call-of Insert k x = add k x
 call-of Replace k x = change k x
@@ -57,14 +81,48 @@ Fits Remove at n = at < n
 unfoldable pub judged-number : Card → Call → List ℕ → ℕ
 judged-number s c ledger = cond (ledger-invalid s ledger) 4 (refusal s c (ledger-records s ledger))
 
--- what judging has found where it refuses nothing: the count of the new list, its place, its side need, and the work area of it
-pub record Planned (s : Settings) (m : ℕ) (edit : Edit) (k : List ℕ) (x : ℕ) (ledger work : List ℕ) (r : Plan) : Type 0 where
+-- the list that the call makes of those in a ledger area
+abbrev pub list-after : Settings → Edit → List ℕ → ℕ → List ℕ → List Record
+list-after s edit k x ledger = next (card-of (paper s)) (call-of edit k x) (ledger-records (card-of (paper s)) ledger)
+
+-- what placing the new list asks, of n records in a ledger area: a place of the edit among them, and room in work and kept
+pub record PlacingNew (s : Settings) (t : List ℕ) (m : ℕ) (work kept ledger : List ℕ) (n : ℕ) (edit : Edit) (at : ℕ) (bytes : List ℕ) : Type 0 where
+  pub ready : Ready s t
+  pub buckets : m ≡ card-of (paper s) .buckets
+  pub halves : length work ≡ m + m
+  pub choices : n - leaves-out edit + brings edit ≤ length kept
+  pub room : 2 + n * (card-of (paper s) .width + 4) ≤ length ledger
+  pub few : n ≤ 4096
+  pub place : Fits edit at n
+  pub wide : length bytes ≡ card-of (paper s) .width + 4
+
+-- what judging asks: settings and a table that are ready, work, kept and ledger long enough, and the record of a key of the right width
+pub record Judging (s : Settings) (t : List ℕ) (m : ℕ) (work kept ledger k : List ℕ) (x : ℕ) (bytes : List ℕ) : Type 0 where
+  pub ready : Ready s t
+  pub buckets : m ≡ card-of (paper s) .buckets
+  pub halves : length work ≡ m + m
+  pub choices : card-of (paper s) .capacity ≤ length kept
+  pub whole : length ledger ≡ ledger-length (card-of (paper s))
+  pub wide : length k ≡ card-of (paper s) .width
+  pub written : bytes ≡ record-bytes (record { key = k; class = x })
+
+-- what judging has found where it refuses nothing: the count of the new list, its place, its side need, and that it is placed
+pub record Planned (s : Settings) (m : ℕ) (edit : Edit) (k : List ℕ) (x : ℕ) (ledger work kept : List ℕ) (r : Plan) : Type 0 where
   pub valid : ledger-invalid (card-of (paper s)) ledger ≡ false
   pub place : Fits edit (r .at) (length (ledger-records (card-of (paper s)) ledger))
-  pub room : length (next (card-of (paper s)) (call-of edit k x) (ledger-records (card-of (paper s)) ledger)) ≤ card-of (paper s) .capacity
-  pub list : next (card-of (paper s)) (call-of edit k x) (ledger-records (card-of (paper s)) ledger)
-      ≡ edited edit (r .at) (record { key = k; class = x }) (ledger-records (card-of (paper s)) ledger)
-  pub count : r .count ≡ length (next (card-of (paper s)) (call-of edit k x) (ledger-records (card-of (paper s)) ledger))
-  pub worked : Worked (card-of (paper s)) m (next (card-of (paper s)) (call-of edit k x) (ledger-records (card-of (paper s)) ledger)) work
-  pub need : r .need ≡ side-need-of (card-of (paper s)) (next (card-of (paper s)) (call-of edit k x) (ledger-records (card-of (paper s)) ledger))
+  pub room : length (list-after s edit k x ledger) ≤ card-of (paper s) .capacity
+  pub list : list-after s edit k x ledger ≡ edited edit (r .at) (record { key = k; class = x }) (ledger-records (card-of (paper s)) ledger)
+  pub count : r .count ≡ length (list-after s edit k x ledger)
+  pub placed : Placed (card-of (paper s)) m (list-after s edit k x ledger) work (take (r .count) kept)
+  pub need : r .need ≡ side-need-of (card-of (paper s)) (list-after s edit k x ledger)
   pub enough : r .need ≤ card-of (paper s) .side-places
+
+-- what writing it asks: areas of their lengths, the record of a key of the right width, and the plan
+pub record Making (s : Settings) (m : ℕ) (edit : Edit) (k : List ℕ) (x : ℕ) (bytes : List ℕ) (areas : Areas) (work kept : List ℕ) (r : Plan) : Type 0 where
+  pub ok : allowed (paper s) ≡ true
+  pub buckets : m ≡ card-of (paper s) .buckets
+  pub halves : length work ≡ m + m
+  pub wide : length k ≡ card-of (paper s) .width
+  pub written : bytes ≡ record-bytes (record { key = k; class = x })
+  pub sized : Sized (card-of (paper s)) areas
+  pub planned : Planned s m edit k x (areas .ledger) work kept r

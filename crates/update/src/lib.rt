@@ -4,24 +4,24 @@ use settings::Settings;
 use settings::lengths::Lengths;
 use settings::lengths::lengths_right;
 ghost use mathlib.Core.Path.{_≡_};
-ghost use Prim.Native.Nat.{_+_, _*_, _≤_};
+ghost use Prim.Native.Nat.{_+_, _-_, _≤_};
 ghost use lib.ListN.{length, take, drop};
-ghost use Rattle.theory.specs.Settings.{card-of, record-size, ledger-length, work-length};
+ghost use Rattle.theory.specs.Settings.{card-of, record-size, work-length};
 ghost use Rattle.theory.specs.Records.{Record, records, record-bytes};
-ghost use Rattle.theory.specs.Lookup.{bare};
-ghost use Rattle.theory.specs.Ledger.{side-need-of, next, Step, answered};
+ghost use Rattle.theory.specs.Ledger.{side-need-of};
 ghost use Rattle.theory.specs.Calls.{ledger-records};
 ghost use Rattle.theory.specs.Calls as calls;
 ghost use Rattle.theory.specs.Calls.{perform};
 ghost use Rattle.theory.specs.Ledger as ledgers;
 ghost use Rattle.theory.proofs.CallLaws.{Sized};
 ghost use Rattle.settings.specs.Checked.{paper};
-ghost use Rattle.theory.specs.Layout.{Areas, counted-places, layout};
+ghost use Rattle.theory.specs.Layout.{counted-places, layout};
 ghost use Rattle.ledger.specs.Edits.{ValidLedger};
 ghost use Rattle.theory.proofs.ByteLaws.{Fit};
 ghost use Rattle.placing.specs.Ready.{Ready};
-ghost use Rattle.placing.specs.Worked.{Worked};
-ghost use Rattle.update.specs.Editing.{call-of, edited, brings, leaves-out, by-list, Fits, judged-number, Planned};
+ghost use Rattle.placing.specs.Worked.{Placed};
+ghost use Rattle.update.specs.Editing.{lent, before, after, replied, call-of, edited, brings, leaves-out, by-list, Fits, judged-number, list-after};
+ghost use Rattle.update.specs.Editing.{PlacingNew, Judging, Planned, Making};
 
 // Add, change or remove.
 pub enum Edit {
@@ -76,41 +76,31 @@ fn left_out(edit: Edit) -> usize
     }
 }
 
-// The side need of the list that the edit would make, which lies in three areas, and its work area.
+// The side need of the list that the edit would make, which lies in three areas, its work area and its choices.
 fn place_new(
     s: Settings,
     t: &[u64],
     m: usize,
     work: &mut [u16],
+    kept: &mut [u16],
     ledger: &[u8],
     n: usize,
     edit: Edit,
     at: usize,
     record: &[u8],
 ) -> usize
-    requires { ⌜ Ready s (now t) × (m ≡ card-of (paper s) .buckets) × (length (now work) ≡ m + m) × Fits edit at n × (n ≤ 4096)
-        × (2 + n * (card-of (paper s) .width + 4) ≤ length (now ledger)) × (length (now «record») ≡ card-of (paper s) .width + 4) ⌝ }
+    requires { ⌜ PlacingNew s (now t) m (now work) (now kept) (now ledger) n edit at (now «record») ⌝ }
     ensures { λ r. ⌜ ((x : Record) → record-bytes x ≡ now («record» .entry) → Fit (card-of (paper s) .width) x
         → (r ≡ side-need-of (card-of (paper s)) (edited edit at x (records (card-of (paper s) .width) n (drop 2 (now (ledger .entry))))))
-        × Worked (card-of (paper s)) m (edited edit at x (records (card-of (paper s) .width) n (drop 2 (now (ledger .entry))))) (now (work .exit))) ⌝ }
+        × Placed (card-of (paper s)) m (edited edit at x (records (card-of (paper s) .width) n (drop 2 (now (ledger .entry)))))
+        (now (work .exit)) (take (n - leaves-out edit + brings edit) (now (kept .exit)))) ⌝ }
 {
     let from = at + left_out(edit);
     let after = 2 + from * s.record_size();
     let rest = n - from;
     let mid = brought(edit);
+    let total = at + mid + rest;
     placing::place_parts(
-        s,
-        t,
-        m,
-        &mut work[..],
-        &ledger[2..],
-        at,
-        record,
-        mid,
-        &ledger[after..],
-        rest,
-    );
-    placing::need_parts(
         s,
         t,
         m,
@@ -121,7 +111,9 @@ fn place_new(
         mid,
         &ledger[after..],
         rest,
-    )
+        &mut kept[..total],
+    );
+    placing::side_need(s, m, work, &kept[..total])
 }
 
 fn refuse(number: u32) -> Plan
@@ -135,22 +127,22 @@ fn refuse(number: u32) -> Plan
     }
 }
 
-// 4, then 6 and 8 or 7, then 9, in this order; nothing but work is written.
+// 4, then 6 and 8 or 7, then 9, in this order; nothing but work and kept is written.
 fn judge(
     s: Settings,
     t: &[u64],
     m: usize,
     work: &mut [u16],
+    kept: &mut [u16],
     ledger: &[u8],
     edit: Edit,
     key: &[u8],
     class: u32,
     record: &[u8],
 ) -> Plan
-    requires { ⌜ Ready s (now t) × (m ≡ card-of (paper s) .buckets) × (length (now work) ≡ m + m) × (length (now ledger) ≡ ledger-length (card-of (paper s)))
-        × (length (now key) ≡ card-of (paper s) .width) × (now «record» ≡ record-bytes (record { key = now key; class = class })) ⌝ }
+    requires { ⌜ Judging s (now t) m (now work) (now kept) (now ledger) (now key) class (now «record») ⌝ }
     ensures { λ r. ⌜ (r .number ≡ judged-number (card-of (paper s)) (call-of edit (now (key .entry)) class) (now (ledger .entry)))
-        × (r .number ≡ 0 → Planned s m edit (now (key .entry)) class (now (ledger .entry)) (now (work .exit)) r) ⌝ }
+        × (r .number ≡ 0 → Planned s m edit (now (key .entry)) class (now (ledger .entry)) (now (work .exit)) (now (kept .exit)) r) ⌝ }
 {
     if !ledger::valid(s, ledger) {
         return refuse(4);
@@ -161,7 +153,7 @@ fn judge(
     if by_list != 0 {
         return refuse(by_list);
     }
-    let need = place_new(s, t, m, &mut work[..], ledger, n, edit, spot.at, record);
+    let need = place_new(s, t, m, work, kept, ledger, n, edit, spot.at, record);
     if s.side_places < need {
         return refuse(9);
     }
@@ -182,16 +174,15 @@ fn edit_ledger(s: Settings, edit: Edit, ledger: &mut [u8], at: usize, record: &[
         → now (ledger .exit) ≡ counted-places (card-of (paper s)) (card-of (paper s) .capacity) (edited edit at x (ledger-records (card-of (paper s)) (now (ledger .entry))))) ⌝ }
 {
     match edit {
-        Edit::Insert => ledger::edits::insert_record(s, &mut ledger[..], at, record),
-        Edit::Replace => ledger::edits::replace_record(s, &mut ledger[..], at, record),
-        Edit::Remove => ledger::edits::remove_record(s, &mut ledger[..], at),
+        Edit::Insert => ledger::edits::insert_record(s, ledger, at, record),
+        Edit::Replace => ledger::edits::replace_record(s, ledger, at, record),
+        Edit::Remove => ledger::edits::remove_record(s, ledger, at),
     }
 }
 
 // The layout of the new list, in every area.
 fn write_new(
     s: Settings,
-    t: &[u64],
     m: usize,
     plan: Plan,
     edit: Edit,
@@ -201,30 +192,28 @@ fn write_new(
     buckets: &mut [u8],
     side: &mut [u8],
     work: &[u16],
+    kept: &[u16],
     key: &[u8],
     class: u32,
     record: &[u8],
 )
-    requires { ⌜ Ready s (now t) × (m ≡ card-of (paper s) .buckets) × (length (now work) ≡ m + m) × (length (now key) ≡ card-of (paper s) .width)
-        × (now «record» ≡ record-bytes (record { key = now key; class = class }))
-        × Sized (card-of (paper s)) (record { ledger = now ledger; true-counts = now «true_counts»; clipped-counts = now clipped; buckets = now buckets; side-store = now side })
-        × Planned s m edit (now key) class (now ledger) (now work) plan ⌝ }
-    ensures { λ _. ⌜ _≡_ {A = Areas} (record { ledger = now (ledger .exit); true-counts = now («true_counts» .exit); clipped-counts = now (clipped .exit); buckets = now (buckets .exit); side-store = now (side .exit) })
-        (layout (card-of (paper s)) (next (card-of (paper s)) (call-of edit (now (key .entry)) class) (ledger-records (card-of (paper s)) (now (ledger .entry))))) ⌝ }
+    requires { ⌜ Making s m edit (now key) class (now «record») (lent ledger «true_counts» clipped buckets side) (now work) (now kept) plan ⌝ }
+    ensures { λ _. ⌜ after ledger «true_counts» clipped buckets side
+        ≡ layout (card-of (paper s)) (list-after s edit (now (key .entry)) class (now (ledger .entry))) ⌝ }
 {
     let at = plan.at;
     let count = plan.count;
     let need = plan.need;
-    edit_ledger(s, edit, &mut ledger[..], at, record);
+    edit_ledger(s, edit, ledger, at, record);
     writing::write_areas(
         s,
-        t,
         m,
         work,
-        &mut true_counts[..],
-        &mut clipped[..],
-        &mut buckets[..],
-        &mut side[..],
+        &kept[..count],
+        true_counts,
+        clipped,
+        buckets,
+        side,
         &ledger[2..],
         count,
         need,
@@ -263,10 +252,10 @@ fn update_lent(
     class: u32,
 ) -> u32
     requires { ⌜ Ready s (now t) × (length (now work) ≡ work-length (card-of (paper s)))
-        × Sized (card-of (paper s)) (record { ledger = now ledger; true-counts = now «true_counts»; clipped-counts = now clipped; buckets = now buckets; side-store = now side }) ⌝ }
-    ensures { λ r. ⌜ _≡_ {A = Step Areas} (record { reply = answered (bare r); state = record { ledger = now (ledger .exit); true-counts = now («true_counts» .exit); clipped-counts = now (clipped .exit); buckets = now (buckets .exit); side-store = now (side .exit) } })
-        (calls.update (card-of (paper s)) (now (key .entry)) (call-of edit (now (key .entry)) class)
-        (record { ledger = now (ledger .entry); true-counts = now («true_counts» .entry); clipped-counts = now (clipped .entry); buckets = now (buckets .entry); side-store = now (side .entry) })) ⌝ }
+        × Sized (card-of (paper s)) (lent ledger «true_counts» clipped buckets side) ⌝ }
+    ensures { λ r. ⌜ replied r (after ledger «true_counts» clipped buckets side)
+        ≡ calls.update (card-of (paper s)) (now (key .entry)) (call-of edit (now (key .entry)) class)
+        (before ledger «true_counts» clipped buckets side) ⌝ }
 {
     if key.len() != s.width() {
         return 3;
@@ -274,11 +263,13 @@ fn update_lent(
     let m = s.buckets();
     let size = s.record_size();
     let buffer = record_of(key, class, size);
+    let mut kept = [0u16; Settings::CAPACITY_MOST as usize];
     let plan = judge(
         s,
         t,
         m,
-        &mut work[..],
+        work,
+        &mut kept[..],
         ledger,
         edit,
         key,
@@ -291,16 +282,16 @@ fn update_lent(
     }
     write_new(
         s,
-        t,
         m,
         plan,
         edit,
-        &mut ledger[..],
-        &mut true_counts[..],
-        &mut clipped[..],
-        &mut buckets[..],
-        &mut side[..],
+        ledger,
+        true_counts,
+        clipped,
+        buckets,
+        side,
         work,
+        &kept[..],
         key,
         class,
         &buffer[..size],
@@ -326,9 +317,10 @@ pub fn update(
     key: &[u8],
     class: u32,
 ) -> u32
-    ensures { λ r. ⌜ _≡_ {A = Step Areas} (record { reply = answered (bare r); state = record { ledger = now (ledger .exit); true-counts = now («true_counts» .exit); clipped-counts = now (clipped .exit); buckets = now (buckets .exit); side-store = now (side .exit) } })
-        (perform (record { p = p; k = k; room = room; top = top; capacity = capacity; side-places = «side_places» }) (length (now (work .entry))) (call-of edit (now (key .entry)) class)
-        (record { ledger = now (ledger .entry); true-counts = now («true_counts» .entry); clipped-counts = now (clipped .entry); buckets = now (buckets .entry); side-store = now (side .entry) })) ⌝ }
+    ensures { λ r. ⌜ replied r (after ledger «true_counts» clipped buckets side)
+        ≡ perform (record { p = p; k = k; room = room; top = top; capacity = capacity; side-places = «side_places» }) (length (now (work .entry)))
+        (call-of edit (now (key .entry)) class)
+        (before ledger «true_counts» clipped buckets side) ⌝ }
 {
     let checked = Settings::new(p, k, room, top, capacity, side_places);
     let Checked::Allowed(s) = checked else {
@@ -349,12 +341,12 @@ pub fn update(
         s,
         &table[..],
         edit,
-        &mut ledger[..],
-        &mut true_counts[..],
-        &mut clipped[..],
-        &mut buckets[..],
-        &mut side[..],
-        &mut work[..],
+        ledger,
+        true_counts,
+        clipped,
+        buckets,
+        side,
+        work,
         key,
         class,
     )
@@ -374,9 +366,9 @@ pub fn clear(
     buckets: &mut [u8],
     side: &mut [u8],
 ) -> u32
-    ensures { λ r. ⌜ _≡_ {A = Step Areas} (record { reply = answered (bare r); state = record { ledger = now (ledger .exit); true-counts = now («true_counts» .exit); clipped-counts = now (clipped .exit); buckets = now (buckets .exit); side-store = now (side .exit) } })
-        (perform (record { p = p; k = k; room = room; top = top; capacity = capacity; side-places = «side_places» }) 0 ledgers.clear
-        (record { ledger = now (ledger .entry); true-counts = now («true_counts» .entry); clipped-counts = now (clipped .entry); buckets = now (buckets .entry); side-store = now (side .entry) })) ⌝ }
+    ensures { λ r. ⌜ replied r (after ledger «true_counts» clipped buckets side)
+        ≡ perform (record { p = p; k = k; room = room; top = top; capacity = capacity; side-places = «side_places» }) 0 ledgers.clear
+        (before ledger «true_counts» clipped buckets side) ⌝ }
 {
     let checked = Settings::new(p, k, room, top, capacity, side_places);
     let Checked::Allowed(s) = checked else {
@@ -392,13 +384,6 @@ pub fn clear(
     if !lengths_right(s, l) {
         return 2;
     }
-    writing::clear_areas(
-        s,
-        &mut ledger[..],
-        &mut true_counts[..],
-        &mut clipped[..],
-        &mut buckets[..],
-        &mut side[..],
-    );
+    writing::clear_areas(s, ledger, true_counts, clipped, buckets, side);
     0
 }

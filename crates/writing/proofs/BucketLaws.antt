@@ -15,13 +15,13 @@ use Rattle.theory.specs.Records.{Record, record-bytes, entries, record-at, reco
 use Rattle.theory.specs.Settings.{Card, record-size, bucket-size, buckets-length}
 use Rattle.theory.specs.Placing.{true-count, all-top, chosen, chooses, choosers, crowded, mark, bucket-records}
 use Rattle.theory.specs.Layout.{places, bucket-bytes, buckets-bytes}
-use Rattle.theory.proofs.ListLaws.{by-test, All, all-map, all-every, length-flat, length-upto, filter-all, piece}
+use Rattle.theory.proofs.ListLaws.{or-left, or-right, by-test, All, all-map, all-every, length-flat, length-upto, filter-all, piece}
 use Rattle.theory.proofs.SettingsLaws.{Sound}
 use Rattle.theory.proofs.ByteLaws.{Fit, length-record}
 use Rattle.theory.proofs.LayoutLaws.{length-places}
 use Rattle.theory.proofs.PlacingLaws.{chosen-below}
 use Rattle.ledger.proofs.PartLaws.{back, length-lent}
-use Rattle.placing.specs.Worked.{nth, Worked}
+use Rattle.placing.specs.Worked.{nth, belongs-by, Worked, choice-by}
 use Rattle.placing.proofs.CountingLaws.{filter-append}
 use Rattle.placing.proofs.RecordLaws.{records-more}
 use Rattle.placing.proofs.WorkLaws.{counts-are}
@@ -216,13 +216,18 @@ module _ {s : Card} {m n i : ℕ} {work area : List ℕ} (ok : Sound s) (h : Tur
   fits-at k le b e =
       omega (arith, ltb-false (s .room) (nth (drop m work) b) e, choices b, filter-mono (s .width) (λ r. chooses s counts b (r .key)) k n area le)
 
-  pub skip-all-top : all-top s counts key ≡ true → placed s m work i area ≡ placed s m work (i + 1) area
+  skip-all-top : all-top s counts key ≡ true → placed s m work i area ≡ placed s m work (i + 1) area
   unfolding record-at
   skip-all-top e = stay-all-top s crowd counts (first i) this e ∙ ap (growing-buckets s crowd counts) (sym next-one)
 
-  pub skip-crowded : crowd (chosen s counts key) ≡ true → placed s m work i area ≡ placed s m work (i + 1) area
+  skip-crowded : crowd (chosen s counts key) ≡ true → placed s m work i area ≡ placed s m work (i + 1) area
   unfolding record-at
   skip-crowded e = stay-crowded s crowd counts (first i) this e ∙ ap (growing-buckets s crowd counts) (sym next-one)
+
+  -- a record that belongs to the side leaves the buckets as they are
+  pub skip-side : belongs-by s counts (nth (drop m work)) key ≡ true → placed s m work i area ≡ placed s m work (i + 1) area
+  unfolding belongs-by
+  skip-side e = by-test (all-top s counts key) skip-all-top (λ q. skip-crowded (rw q at e))
 
   length-placed : length (placed s m work i area) ≡ buckets-length s
   length-placed = length-all-growing s crowd counts (first i) (turn-fit h i (omega arith)) (fits-at i (omega arith))
@@ -231,9 +236,22 @@ module _ {s : Card} {m n i : ℕ} {work area : List ℕ} (ok : Sound s) (h : Tur
   unfolding record-size
   length-bytes = turn-bytes h
 
-  module _ (out : all-top s counts key ≡ false) (free : crowd (chosen s counts key) ≡ false) where
+  -- another is put into the part of the bucket that it chooses
+  module _ (stays : belongs-by s counts (nth (drop m work)) key ≡ false) where
     abbrev here : ℕ
     here = chosen s counts key
+
+    out : all-top s counts key ≡ false
+    unfolding belongs-by
+    out = or-left (all-top s counts key) (crowd here) stays
+
+    free : crowd here ≡ false
+    unfolding belongs-by
+    free = or-right (all-top s counts key) (crowd here) stays
+
+    choice-is : choice-by s counts key ≡ here
+    unfolding choice-by
+    choice-is = rw out
 
     abbrev part : List ℕ
     part = take (bucket-size s) (drop (here * bucket-size s) (placed s m work i area))
@@ -287,27 +305,27 @@ pub record ChosenPart (s : Card) (m i : ℕ) (work area : List ℕ) (size part-s
       → back (bucket * part-size) (bucket * part-size + part-size - bucket * part-size) buckets ys ≡ placed s m work (i + 1) area
 
 module _ {s : Card} {m n i : ℕ} {work area : List ℕ} (ok : Sound s) (h : Turn (s .width) n i area) (g : Worked s m (records (s .width) n area) work) where
-  pub chosen-part : (size part-size bucket : ℕ) (buckets : List ℕ) → size ≡ s .width + 4 → part-size ≡ bucket-size s → buckets ≡ placed s m work i area
-      → bucket ≡ chosen s (counts ok h g) (key ok h g) → all-top s (counts ok h g) (key ok h g) ≡ false → crowded-by s m work (chosen s (counts ok h g) (key ok h g)) ≡ false
-      → ChosenPart s m i work area size part-size bucket buckets
-  chosen-part size part-size bucket buckets is-size is-part before is-bucket out free =
-      let start : bucket * part-size ≡ here ok h g out free * bucket-size s = rw (is-bucket, is-part) in
-      let lent : row-lent bucket part-size buckets ≡ part ok h g out free =
-      lent-is (bucket * part-size) (here ok h g out free * bucket-size s) part-size (bucket-size s) buckets (placed s m work i area) start is-part before in
+  pub chosen-part : (size part-size bucket : ℕ) (buckets : List ℕ) → size ≡ s .width + 4 → part-size ≡ bucket-size s
+      → buckets ≡ placed s m work i area → bucket ≡ choice-by s (counts ok h g) (key ok h g)
+      → belongs-by s (counts ok h g) (nth (drop m work)) (key ok h g) ≡ false → ChosenPart s m i work area size part-size bucket buckets
+  chosen-part size part-size bucket buckets is-size is-part before is-choice stays =
+      let start : bucket * part-size ≡ here ok h g stays * bucket-size s = rw (is-choice, choice-is ok h g stays, is-part) in
+      let lent : row-lent bucket part-size buckets ≡ part ok h g stays =
+      lent-is (bucket * part-size) _ part-size _ buckets (placed s m work i area) start is-part before in
       let lent-record : row-lent i size area ≡ bytes ok h g = lent-is (i * size) (i * (s .width + 4)) size (s .width + 4) area area (rw is-size) is-size refl in
       record {
-        within = rw (start, is-part, before) (row ok h g out free);
-        mark-low = rw lent (mark-low ok h g out free);
+        within = rw (start, is-part, before) (row ok h g stays);
+        mark-low = rw lent (mark-low ok h g stays);
         one-more = λ ys e.
-            back-is (bucket * part-size) (here ok h g out free * bucket-size s) part-size (bucket-size s) buckets (placed s m work i area) ys
-            (appended (part ok h g out free) (bytes ok h g)) start is-part before (e ∙ rw (lent, lent-record))
-            ∙ put ok h g out free;
+            back-is (bucket * part-size) _ part-size _ buckets (placed s m work i area) ys (appended (part ok h g stays) (bytes ok h g))
+            start is-part before (e ∙ rw (lent, lent-record))
+            ∙ put ok h g stays;
       }
 
 -- every record placed: the buckets of the layout
-pub placed-all : (s : Card) (m n : ℕ) (work area : List ℕ) → Worked s m (records (s .width) n area) work
+pub placed-all : {s : Card} {m : ℕ} {work : List ℕ} (n : ℕ) (area : List ℕ) → Worked s m (records (s .width) n area) work
     → placed s m work n area ≡ buckets-bytes s (true-count s (records (s .width) n area)) (records (s .width) n area)
-placed-all s m n work area g =
+placed-all {s} {m} {work} n area g =
     let l = records (s .width) n area in
     ap (λ (c : ℕ → ℕ). growing-buckets s (crowded-by s m work) c l) (counts-are s m l work g)
     ∙ growing-all s (crowded-by s m work) (true-count s l) l (λ b. unfold crowded in ap (ltb (s .room)) (g .choices b))

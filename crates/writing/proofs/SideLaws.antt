@@ -26,7 +26,7 @@ use Rattle.writing.proofs.PartLaws.{zeros, row-fits, Turn, turn-record,
 use Rattle.writing.proofs.BucketLaws.{places-more}
 
 -- ---- the turn of record i
-module _ (s : Card) (m n i : ℕ) (work area : List ℕ) (h : Turn (s .width) n i area) where
+module _ {s : Card} {m n i : ℕ} {work area : List ℕ} (h : Turn (s .width) n i area) (g : Worked s m (records (s .width) n area) work) where
   abbrev this : Record
   this = record-at (s .width) (drop (i * (s .width + 4)) area)
 
@@ -39,49 +39,51 @@ module _ (s : Card) (m n i : ℕ) (work area : List ℕ) (h : Turn (s .width) n 
   abbrev goes : List ℕ → Bool
   goes = belongs-by s (nth (take m work)) (nth (drop m work))
 
-  abbrev kept : ℕ → List Record
-  kept k = sent s m work k area
+  abbrev stored : ℕ → List Record
+  stored k = sent s m work k area
 
-  next-one : kept (i + 1) ≡ kept i ++ filter (λ r. goes (r .key)) (this ∷ [])
+  next-one : stored (i + 1) ≡ stored i ++ filter (λ r. goes (r .key)) (this ∷ [])
   unfolding sent-to-side
-  next-one = ap (filter (λ r. goes (r .key))) (records-more (s .width) i area) ∙ filter-append (λ r. goes (r .key)) (records (s .width) i area) (this ∷ [])
+  next-one =
+      ap (filter (λ r. goes (r .key))) (records-more (s .width) i area) ∙ filter-append (λ r. goes (r .key)) (records (s .width) i area) (this ∷ [])
 
-  pub not-sent : goes key ≡ false → kept i ≡ kept (i + 1)
+  pub not-sent : goes key ≡ false → stored i ≡ stored (i + 1)
   unfolding record-at
   not-sent e = sym (next-one ∙ rw (e, append-nil))
 
-  one-more : goes key ≡ true → kept (i + 1) ≡ kept i ++ (this ∷ [])
+  one-more : goes key ≡ true → stored (i + 1) ≡ stored i ++ (this ∷ [])
   unfolding record-at
   one-more e = next-one ∙ rw e
 
-  pub sent-length : goes key ≡ true → length (kept (i + 1)) ≡ length (kept i) + 1
+  pub sent-length : goes key ≡ true → length (stored (i + 1)) ≡ length (stored i) + 1
   sent-length e = rw (one-more e, length-append)
 
-  sent-mono : (k : ℕ) → k ≤ n → length (kept k) ≤ length (kept n)
+  sent-mono : (k : ℕ) → k ≤ n → length (stored k) ≤ length (stored n)
   unfolding sent-to-side
   sent-mono k le = filter-mono (s .width) (λ r. goes (r .key)) k n area le
 
-  fit : All (Fit (s .width)) (kept i)
+  fit : All (Fit (s .width)) (stored i)
   unfolding sent-to-side
   fit = filter-all (Fit (s .width)) (λ r. goes (r .key)) (records (s .width) i area) (turn-fit h i (omega arith))
 
-  module _ (enough : length (kept n) ≤ s .side-places) where
+  module _ (enough : length (stored n) ≤ s .side-places) where
     pub store-length : length (sent-places s m work i area) ≡ record-size s * s .side-places
-    store-length = length-places s (s .side-places) (kept i) fit (omega (arith, sent-mono i (omega arith)))
+    store-length = length-places s (s .side-places) (stored i) fit (omega (arith, sent-mono i (omega arith)))
 
     module _ (yes : goes key ≡ true) where
-      room : length (kept i) < s .side-places
+      room : length (stored i) < s .side-places
       room = omega (arith, sent-length yes, sent-mono (i + 1) (omega arith))
 
       -- the place after the records so far lies within the store
-      pub place-within : record-size s * length (kept i) + record-size s ≤ length (sent-places s m work i area)
+      pub place-within : record-size s * length (stored i) + record-size s ≤ length (sent-places s m work i area)
       place-within =
-          rw (store-length, mul-comm (record-size s) (length (kept i)), mul-comm (record-size s) (s .side-places)) (row-fits (length (kept i)) (s .side-places) (record-size s) room)
+          rw (store-length, mul-comm (record-size s) (length (stored i)), mul-comm (record-size s) (s .side-places))
+          (row-fits (length (stored i)) (s .side-places) (record-size s) room)
 
-      pub sent-put : back (record-size s * length (kept i)) (record-size s) (sent-places s m work i area) bytes ≡ sent-places s m work (i + 1) area
+      pub sent-put : back (record-size s * length (stored i)) (record-size s) (sent-places s m work i area) bytes ≡ sent-places s m work (i + 1) area
       sent-put =
-          ap (back (record-size s * length (kept i)) (record-size s) (sent-places s m work i area)) (sym (turn-record h))
-          ∙ places-more s (s .side-places) (kept i) this fit room ∙ ap (places s (s .side-places)) (sym (one-more yes))
+          ap (back (record-size s * length (stored i)) (record-size s) (sent-places s m work i area)) (sym (turn-record h))
+          ∙ places-more s (s .side-places) (stored i) this fit room ∙ ap (places s (s .side-places)) (sym (one-more yes))
 
 -- ---- none yet
 module _ (s : Card) (m : ℕ) (work area : List ℕ) where
@@ -103,7 +105,7 @@ no-elements [] e = refl
 no-elements (r ∷ rs) e = absurd (omega arith)
 
 -- ---- all: whom work sends to the side, the list does
-module _ (s : Card) (m : ℕ) (l : List Record) (work : List ℕ) (g : Worked s m l work) where
+module _ {s : Card} {m : ℕ} {l : List Record} {work : List ℕ} (g : Worked s m l work) where
   sent-all : sent-to-side s m work l ≡ side-records s (true-count s l) l
   unfolding sent-to-side side-records
   sent-all = ap (λ (p : List ℕ → Bool). filter (λ (r : Record). p (r .key)) l) (λ i k. belongs-is s m l work g k i)
@@ -112,7 +114,8 @@ module _ (s : Card) (m : ℕ) (l : List Record) (work : List ℕ) (g : Worked s 
   unfolding sent-to-side
   sent-need = need-is s m l work g
 
-  pub side-written : (n : ℕ) → n ≡ side-need-of s l → to-bytes 2 n ++ places s (s .side-places) (sent-to-side s m work l) ≡ side-bytes s (true-count s l) l
+  pub side-written : (n : ℕ) → n ≡ side-need-of s l
+      → to-bytes 2 n ++ places s (s .side-places) (sent-to-side s m work l) ≡ side-bytes s (true-count s l) l
   unfolding side-bytes counted-places side-need-of side-need
   side-written n e = rw (e, sent-all)
 

@@ -1,3 +1,4 @@
+pub mod Laying
 pub mod Counts
 pub mod Buckets
 pub mod Side

@@ -11,8 +11,7 @@ ghost use Rattle.theory.specs.Records.{records};
 ghost use Rattle.theory.specs.Placing.{true-count};
 ghost use Rattle.theory.specs.Layout.{buckets-bytes};
 ghost use Rattle.settings.specs.Checked.{paper};
-ghost use Rattle.placing.specs.Ready.{Ready};
-ghost use Rattle.placing.specs.Worked.{Worked};
+ghost use Rattle.writing.specs.Laying.{Laying};
 ghost use Rattle.writing.specs.Buckets.{crowded-by, blank-buckets, placed, appended};
 
 fn wide(mark: u8) -> usize
@@ -62,54 +61,49 @@ fn open_buckets(s: Settings, m: usize, work: &[u16], buckets: &mut [u8])
 // Record i of the list goes to its bucket's part, unless it belongs to the side.
 fn place_record(
     s: Settings,
-    t: &[u64],
     m: usize,
     work: &[u16],
+    kept: &[u16],
     buckets: &mut [u8],
     area: &[u8],
     n: usize,
     i: usize,
 )
-    requires { ⌜ Ready s (now t) × (m ≡ card-of (paper s) .buckets) × (length (now work) ≡ m + m) × (n * (card-of (paper s) .width + 4) ≤ length (now area)) × (i < n) × Worked (card-of (paper s)) m (records (card-of (paper s) .width) n (now area)) (now work)
+    requires { ⌜ Laying s m (now work) (now kept) (now area) n × (i < n)
         × (now buckets ≡ placed (card-of (paper s)) m (now work) i (now area)) ⌝ }
     ensures { λ _. ⌜ now (buckets .exit) ≡ placed (card-of (paper s)) m (now (work .entry)) (i + 1) (now (area .entry)) ⌝ }
 {
+    let choice = kept[i];
+    let bucket = choice as usize;
+    if placing::aside(s, m, work, choice) {
+        return;
+    }
     let size = s.record_size();
     let at = i * size;
-    let end = at + s.width();
-    let choice = placing::choose(s, t, &work[..m], &area[at..end]);
-    if choice.all_top {
-        return;
-    }
-    let bucket = choice.bucket;
-    let choosers = work[m + bucket] as usize;
-    if s.room < choosers {
-        return;
-    }
+    let next = at + size;
     let part_size = s.bucket_size();
     let start = bucket * part_size;
     let stop = start + part_size;
-    let next = at + size;
     append(&mut buckets[start..stop], &area[at..next]);
 }
 
 // Every record of the list, in key order.
 fn place_records(
     s: Settings,
-    t: &[u64],
     m: usize,
     work: &[u16],
+    kept: &[u16],
     buckets: &mut [u8],
     area: &[u8],
     n: usize,
 )
-    requires { ⌜ Ready s (now t) × (m ≡ card-of (paper s) .buckets) × (length (now work) ≡ m + m) × (n * (card-of (paper s) .width + 4) ≤ length (now area)) × Worked (card-of (paper s)) m (records (card-of (paper s) .width) n (now area)) (now work)
+    requires { ⌜ Laying s m (now work) (now kept) (now area) n
         × (now buckets ≡ blank-buckets (card-of (paper s)) (crowded-by (card-of (paper s)) m (now work)) (card-of (paper s) .buckets)) ⌝ }
     ensures { λ _. ⌜ now (buckets .exit) ≡ placed (card-of (paper s)) m (now (work .entry)) n (now (area .entry)) ⌝ }
 {
     let mut i: usize = 0;
     while i < n {
-        place_record(s, t, m, work, &mut buckets[..], area, n, i);
+        place_record(s, m, work, kept, buckets, area, n, i);
         i += 1;
     }
 }
@@ -118,17 +112,17 @@ fn place_records(
 // One chosen by more has mark 255, then zeros"
 pub fn write_buckets(
     s: Settings,
-    t: &[u64],
     m: usize,
     work: &[u16],
+    kept: &[u16],
     buckets: &mut [u8],
     area: &[u8],
     n: usize,
 )
-    requires { ⌜ Ready s (now t) × (m ≡ card-of (paper s) .buckets) × (length (now work) ≡ m + m) × (n * (card-of (paper s) .width + 4) ≤ length (now area)) × Worked (card-of (paper s)) m (records (card-of (paper s) .width) n (now area)) (now work)
+    requires { ⌜ Laying s m (now work) (now kept) (now area) n
         × (length (now buckets) ≡ buckets-length (card-of (paper s))) ⌝ }
     ensures { λ _. ⌜ now (buckets .exit) ≡ buckets-bytes (card-of (paper s)) (true-count (card-of (paper s)) (records (card-of (paper s) .width) n (now (area .entry)))) (records (card-of (paper s) .width) n (now (area .entry))) ⌝ }
 {
-    open_buckets(s, m, work, &mut buckets[..]);
-    place_records(s, t, m, work, &mut buckets[..], area, n);
+    open_buckets(s, m, work, buckets);
+    place_records(s, m, work, kept, buckets, area, n);
 }

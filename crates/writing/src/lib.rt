@@ -4,7 +4,7 @@ use settings::Settings;
 ghost use mathlib.Core.Path.{_≡_};
 ghost use mathlib.Core.Bool.{true};
 ghost use mathlib.Core.List.{[], map};
-ghost use Prim.Native.Nat.{_+_, _*_, _≤_};
+ghost use Prim.Native.Nat.{_≤_};
 ghost use lib.ListN.{length};
 ghost use Rattle.theory.specs.Lists.{upto};
 ghost use Rattle.theory.specs.Records.{records};
@@ -13,19 +13,18 @@ ghost use Rattle.theory.specs.Placing.{true-count};
 ghost use Rattle.theory.specs.Layout.{counter-bytes, buckets-bytes, side-bytes, layout};
 ghost use Rattle.theory.specs.Ledger.{side-need-of};
 ghost use Rattle.settings.specs.Checked.{paper};
-ghost use Rattle.placing.specs.Ready.{Ready};
-ghost use Rattle.placing.specs.Worked.{Worked};
+ghost use Rattle.writing.specs.Laying.{Laying};
 
 pub mod buckets; // buckets.rt: the bucket area, each bucket's part lent on
 pub mod counts; // counts.rt: true counts and clipped counts
 pub mod side; // side.rt: the side store
 
-// The layout of the list in every area but the ledger, whose records are `area`; work holds the list's true counts and choosers.
+// The layout of the list in every area but the ledger, whose records are `area`, by what placing it left in work and kept.
 pub fn write_areas(
     s: Settings,
-    t: &[u64],
     m: usize,
     work: &[u16],
+    kept: &[u16],
     true_counts: &mut [u16],
     clipped: &mut [u8],
     buckets: &mut [u8],
@@ -34,8 +33,7 @@ pub fn write_areas(
     n: usize,
     need: usize,
 )
-    requires { ⌜ Ready s (now t) × (m ≡ card-of (paper s) .buckets) × (length (now work) ≡ m + m) × (n * (card-of (paper s) .width + 4) ≤ length (now area)) × (n ≤ 60000)
-        × Worked (card-of (paper s)) m (records (card-of (paper s) .width) n (now area)) (now work)
+    requires { ⌜ Laying s m (now work) (now kept) (now area) n
         × (need ≡ side-need-of (card-of (paper s)) (records (card-of (paper s) .width) n (now area))) × (need ≤ card-of (paper s) .side-places)
         × (length (now «true_counts») ≡ true-length (card-of (paper s))) × (length (now clipped) ≡ clipped-length (card-of (paper s)))
         × (length (now buckets) ≡ buckets-length (card-of (paper s))) × (length (now side) ≡ side-length (card-of (paper s))) ⌝ }
@@ -44,10 +42,10 @@ pub fn write_areas(
         × (now (buckets .exit) ≡ buckets-bytes (card-of (paper s)) (true-count (card-of (paper s)) (records (card-of (paper s) .width) n (now (area .entry)))) (records (card-of (paper s) .width) n (now (area .entry))))
         × (now (side .exit) ≡ side-bytes (card-of (paper s)) (true-count (card-of (paper s)) (records (card-of (paper s) .width) n (now (area .entry)))) (records (card-of (paper s) .width) n (now (area .entry)))) ⌝ }
 {
-    counts::copy_counts(&mut true_counts[..], &work[..m]);
-    counts::write_clipped(s.top, &mut clipped[..], &work[..m]);
-    buckets::write_buckets(s, t, m, work, &mut buckets[..], area, n);
-    side::write_side(s, t, m, work, &mut side[..], area, n, need);
+    counts::copy_counts(true_counts, &work[..m]);
+    counts::write_clipped(s.top, clipped, &work[..m]);
+    buckets::write_buckets(s, m, work, kept, buckets, area, n);
+    side::write_side(s, m, work, kept, side, area, n, need);
 }
 
 // "Clear lays out the empty list, on areas with any contents."

@@ -12,37 +12,35 @@ ghost use Rattle.theory.specs.Placing.{true-count};
 ghost use Rattle.theory.specs.Layout.{side-bytes};
 ghost use Rattle.theory.specs.Ledger.{side-need-of};
 ghost use Rattle.settings.specs.Checked.{paper};
-ghost use Rattle.placing.specs.Ready.{Ready};
-ghost use Rattle.placing.specs.Worked.{Worked};
+ghost use Rattle.writing.specs.Laying.{Laying};
 ghost use Rattle.writing.specs.Side.{sent, sent-places};
 
 // Record i of the list goes to the free place if it belongs to the side; the free place after it.
 fn side_record(
     s: Settings,
-    t: &[u64],
     m: usize,
     work: &[u16],
+    kept: &[u16],
     store: &mut [u8],
     area: &[u8],
     n: usize,
     i: usize,
     free: usize,
 ) -> usize
-    requires { ⌜ Ready s (now t) × (m ≡ card-of (paper s) .buckets) × (length (now work) ≡ m + m) × (n * (card-of (paper s) .width + 4) ≤ length (now area)) × (i < n)
+    requires { ⌜ Laying s m (now work) (now kept) (now area) n × (i < n)
         × (length (sent (card-of (paper s)) m (now work) n (now area)) ≤ card-of (paper s) .side-places)
         × (free ≡ record-size (card-of (paper s)) * length (sent (card-of (paper s)) m (now work) i (now area)))
         × (now store ≡ sent-places (card-of (paper s)) m (now work) i (now area)) ⌝ }
     ensures { λ r. ⌜ (r ≡ record-size (card-of (paper s)) * length (sent (card-of (paper s)) m (now (work .entry)) (i + 1) (now (area .entry))))
         × (now (store .exit) ≡ sent-places (card-of (paper s)) m (now (work .entry)) (i + 1) (now (area .entry))) ⌝ }
 {
-    let size = s.record_size();
-    let at = i * size;
-    let end = at + s.width();
-    if !placing::belongs_to_side(s, t, m, work, &area[at..end]) {
+    if !placing::aside(s, m, work, kept[i]) {
         return free;
     }
-    let after = free + size;
+    let size = s.record_size();
+    let at = i * size;
     let next = at + size;
+    let after = free + size;
     copy(&mut store[free..after], &area[at..next]);
     after
 }
@@ -50,14 +48,14 @@ fn side_record(
 // Every record of the list, in key order.
 fn side_records(
     s: Settings,
-    t: &[u64],
     m: usize,
     work: &[u16],
+    kept: &[u16],
     store: &mut [u8],
     area: &[u8],
     n: usize,
 )
-    requires { ⌜ Ready s (now t) × (m ≡ card-of (paper s) .buckets) × (length (now work) ≡ m + m) × (n * (card-of (paper s) .width + 4) ≤ length (now area))
+    requires { ⌜ Laying s m (now work) (now kept) (now area) n
         × (length (sent (card-of (paper s)) m (now work) n (now area)) ≤ card-of (paper s) .side-places)
         × (now store ≡ sent-places (card-of (paper s)) m (now work) 0 (now area)) ⌝ }
     ensures { λ _. ⌜ now (store .exit) ≡ sent-places (card-of (paper s)) m (now (work .entry)) n (now (area .entry)) ⌝ }
@@ -65,7 +63,7 @@ fn side_records(
     let mut i: usize = 0;
     let mut free: usize = 0;
     while i < n {
-        free = side_record(s, t, m, work, &mut store[..], area, n, i, free);
+        free = side_record(s, m, work, kept, store, area, n, i, free);
         i += 1;
     }
 }
@@ -73,22 +71,22 @@ fn side_records(
 // "side store: .. shaped as the ledger". Where none belongs there, its zeros are all, and no record is read again.
 pub fn write_side(
     s: Settings,
-    t: &[u64],
     m: usize,
     work: &[u16],
+    kept: &[u16],
     side: &mut [u8],
     area: &[u8],
     n: usize,
     need: usize,
 )
-    requires { ⌜ Ready s (now t) × (m ≡ card-of (paper s) .buckets) × (length (now work) ≡ m + m) × (n * (card-of (paper s) .width + 4) ≤ length (now area)) × Worked (card-of (paper s)) m (records (card-of (paper s) .width) n (now area)) (now work)
+    requires { ⌜ Laying s m (now work) (now kept) (now area) n
         × (length (now side) ≡ side-length (card-of (paper s))) × (need ≡ side-need-of (card-of (paper s)) (records (card-of (paper s) .width) n (now area))) × (need ≤ card-of (paper s) .side-places) ⌝ }
     ensures { λ _. ⌜ now (side .exit) ≡ side-bytes (card-of (paper s)) (true-count (card-of (paper s)) (records (card-of (paper s) .width) n (now (area .entry)))) (records (card-of (paper s) .width) n (now (area .entry))) ⌝ }
 {
-    zero_fill(&mut side[..]);
+    zero_fill(side);
     if need == 0 {
         return;
     }
-    side_records(s, t, m, work, &mut side[2..], area, n);
-    write_number(&mut side[..], need);
+    side_records(s, m, work, kept, &mut side[2..], area, n);
+    write_number(side, need);
 }

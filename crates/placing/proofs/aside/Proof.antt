@@ -1,9 +1,7 @@
 -- `placing::aside` meets its contract: the choosers of a bucket stand m places after its count.
-use mathlib.Core.Path.{_≡_, sym, ap, _∙_}
-use Prim.Native.Nat.{ℕ}
+use mathlib.Core.Path.{sym, _∙_}
 use borrow.Author.Needs.{needs}
 use borrow.Author.Tests.{eq-eqb, ne-eqb}
-use lib.Dec.{ltb}
 use lib.Seq.{getD-drop}
 use Rattle.settings.specs.Checked.{paper}
 use Rattle.settings.proofs.Laws.{room-is}
@@ -11,12 +9,16 @@ use Rattle.placing.proofs.aside.Statement.{statement}
 use Rattle.placing.proofs.aside.Tie as tie
 
 returns : tie.Need-returns
-returns c = rw (eq-eqb (c .before .before .before .args .choice) (c .before .before .before .args .m) (sym (c .before .wide .ensures) ∙ c .if1 .taken))
+returns c =
+    let args = c .before .before .before .args in
+    rw (eq-eqb (args .choice) (args .m) (sym (c .before .wide .ensures) ∙ c .if1 .taken))
 
 returns-2 : tie.Need-returns-2
 returns-2 c =
-    rw (ne-eqb (c .before .before .before .before .before .before .args .choice) (c .before .before .before .before .before .before .args .m) (λ e. c .before .before .before .if1 .left (c .before .before .before .before .wide .ensures ∙ e)), getD-drop (c .before .before .before .before .before .before .args .m) (c .before .before .before .before .before .before .args .work .now) (c .before .before .before .before .before .before .args .choice) 0, room-is (paper (c .before .before .before .before .before .before .args .s)))
-    (rw (c .before .wide2 .ensures, c .before .before .before .before .wide .ensures))
+    let bucket = c .before .before .before .before .wide in
+    let args = c .before .before .before .before .before .before .args in
+    let other = ne-eqb (args .choice) (args .m) (λ e. c .before .before .before .if1 .left (bucket .ensures ∙ e)) in
+    rw (other, getD-drop (args .m) (args .work .now) (args .choice) 0, room-is (paper (args .s))) (rw (c .before .wide2 .ensures, bucket .ensures))
 
 pub aside-spec : {M : Type 1} → statement M
 aside-spec =

@@ -1,162 +1,178 @@
--- `placing::choose_more` meets its contract: after i records the first half of work is as it was, and the second counts their choosers on top. Assumes nothing.
-use mathlib.Core.Path.{_≡_, refl, sym, ap, _∙_}
-use mathlib.Core.List.{List}
-use Prim.Native.Nat.{ℕ, _≤_, _-_, _+_, _*_}
-use native.Mathlib.Nat.{add-zero}
+-- `placing::choose_more` meets its contract: after i records these have chosen, and the first i places of kept hold their choices.
+use mathlib.Core.Path.{_≡_, sym, ap, _∙_}
+use mathlib.Core.Bool.{cond, not, _&&_}
+use mathlib.Core.List.{List, _++_}
+use Prim.Native.Nat.{ℕ, _+_, _-_, _*_, _≤_}
 use native.Mathlib.Omega.{arith}
 use borrow.Author.Needs.{needs}
-use lib.ListN.{length, take, drop, length-drop}
+use lib.Dec.{eqb}
+use lib.ListN.{length, take, drop, length-drop, length-set}
 use lib.Seq.{length-take-le}
 use Rattle.theory.specs.Records.{records}
-use Rattle.theory.specs.Settings.{card-of}
-use Rattle.theory.specs.Placing.{choosers}
+use Rattle.theory.specs.Settings.{Card, card-of}
+use Rattle.theory.specs.Placing.{all-top, chosen}
 use Rattle.settings.specs.Checked.{paper}
-use Rattle.placing.specs.Worked.{nth}
-use Rattle.placing.proofs.RecordLaws.{record-within, next-at, key-lent, key-length, choosers-none, choosers-bound, choose-more}
-use Rattle.placing.proofs.WorkLaws.{tail-is, length-tail, back-length, back-take, back-drop}
-use Rattle.placing.proofs.ReadyLaws.{chosen-within}
+use Rattle.settings.specs.declared.Settings.{Settings}
+use Rattle.settings.proofs.Laws.{bounds}
+use Rattle.placing.specs.declared.Choice.{Choice}
+use Rattle.placing.specs.Worked.{nth, Chose}
+use Rattle.placing.proofs.RecordLaws.{record-within, next-at, key-lent, key-length, choosers-bound, chose-none, chose-all, chose-more}
+use Rattle.placing.proofs.WorkLaws.{tail-is, length-tail, back-length, back-take, back-drop, picked-within}
+use Rattle.placing.proofs.ReadyLaws.{sound-card, chosen-within}
 use Rattle.placing.proofs.choose_more.Statement.{statement}
 use Rattle.placing.proofs.choose_more.Tie as tie
 
+-- after i records
+record Passed (s : Settings) (m : ℕ) (work₀ area : List ℕ) (n : ℕ) (work kept : List ℕ) (i at : ℕ) : Type 0 where
+  within : i ≤ n
+  here : at ≡ i * (card-of (paper s) .width + 4)
+  halves : length work ≡ m + m
+  places : length kept ≡ n
+  chose : Chose (card-of (paper s)) m (records (card-of (paper s) .width) i area) work₀ work (take i kept)
+
 abbrev Inv-loop : tie.InvT-loop
-Inv-loop s t m work₀ area n width size i₀ at₀ work i at =
-    (i ≤ n) × (at ≡ i * (card-of (paper s) .width + 4)) × (length work ≡ m + m) × (take m work ≡ take m work₀)
-    × ((b : ℕ) → nth (drop m work) b ≡ nth (drop m work₀) b + length (choosers (card-of (paper s)) (nth (take m work₀)) (records (card-of (paper s) .width) i area) b))
+Inv-loop s t m work₀ area n kept₀ width size i₀ at₀ work kept i at = Passed s m work₀ area n work kept i at
 
 abbrev μ-loop : tie.MeasureT-loop
-μ-loop s t m work₀ area n width size i₀ at₀ work i at = n - i
+μ-loop s t m work₀ area n kept₀ width size i₀ at₀ work kept i at = n - i
 
--- the record at hand lies within the area
-room : (c : tie.In-loop Inv-loop μ-loop) → (c .before .loop .at + c .before .before .before .width .result ≤ length (c .before .before .before .before .before .before .before .args .area .now)) × (c .before .loop .at + c .before .before .record-size .result ≤ length (c .before .before .before .before .before .before .before .args .area .now))
-room c =
-    let start = c .before .before .before .before .before .before .before in
-    let width = c .before .before .before .width in
-    let record-size = c .before .before .record-size in
-    let loop = c .before .loop in
-    let args = start .args in
-    let s = card-of (paper (args .s)) in
-    record-within s (width .result) (record-size .result) (loop .at) (loop .i) (width .ensures) (record-size .ensures) (loop .inv .1) (args .n)
-    (length (args .area .now)) (start .pre .3) (c .loop-test .taken)
+-- ---- the sizes are known
+module _ (c : tie.After-record-size Inv-loop μ-loop) where
+  abbrev start : tie.Start Inv-loop μ-loop
+  start = c .before .before .before .before .before .before
 
-width-requires : tie.Need-width-requires Inv-loop μ-loop
-width-requires c κs = search needs
+  abbrev s : Card
+  s = card-of (paper (start .args .s))
 
-record-size-requires : tie.Need-record-size-requires Inv-loop μ-loop
-record-size-requires c κs = search needs
+  abbrev m : ℕ
+  m = start .args .m
+
+  abbrev area : List ℕ
+  area = start .args .area .now
+
+  abbrev width : ℕ
+  width = c .before .width .result
+
+  width-is : width ≡ s .width
+  width-is = c .before .width .ensures
+
+  few : m ≤ 4096
+  few = omega (arith, start .pre .buckets, bounds (paper (start .args .s)) (start .pre .ready .ok) .buckets-most)
+
+-- ---- in the loop: record i lies within the area
+module _ (c : tie.In-loop Inv-loop μ-loop) where
+  abbrev sized : tie.After-record-size Inv-loop μ-loop
+  sized = c .before .before
+
+  abbrev work : List ℕ
+  work = c .before .loop .work
+
+  room : (c .before .loop .at + width sized ≤ length (area sized)) × (c .before .loop .at + sized .record-size .result ≤ length (area sized))
+  room =
+      record-within (s sized) _ _ _ _ (width-is sized) (sized .record-size .ensures) (c .before .loop .inv .here) _ (length (area sized))
+      (start sized .pre .there) (c .loop-test .taken)
+
+  halved : m sized ≤ length work
+  halved = omega (arith, c .before .loop .inv .halves)
+
+  abbrev key : List ℕ
+  key = take (s sized .width) (drop (c .before .loop .at) (area sized))
+
+-- ---- its choice is made
+module _ (c : tie.After-pick Inv-loop μ-loop) where
+  abbrev at : tie.In-loop Inv-loop μ-loop
+  at = c .before .before .before .before
+
+  abbrev counts : ℕ → ℕ
+  counts = nth (take (m (sized at)) (work at))
+
+  abbrev choice : Choice
+  choice = c .before .choose .result
+
+  top-is : choice .«all_top» ≡ all-top (s (sized at)) counts (key at)
+  top-is = c .before .choose .ensures .0 ∙ rw (key-lent (at .before .loop .at) (width (sized at)) _ (area (sized at)) (width-is (sized at)))
+
+  bucket-is : choice .bucket ≡ chosen (s (sized at)) counts (key at)
+  bucket-is = c .before .choose .ensures .1 ∙ rw (key-lent (at .before .loop .at) (width (sized at)) _ (area (sized at)) (width-is (sized at)))
+
+  kept-is : c .pick .result ≡ cond (choice .«all_top») (s (sized at) .buckets) (choice .bucket)
+  kept-is = c .pick .ensures ∙ ap (λ (x : ℕ). cond (choice .«all_top») x (choice .bucket)) (start (sized at) .pre .buckets)
+
+  small : c .pick .result ≤ m (sized at)
+  small =
+      let pre = start (sized at) .pre in
+      picked-within (s (sized at)) (sound-card _ _ (pre .ready)) _ (pre .buckets) counts (key at) _ _ _ top-is bucket-is kept-is
+
+-- ---- it is added to the choosers
+module _ (c : tie.After-slice-known3 Inv-loop μ-loop) where
+  abbrev in-loop : tie.In-loop Inv-loop μ-loop
+  in-loop = at (c .before .before .before .before)
+
+  abbrev ys : List ℕ
+  ys = c .before .before .add-choice .last .0
+
+  abbrev new : List ℕ
+  new = take (m (sized in-loop)) (work in-loop) ++ (ys ++ drop (length (work in-loop) - m (sized in-loop)) (drop (m (sized in-loop)) (work in-loop)))
+
+  added : (b : ℕ) → nth (drop (m (sized in-loop)) new) b ≡ nth (drop (m (sized in-loop)) (work in-loop)) b
+      + cond (not (choice (c .before .before .before .before) .«all_top») && eqb b (choice (c .before .before .before .before) .bucket)) 1 0
+  added b =
+      ap (λ (z : List ℕ). nth z b) (back-drop (m (sized in-loop)) (work in-loop) (halved in-loop) ys)
+      ∙ rw (tail-is (m (sized in-loop)) (work in-loop) (halved in-loop)) at (c .before .before .add-choice .ensures b)
 
 loop-holds : tie.Need-loop-holds Inv-loop μ-loop
 loop-holds c =
-    let args = c .before .before .before .before .before .args in
-    let s = card-of (paper (args .s)) in
-    let counts = nth (take (args .m) (args .work .now)) in
-    (omega arith, omega arith, c .before .before .before .before .before .pre .2, refl, λ b. sym (rw (choosers-none s counts (s .width) (args .area .now) b) (add-zero _)))
-
-add-end : tie.Need-add-end Inv-loop μ-loop
-add-end c = omega (arith, room c .0)
-
-slice-reshare-prefix-choose : tie.Need-slice-reshare-prefix-choose Inv-loop μ-loop
-slice-reshare-prefix-choose c = omega arith
-
-slice-aggregate-choose : tie.Need-slice-aggregate-choose Inv-loop μ-loop
-slice-aggregate-choose c =
-    let args = c .before .before .before .before .before .before .before .before .args in
-    let loop = c .before .before .loop in
-    let e : length (take (args .m) (loop .work)) ≡ args .m = length-take-le (args .m) (loop .work) (omega arith) in search (needs, e)
-
-sub-choose : tie.Need-sub-choose Inv-loop μ-loop
-sub-choose c = omega arith
-
-part-choose-start : tie.Need-part-choose-start Inv-loop μ-loop
-part-choose-start c = omega arith
-
-part-choose-end : tie.Need-part-choose-end Inv-loop μ-loop
-part-choose-end c = omega (arith, room (c .before) .0)
+    record {
+      within = omega arith;
+      here = omega arith;
+      halves = start c .pre .halves;
+      places = start c .pre .places;
+      chose = chose-none _ _ _ _ _ (start c .args .kept .now);
+    }
 
 choose-requires : tie.Need-choose-requires Inv-loop μ-loop
 choose-requires c κs =
-    let args = c .before .before .before .before .before .before .before .before .before .args in
-    let pre = c .before .before .before .before .before .before .before .before .before .pre in
-    let loop = c .before .before .before .loop in
-    let w = card-of (paper (args .s)) .width in (
-      pre .0,
-      length-take-le (args .m) (loop .work) (omega arith) ∙ pre .1,
-      key-length (loop .at) (c .before .before .before .before .before .width .result) w (args .area .now) (c .before .before .before .before .before .width .ensures) (omega (arith, room (c .before .before) .0)),
+    let at = c .before .before in
+    let pre = start (sized at) .pre in (
+      pre .ready,
+      length-take-le (m (sized at)) (work at) (halved at) ∙ pre .buckets,
+      key-length (at .before .loop .at) (width (sized at)) _ (area (sized at)) (width-is (sized at)) (room at .0),
     )
-
-mul-add-choice : tie.Need-mul-add-choice Inv-loop μ-loop
-mul-add-choice c = search needs
-
-sub-add-choice : tie.Need-sub-add-choice Inv-loop μ-loop
-sub-add-choice c = omega arith
-
-part-add-choice-start : tie.Need-part-add-choice-start Inv-loop μ-loop
-part-add-choice-start c = omega arith
-
-part-add-choice-end : tie.Need-part-add-choice-end Inv-loop μ-loop
-part-add-choice-end c = omega arith
 
 add-choice-requires : tie.Need-add-choice-requires Inv-loop μ-loop
 add-choice-requires c κs =
-    let args = c .before .before .before .before .before .before .before .before .before .before .before .args in
-    let pre = c .before .before .before .before .before .before .before .before .before .before .before .pre in
-    let loop = c .before .before .before .before .before .loop in
-    let s = card-of (paper (args .s)) in
-    let m = args .m in
-    let work = loop .work in
-    let e = c .before .choose .ensures in
-    let few : m ≤ length work = omega arith in
-    rw (tail-is m work few) (
-      (λ f. rw length-drop (omega (arith, e .1, pre .1, chosen-within (args .s) (args .t .now) (pre .0) (nth (take m work)) _ (sym (e .0) ∙ f)))),
-      λ b. omega (arith, loop .inv .4 b, pre .4 b, choosers-bound s (nth (take m (args .work .now))) (s .width) (loop .i) (args .area .now) b),
+    let made = c .before in
+    let loop = at made .before .loop in
+    let pre = start (sized (at made)) .pre in
+    let within = chosen-within _ _ (pre .ready) (counts made) (key (at made)) in
+    let card = s (sized (at made)) in
+    let old = nth (take (m (sized (at made))) (start (sized (at made)) .args .work .now)) in
+    let bound = choosers-bound card old (card .width) (loop .i) (area (sized (at made))) in
+    rw (tail-is (m (sized (at made))) (work (at made)) (halved (at made))) (
+      λ f. rw length-drop (omega (arith, bucket-is made, pre .buckets, loop .inv .halves, within (sym (top-is made) ∙ f))),
+      λ b. omega (arith, loop .inv .chose .more b, pre .few b, loop .inv .within, bound b),
     )
-
-add-at : tie.Need-add-at Inv-loop μ-loop
-add-at c = omega (arith, room (c .before .before .before .before .before .before .before) .1)
-
-add-i : tie.Need-add-i Inv-loop μ-loop
-add-i c = omega arith
-
-loop-less : tie.Need-loop-less Inv-loop μ-loop
-loop-less c = omega arith
 
 loop-again : tie.Need-loop-again Inv-loop μ-loop
 loop-again c =
-    let start = c .before .before .before .before .before .before .before .before .before .before .before .before .before .before in
-    let width = c .before .before .before .before .before .before .before .before .before .before .width in
-    let record-size = c .before .before .before .before .before .before .before .before .before .record-size in
-    let choose = c .before .before .before .before .choose in
-    let add-choice = c .before .before .add-choice in
-    let args = start .args in
-    let loop = c .before .before .before .before .before .before .before .before .loop in
-    let s = card-of (paper (args .s)) in
-    let m = args .m in
-    let old = args .work .now in
-    let work = loop .work in
-    let area = args .area .now in
-    let at = loop .at in
-    let choice = choose .result in
-    let e = choose .ensures in
-    let ys = add-choice .last .0 in
-    let few : m ≤ length work = omega arith in
-    let long : length ys ≡ length work - m = add-choice .kept .0 ∙ length-tail m work few in
-    let key = key-lent at (width .result) (s .width) area (width .ensures) in
-    let new =
-    choose-more s (nth (take m old)) (s .width) (loop .i) at area (drop m old) (drop m work) ys (choice .«all_top») (choice .bucket) (loop .inv .1)
-    (e .0 ∙ rw (loop .inv .3, key)) (e .1 ∙ rw (loop .inv .3, key)) (loop .inv .4) (λ b. rw (tail-is m work few) at (add-choice .ensures b)) in (
-      omega arith,
-      next-at s (width .result) (record-size .result) (loop .at) (loop .i) (width .ensures) (record-size .ensures) (loop .inv .1),
-      back-length m work few ys long ∙ loop .inv .2,
-      back-take m work few ys ∙ loop .inv .3,
-      λ b. ap (λ (z : List ℕ). nth z b) (back-drop m work few ys) ∙ new b,
-    )
-
-same-length : tie.Need-same-length Inv-loop μ-loop
-same-length c = omega arith
+    let made = c .before .before .before .before in
+    let in-loop = at made in
+    let loop = in-loop .before .loop in
+    let whole = sized in-loop in
+    let ys = ys c in
+    let long = c .before .before .add-choice .kept .0 ∙ length-tail (m whole) (work in-loop) (halved in-loop) in
+    record {
+      within = omega (arith, in-loop .loop-test .taken);
+      here = next-at (s whole) _ _ _ _ (width-is whole) (whole .record-size .ensures) (loop .inv .here);
+      halves = back-length (m whole) (work in-loop) (halved in-loop) ys long ∙ loop .inv .halves;
+      places = simp length-set (loop .inv .places);
+      chose =
+          chose-more (s whole) _ _ _ _ _ _ (loop .kept) (loop .inv .chose) _ _ _ (loop .inv .here) (top-is made) (bucket-is made) _
+          (back-take (m whole) (work in-loop) (halved in-loop) ys) (added c) _ (kept-is made) (omega (arith, loop .inv .places, in-loop .loop-test .taken));
+    }
 
 returns : tie.Need-returns Inv-loop μ-loop
-returns c =
-    let loop = c .before .loop in
-    let e : loop .i ≡ c .before .before .before .before .before .before .before .args .n = omega arith in (loop .inv .3, λ b. loop .inv .4 b ∙ rw e)
+returns c = let loop = c .before .loop in chose-all _ _ _ _ _ _ _ _ (loop .kept) (loop .inv .chose) (omega (arith, loop .inv .within)) (loop .inv .places)
 
 pub choose-more-spec : {M : Type 1} → statement M
 choose-more-spec =
@@ -164,24 +180,29 @@ choose-more-spec =
     (tie.spec
     Inv-loop
     μ-loop
-    width-requires
-    record-size-requires
+    (λ c κs. search needs)
+    (λ c κs. search needs)
     loop-holds
-    add-end
-    slice-reshare-prefix-choose
-    slice-aggregate-choose
-    sub-choose
-    part-choose-start
-    part-choose-end
+    (λ c. omega (arith, room c .0))
+    halved
+    (λ c. sym (length-take-le (m (sized (c .before))) (work (c .before)) (halved (c .before))))
+    (λ c. omega arith)
+    (λ c. omega arith)
+    (λ c. omega (arith, room (c .before) .0))
     choose-requires
-    mul-add-choice
-    sub-add-choice
-    part-add-choice-start
-    part-add-choice-end
+    (λ c κs. tt)
+    (λ c. omega (arith, small c, few (sized (at c))))
+    (λ c. search needs)
+    (λ c. omega (arith, at c .before .loop .inv .places, at c .loop-test .taken))
+    (λ c. search needs)
+    (λ c. omega arith)
+    (λ c. omega arith)
+    (λ c. omega arith)
     add-choice-requires
-    add-at
-    add-i
-    loop-less
+    (λ c. omega (arith, room (at (c .before .before .before .before)) .1))
+    (λ c. omega arith)
+    (λ c. omega arith)
     loop-again
-    same-length
+    (λ c. omega arith)
+    (λ c. omega arith)
     returns)

@@ -1,81 +1,138 @@
--- `placing::choose_parts` meets its contract: the counts stay, so the choosers of three lists, added up, are those of the three in a row. Assumes nothing.
-use mathlib.Core.Path.{_∙_}
-use mathlib.Core.List.{_++_}
+-- `placing::choose_parts` meets its contract: the counts stay, so three lists that choose one after the other choose as the three in a row.
+use mathlib.Core.Path.{_≡_, sym, _∙_}
+use mathlib.Core.List.{List, _++_}
+use Prim.Native.Nat.{ℕ, _+_}
 use native.Mathlib.Omega.{arith}
 use borrow.Author.Needs.{needs}
-use lib.ListN.{take}
-use Rattle.theory.specs.Records.{records}
-use Rattle.theory.specs.Settings.{card-of}
+use lib.ListN.{length, length-append}
+use Rattle.theory.specs.Records.{Record, records}
+use Rattle.theory.specs.Settings.{Card, card-of}
+use Rattle.theory.proofs.ByteLaws.{length-records}
 use Rattle.settings.specs.Checked.{paper}
-use Rattle.placing.specs.Worked.{nth}
-use Rattle.placing.proofs.RecordLaws.{choosers-bound, choosers-append}
+use Rattle.placing.specs.Worked.{Chose}
+use Rattle.placing.proofs.RecordLaws.{chose-append, chose-few}
+use Rattle.placing.proofs.WorkLaws.{first-lent, second-lent, third-lent, three-back}
 use Rattle.placing.proofs.choose_parts.Statement.{statement}
 use Rattle.placing.proofs.choose_parts.Tie as tie
 
+-- ---- at the first call
+module _ (c : tie.After-choose-more-arg2) where
+  abbrev start : tie.Start
+  start = c .before .before .before .before .before .before .before .before
+
+  abbrev s : Card
+  s = card-of (paper (start .args .s))
+
+  abbrev before : List Record
+  before = records (s .width) (start .args .n) (start .args .a .now)
+
+  abbrev middle : List Record
+  middle = records (s .width) (start .args .k) (start .args .mid .now)
+
+  abbrev after : List Record
+  after = records (s .width) (start .args .j) (start .args .b .now)
+
+-- ---- the first list has chosen
+module _ (c : tie.After-choose-more) where
+  abbrev first : tie.After-choose-more-arg2
+  first = c .before
+
+  abbrev ys : List ℕ
+  ys = c .choose-more .last .1 .1 .1 .1 .1 .1 .0
+
+  ys-long : length ys ≡ start first .args .n
+  ys-long = c .choose-more .kept .1 .1 .1 .1 .1 .1 .0 ∙ first-lent _ _ _ _ (start first .pre .0 .places)
+
+-- ---- and the second
+module _ (c : tie.After-choose-more2) where
+  abbrev once : tie.After-choose-more
+  once = c .before .before .before .before .before .before .before
+
+  abbrev zs : List ℕ
+  zs = c .choose-more2 .last .1 .1 .1 .1 .1 .1 .0
+
+  zs-long : length zs ≡ start (first once) .args .k
+  zs-long = c .choose-more2 .kept .1 .1 .1 .1 .1 .1 .0 ∙ second-lent _ _ _ _ (start (first once) .pre .0 .places) (ys once) (ys-long once)
+
+  two : Chose (s (first once)) (start (first once) .args .m) (before (first once) ++ middle (first once)) (start (first once) .args .work .now)
+      (c .choose-more2 .last .1 .1 .1 .0) (ys once ++ zs)
+  two = chose-append _ _ _ _ _ _ _ (ys once) zs (once .choose-more .ensures) (c .choose-more2 .ensures)
+
 choose-more-requires : tie.Need-choose-more-requires
-choose-more-requires c κs = let p = c .before .before .before .before .before .before .pre in (p .0, p .1, p .2, p .3, λ x. omega (arith, p .7 x, p .6))
+choose-more-requires c κs =
+    let p = start c .pre .0 in
+    record {
+      ready = p .ready;
+      buckets = p .buckets;
+      halves = p .halves;
+      there = p .before;
+      few = λ x. omega (arith, start c .pre .1 x, p .few);
+      places = first-lent _ _ _ _ (p .places);
+    }
 
 choose-more-requires-2 : tie.Need-choose-more-requires-2
 choose-more-requires-2 c κs =
-    let args = c .before .before .before .before .before .before .before .before .before .before .args in
-    let s = card-of (paper (args .s)) in
-    let counts = nth (take (args .m) (args .work .now)) in
-    let p = c .before .before .before .before .before .before .before .before .before .before .pre in (
-      p .0,
-      p .1,
-      c .before .before .before .choose-more .kept .1 .1 .1 .0 ∙ p .2,
-      p .4,
-      λ x. omega (arith, p .7 x, p .6, c .before .before .before .choose-more .ensures .1 x, choosers-bound s counts (s .width) (args .n) (args .a .now) x),
-    )
+    let once = c .before .before .before .before .before .before in
+    let at = first once in
+    let p = start at .pre .0 in
+    let few = chose-few _ _ _ _ _ _ (once .choose-more .ensures) (start at .pre .1) in
+    record {
+      ready = p .ready;
+      buckets = p .buckets;
+      halves = once .choose-more .kept .1 .1 .1 .0 ∙ p .halves;
+      there = p .middle;
+      few = λ x. omega (arith, few x, length-records (s at .width) (start at .args .n) (start at .args .a .now), p .few);
+      places = second-lent _ _ _ _ (p .places) (ys once) (ys-long once);
+    }
 
 choose-more-requires-3 : tie.Need-choose-more-requires-3
 choose-more-requires-3 c κs =
-    let args = c .before .before .before .before .before .before .before .before .before .before .before .before .before .before .args in
-    let s = card-of (paper (args .s)) in
-    let counts = nth (take (args .m) (args .work .now)) in
-    let p = c .before .before .before .before .before .before .before .before .before .before .before .before .before .before .pre in (
-      p .0,
-      p .1,
-      c .before .before .before .choose-more2 .kept .1 .1 .1 .0 ∙ c .before .before .before .before .before .before .before .choose-more .kept .1 .1 .1 .0 ∙ p .2,
-      p .5,
-      λ x. omega (
-        arith,
-        p .7 x,
-        p .6,
-        c .before .before .before .before .before .before .before .choose-more .ensures .1 x,
-        rw (c .before .before .before .before .before .before .before .choose-more .ensures .0) at (c .before .before .before .choose-more2 .ensures .1 x),
-        choosers-bound s counts (s .width) (args .n) (args .a .now) x,
-        choosers-bound s counts (s .width) (args .k) (args .mid .now) x,
-      ),
-    )
+    let twice = c .before .before .before .before .before .before in
+    let at = first (once twice) in
+    let args = start at .args in
+    let p = start at .pre .0 in
+    let few = chose-few _ _ _ _ _ _ (two twice) (start at .pre .1) in
+    let before-long = length-records (s at .width) (args .n) (args .a .now) in
+    let middle-long = length-records (s at .width) (args .k) (args .mid .now) in
+    let long = length-append (before at) (middle at) in
+    record {
+      ready = p .ready;
+      buckets = p .buckets;
+      halves = twice .choose-more2 .kept .1 .1 .1 .0 ∙ once twice .choose-more .kept .1 .1 .1 .0 ∙ p .halves;
+      there = p .after;
+      few = λ x. omega (arith, few x, long, before-long, middle-long, p .few);
+      places = third-lent _ _ _ _ (p .places) (ys (once twice)) (ys-long (once twice)) (zs twice) (zs-long twice);
+    }
 
-same-length : tie.Need-same-length
-same-length c = search needs
-
+-- ---- and the third
 returns : tie.Need-returns
 returns c =
-    let args = c .before .before .before .before .before .before .before .before .before .before .before .before .before .before .before .before .before .args in
-    let s = card-of (paper (args .s)) in
-    let counts = nth (take (args .m) (args .work .now)) in
-    let before = records (s .width) (args .n) (args .a .now) in
-    let middle = records (s .width) (args .k) (args .mid .now) in
-    let after = records (s .width) (args .j) (args .b .now) in
-    let first = c .before .before .before .before .before .before .before .before .before .before .choose-more .ensures in
-    let second = c .before .before .before .before .before .before .choose-more2 .ensures in
-    let third = c .before .before .choose-more3 .ensures in (
-      third .0 ∙ second .0 ∙ first .0,
-      λ x. omega (
-        arith,
-        c .before .before .before .before .before .before .before .before .before .before .before .before .before .before .before .before .before .pre .7 x,
-        first .1 x,
-        rw (first .0) at (second .1 x),
-        rw (second .0, first .0) at (third .1 x),
-        choosers-append s counts before (middle ++ after) x,
-        choosers-append s counts middle after x,
-      ),
-    )
+    let thrice = c .before .before .before .before in
+    let twice = thrice .before .before .before .before .before .before .before in
+    let at = first (once twice) in
+    let vs = thrice .choose-more3 .last .1 .1 .1 .1 .1 .1 .0 in
+    let last-two = chose-append _ _ _ _ _ _ _ (zs twice) vs (twice .choose-more2 .ensures) (thrice .choose-more3 .ensures) in
+    rw (three-back _ _ _ _ (start at .pre .0 .places) (ys (once twice)) (ys-long (once twice)) (zs twice) (zs-long twice) vs)
+    (chose-append _ _ _ _ _ _ _ (ys (once twice)) (zs twice ++ vs) (once twice .choose-more .ensures) last-two)
 
 pub choose-parts-spec : {M : Type 1} → statement M
 choose-parts-spec =
     tie.close
-    (tie.spec choose-more-requires choose-more-requires-2 choose-more-requires-3 same-length returns)
+    (tie.spec
+    (λ c. search needs)
+    (λ c. search needs)
+    (λ c. sym (first-lent _ _ _ _ (start c .pre .0 .places)))
+    choose-more-requires
+    (λ c. search needs)
+    (λ c. search needs)
+    (λ c. search needs)
+    (λ c. search needs)
+    choose-more-requires-2
+    (λ c. search needs)
+    (λ c. search needs)
+    (λ c. search needs)
+    (λ c. search needs)
+    choose-more-requires-3
+    (λ c. search needs)
+    (λ c. search needs)
+    returns)

@@ -1,90 +1,100 @@
--- `placing::place_parts` meets its contract: from zeros, the first half of work becomes the true counts, and then the second the choosers. Assumes nothing.
-use mathlib.Core.Path.{_≡_, sym, _∙_}
-use mathlib.Core.List.{_++_}
-use Prim.Native.Nat.{_≤_}
+-- `placing::place_parts` meets its contract: from zeros, the first half of work becomes the true counts, then the second the choosers, and kept the choices.
+use mathlib.Core.Path.{_≡_, sym, ap, _∙_}
+use mathlib.Core.List.{List, _++_}
+use Prim.Native.Nat.{ℕ, _≤_}
 use native.Mathlib.Omega.{arith}
 use borrow.Author.Needs.{needs}
-use lib.ListN.{length, drop}
+use lib.ListN.{length, take, drop}
 use lib.Seq.{length-take-le}
-use Rattle.theory.specs.Settings.{card-of}
-use Rattle.settings.specs.Checked.{paper}
-use Rattle.placing.specs.Worked.{parts}
-use Rattle.placing.proofs.WorkLaws.{front-length, front-take, front-drop, zeros-take, zeros-drop, worked}
+use Rattle.placing.specs.Worked.{nth}
+use Rattle.placing.proofs.WorkLaws.{front-length, front-take, front-drop, zeros-take, zeros-drop, placed}
 use Rattle.placing.proofs.place_parts.Statement.{statement}
 use Rattle.placing.proofs.place_parts.Tie as tie
 
-zero-counts-requires : tie.Need-zero-counts-requires
-zero-counts-requires c κs = search needs
+-- ---- work is zeros
+module _ (c : tie.After-zero-counts) where
+  abbrev start : tie.Start
+  start = c .before .before .before .before .before .before .before .before
 
-slice-relend-prefix-count-parts : tie.Need-slice-relend-prefix-count-parts
-slice-relend-prefix-count-parts c = search needs
+  abbrev m : ℕ
+  m = start .args .m
 
-slice-aggregate-count-parts : tie.Need-slice-aggregate-count-parts
-slice-aggregate-count-parts c =
-    let start = c .before .before .before .before .before .before .before .before .before .before in
-    let zero-counts = c .before .before .before .zero-counts in
-    let z = zero-counts in sym (length-take-le (start .args .m) (z .last .0) (omega (arith, z .kept .0)))
+  abbrev zeros : List ℕ
+  zeros = c .zero-counts .last .0
+
+  long : m ≤ length zeros
+  long = omega (arith, c .zero-counts .kept .0, start .pre .halves)
+
+  half : length (take m zeros) ≡ m
+  half = length-take-le m zeros long
+
+-- ---- its first half is the true counts
+module _ (c : tie.After-count-parts) where
+  abbrev zeroed : tie.After-zero-counts
+  zeroed = c .before .before .before .before
+
+  abbrev counts : List ℕ
+  counts = c .count-parts .last .1 .1 .0
+
+  counts-long : length counts ≡ m zeroed
+  counts-long = c .count-parts .kept .1 .1 .0 ∙ half zeroed
+
+  abbrev work : List ℕ
+  work = counts ++ drop (m zeroed) (zeros zeroed)
+
+  rest-zero : (x : ℕ) → nth (drop (m zeroed) work) x ≡ 0
+  rest-zero x =
+      ap (λ (z : List ℕ). nth z x) (front-drop (m zeroed) (zeros zeroed) counts (long zeroed) counts-long)
+      ∙ ap (λ (z : List ℕ). nth (drop (m zeroed) z) x) (zeroed .zero-counts .ensures) ∙ zeros-drop (length (start zeroed .args .work .now)) (m zeroed) x
 
 count-parts-requires : tie.Need-count-parts-requires
 count-parts-requires c κs =
-    let args = c .before .before .before .before .before .before .before .before .before .before .args in
-    let p = c .before .before .before .before .before .before .before .before .before .before .pre in
-    let z = c .before .before .before .zero-counts in (
-      p .0,
-      length-take-le (args .m) (z .last .0) (omega (arith, z .kept .0)) ∙ p .1,
-      p .3,
-      p .4,
-      p .5,
-      p .6,
-      λ x. rw (z .ensures) (zeros-take (length (args .work .now)) (args .m) x),
+    let zeroed = c .before .before .before in
+    let p = start zeroed .pre in (
+      p .ready,
+      half zeroed ∙ p .buckets,
+      p .before,
+      p .middle,
+      p .after,
+      p .few,
+      λ x. rw (zeroed .zero-counts .ensures) (zeros-take (length (start zeroed .args .work .now)) (m zeroed) x),
     )
 
 choose-parts-requires : tie.Need-choose-parts-requires
 choose-parts-requires c κs =
-    let args = c .before .before .before .before .before .before .before .before .before .before .before .before .before .before .args in
-    let p = c .before .before .before .before .before .before .before .before .before .before .before .before .before .before .pre in
-    let z = c .before .before .before .before .before .before .before .zero-counts in
-    let m = args .m in
-    let ys = c .before .before .before .count-parts .last .1 .1 .0 in
-    let few : m ≤ length (z .last .0) = omega (arith, z .kept .0) in
-    let long : length ys ≡ m = c .before .before .before .count-parts .kept .1 .1 .0 ∙ length-take-le m (z .last .0) few in (
-      p .0,
-      p .1,
-      front-length m (z .last .0) ys few long ∙ z .kept .0 ∙ p .2,
-      p .3,
-      p .4,
-      p .5,
-      p .6,
-      λ x. rw (front-drop m (z .last .0) ys few long, z .ensures) (zeros-drop (length (args .work .now)) m x),
+    let counted = c .before .before .before .before in
+    let whole = zeroed counted in
+    let p = start whole .pre in (
+      record {
+        ready = p .ready;
+        buckets = p .buckets;
+        halves = front-length (m whole) (zeros whole) (counts counted) (long whole) (counts-long counted) ∙ whole .zero-counts .kept .0 ∙ p .halves;
+        before = p .before;
+        middle = p .middle;
+        after = p .after;
+        few = p .few;
+        places = p .places;
+      },
+      rest-zero counted,
     )
-
-same-length : tie.Need-same-length
-same-length c = search needs
 
 returns : tie.Need-returns
 returns c =
-    let start = c .before .before .before .before .before .before .before .before .before .before .before .before .before .before .before .before .before in
-    let zero-counts = c .before .before .before .before .before .before .before .before .before .before .zero-counts in
-    let count-parts = c .before .before .before .before .before .before .count-parts in
-    let choose-parts = c .before .before .choose-parts in
-    let args = start .args in
-    let s = card-of (paper (args .s)) in
-    let z = zero-counts in
-    let m = args .m in
-    let ys = count-parts .last .1 .1 .0 in
-    let few : m ≤ length (z .last .0) = omega (arith, z .kept .0) in
-    let long : length ys ≡ m = count-parts .kept .1 .1 .0 ∙ length-take-le m (z .last .0) few in
-    worked s m (parts (s .width) (args .a .now) (args .n) (args .mid .now) (args .k) (args .b .now) (args .j)) ys (ys ++ drop m (z .last .0))
-    (choose-parts .last .1 .1 .1 .0) (front-take m (z .last .0) ys few long) (count-parts .ensures) (choose-parts .ensures .0) (choose-parts .ensures .1)
+    let chose = c .before .before .before .before in
+    let counted = chose .before .before .before .before .before in
+    let whole = zeroed counted in
+    placed _ _ _ (counts counted) (work counted) _ _ (front-take (m whole) (zeros whole) (counts counted) (long whole) (counts-long counted))
+    (counted .count-parts .ensures) (rest-zero counted) (chose .choose-parts .ensures)
 
 pub place-parts-spec : {M : Type 1} → statement M
 place-parts-spec =
     tie.close
     (tie.spec
-    zero-counts-requires
-    slice-relend-prefix-count-parts
-    slice-aggregate-count-parts
+    (λ c κs. search needs)
+    (λ c. search needs)
+    (λ c. sym (half (c .before .before .before)))
     count-parts-requires
     choose-parts-requires
-    same-length
+    (λ c. search needs)
+    (λ c. search needs)
     returns)

@@ -1,35 +1,97 @@
--- `snapshot::place_records` meets its contract: the two parts after the records are empty. Assumes nothing.
-use mathlib.Core.Path.{_∙_}
-use Prim.Native.Nat.{_+_}
+-- `snapshot::place_records` meets its contract: the two parts after the records are empty.
+use mathlib.Core.Path.{_≡_, sym, ap, _∙_}
+use mathlib.Core.List.{List, _++_}
+use Prim.Native.Nat.{ℕ, _+_, _≤_}
 use native.Mathlib.Omega.{arith}
-use Rattle.theory.specs.Settings.{card-of}
+use lib.ListN.{length, take, drop}
+use lib.Seq.{length-take-le}
+use Rattle.theory.specs.Settings.{Card, card-of}
+use Rattle.theory.specs.Records.{records}
+use Rattle.theory.proofs.SettingsLaws.{sound}
 use Rattle.settings.specs.Checked.{paper}
+use Rattle.placing.specs.Worked.{Placed}
+use Rattle.placing.proofs.WorkLaws.{front-length, front-take, kept-within}
 use Rattle.snapshot.proofs.PartLaws.{one-part, no-room}
 use borrow.Author.Needs.{needs}
 use Rattle.snapshot.proofs.place_records.Statement.{statement}
 use Rattle.snapshot.proofs.place_records.Tie as tie
 
+-- ---- at entry
+module _ (c : tie.Start) where
+  abbrev s : Card
+  s = card-of (paper (c .args .s))
+
+  abbrev kept : List ℕ
+  kept = c .args .kept .now
+
+  lent-long : length (take (c .args .n) kept) ≡ c .args .n
+  lent-long = length-take-le (c .args .n) kept (c .pre .choices)
+
+-- ---- the records are placed
+module _ (c : tie.After-place-parts) where
+  abbrev start : tie.Start
+  start = c .before .before .before .before .before .before .before
+
+  abbrev work : List ℕ
+  work = c .place-parts .last .1 .1 .1 .0
+
+  abbrev choices : List ℕ
+  choices = c .place-parts .last .1 .1 .1 .1 .1 .1 .1 .1 .1 .1 .0
+
+  -- kept with their choices
+  abbrev back : List ℕ
+  back = choices ++ drop (start .args .n) (kept start)
+
+  choices-long : length choices ≡ start .args .n
+  choices-long = c .place-parts .kept .1 .1 .1 .1 .1 .1 .1 .1 .1 .1 .0 ∙ lent-long start
+
+  back-long : start .args .n ≤ length back
+  back-long = omega (arith, front-length (start .args .n) (kept start) choices (start .pre .choices) choices-long, start .pre .choices)
+
+  kept-first : take (start .args .n) back ≡ choices
+  kept-first = front-take (start .args .n) (kept start) choices (start .pre .choices) choices-long
+
+  placed : Placed (s start) (start .args .m) (records (s start .width) (start .args .n) (start .args .area .now)) work (take (start .args .n) back)
+  placed = rw kept-first (rw (one-part (s start .width) (start .args .n) (start .args .area .now)) at (c .place-parts .ensures))
+
+-- ---- the needs
 place-parts-requires : tie.Need-place-parts-requires
 place-parts-requires c κs =
-    let start = c .before .before .before .before in
-    ((start .pre .0), (start .pre .1), (start .pre .2), (start .pre .3), no-room ((card-of (paper (start .args .s)) .width) + 4) (start .args .area .now), no-room ((card-of (paper (start .args .s)) .width) + 4) (start .args .area .now), omega (arith, (start .pre .4)))
+    let e = c .before .before .before .before .before .before in
+    let none = no-room (s e .width + 4) (e .args .area .now) in
+    record {
+      ready = e .pre .ready;
+      buckets = e .pre .buckets;
+      halves = e .pre .halves;
+      before = e .pre .room;
+      middle = none;
+      after = none;
+      few = omega (arith, e .pre .few);
+      places = omega (arith, lent-long e);
+    }
 
-need-parts-requires : tie.Need-need-parts-requires
-need-parts-requires c κs =
-    let start = c .before .before .before .before .before .before .before .before in
-    let place-parts = c .before .before .before .place-parts in
-    ((start .pre .0), (start .pre .1), (place-parts .kept .1 .1 .1 .0) ∙ (start .pre .2), (start .pre .3), no-room ((card-of (paper (start .args .s)) .width) + 4) (start .args .area .now), no-room ((card-of (paper (start .args .s)) .width) + 4) (start .args .area .now), omega (arith, (start .pre .4)), (place-parts .ensures))
-
-same-length : tie.Need-same-length
-same-length c = search needs
+side-need-requires : tie.Need-side-need-requires
+side-need-requires c κs =
+    let place = c .before .before .before .before .before .before in
+    let pre = start place .pre in
+    let right = sound (paper (start place .args .s)) (pre .ready .ok) in
+    (pre .ready .ok, pre .buckets, place .place-parts .kept .1 .1 .1 .0 ∙ pre .halves, kept-within right (pre .buckets) (placed place))
 
 returns : tie.Need-returns
 returns c =
-    let start = c .before .before .before .before .before .before .before .before .before in
-    let place-parts = c .before .before .before .before .place-parts in
-    let one = one-part (card-of (paper (start .args .s)) .width) (start .args .n) (start .args .area .now) in
-    (rw one at (c .need-parts .ensures), rw one at (place-parts .ensures))
+    let place = c .before .before .before .before .before .before .before in
+    (c .side-need .ensures _ (placed place), placed place)
 
 pub place-records-spec : {M : Type 1} → statement M
 place-records-spec =
-    tie.close (tie.spec place-parts-requires need-parts-requires same-length returns)
+    tie.close
+    (tie.spec
+    (λ c. c .before .before .before .before .before .pre .choices)
+    (λ c. sym (lent-long (c .before .before .before .before .before .before)))
+    place-parts-requires
+    (λ c. back-long (c .before .before .before .before .before))
+    (λ c. let place = c .before .before .before .before .before .before in sym (ap length (kept-first place) ∙ choices-long place))
+    side-need-requires
+    (λ c. search needs)
+    (λ c. search needs)
+    returns)

@@ -1,174 +1,177 @@
--- `update::judge` meets its contract: the ledger's rules, then the spot of the key, then the side need of the list that the edit would make. Assumes nothing.
-use mathlib.Core.Path.{_≡_, sym, ap, _∙_, subst}
-use Prim.Native.Nat.{ℕ, _≤_}
+-- `update::judge` meets its contract: the ledger's rules, then the spot of the key, then the side need of the list that the edit would make.
+-- What is known at a place of the code comes first, a section for each place; each need then cites it.
+use mathlib.Core.Path.{_≡_, sym, ap, _∙_}
+use mathlib.Core.Bool.{false}
+use mathlib.Core.List.{List}
+use Prim.Native.Nat.{ℕ, _+_, _-_, _≤_}
 use native.Mathlib.Omega.{arith}
 use borrow.Author.Tests.{not-true, not-false}
-use lib.ListN.{length}
+use lib.ListN.{length, take}
 use Rattle.theory.proofs.ListLaws.{negated-false, negated-true}
-use Rattle.theory.specs.Settings.{card-of}
+use Rattle.theory.specs.Settings.{Settings, card-of}
+use Rattle.theory.specs.Records.{Record}
+use Rattle.theory.specs.Ledger.{side-need-of}
 use Rattle.theory.specs.Calls.{ledger-records, ledger-invalid}
 use Rattle.theory.proofs.SettingsLaws.{ranges}
-use Rattle.theory.proofs.ByteLaws.{length-record}
+use Rattle.theory.proofs.ByteLaws.{Fit, length-record}
 use Rattle.settings.specs.Checked.{paper}
 use Rattle.settings.proofs.Laws.{capacity-is, side-places-are}
 use Rattle.ledger.proofs.LedgerLaws.{has-count, records-are}
 use Rattle.ledger.proofs.SpotLaws.{search-room, search-rises, ledger-spot}
 use Rattle.ledger.proofs.EditLaws.{few, listed}
-use Rattle.update.specs.Editing.{by-list, Fits}
-use Rattle.update.proofs.EditLaws.{within}
-use Rattle.update.proofs.PlanLaws.{ledger-room, judged-4, judged-by-list, judged-9, judged-0, place-fits, makes, made-length, fits-capacity}
+use Rattle.placing.specs.Worked.{Placed}
+use Rattle.update.specs.Editing.{edited, brings, leaves-out}
+use Rattle.update.proofs.PlanLaws.{Found, Accepted, ledger-room, place-fits, place-listed, place-inside, makes, made-length, made-few}
+use Rattle.update.proofs.PlanLaws.{judged-4, judged-by-list, judged-9, judged-0}
 use borrow.Author.Needs.{needs}
 use Rattle.update.proofs.judge.Statement.{statement}
 use Rattle.update.proofs.judge.Tie as tie
 
-valid-requires : tie.Need-valid-requires
-valid-requires c κs = search needs
+-- ---- the ledger is judged
+module _ (c : tie.After-valid) where
+  abbrev start : tie.Start
+  start = c .before .before .before .before .before .before .before
 
-refuse-requires : tie.Need-refuse-requires
-refuse-requires c κs = search needs
+  abbrev t : Settings
+  t = paper (start .args .s)
 
+  abbrev area : List ℕ
+  area = start .args .ledger .now
+
+  abbrev new : Record
+  new = record { key = start .args .key .now; class = start .args .class }
+
+  new-fits : Fit (card-of t .width) new
+  new-fits = record { wide = start .pre .wide; small = start .fits .class .fits }
+
+  has-two : 2 ≤ length area
+  has-two = has-count (card-of t) area (start .pre .whole)
+
+-- ---- it is within its rules, and its records are counted
+rules : (c : tie.Else1) → ledger-invalid (card-of (t (c .before))) (area (c .before)) ≡ false
+rules c = negated-true (c .before .valid .result) _ (c .before .valid .ensures) (not-false _ (c .if1 .left))
+
+n-few : (c : tie.After-count-at) → c .count-at .result ≤ card-of (t (c .before .before)) .capacity
+n-few c = omega (arith, c .count-at .ensures .0, few _ _ (start (c .before .before) .pre .whole) (rules (c .before)))
+
+-- ---- the spot of the key is found
+module _ (c : tie.After-find-spot) where
+  abbrev counted : tie.After-count-at
+  counted = c .before .before
+
+  abbrev judged : tie.After-valid
+  judged = counted .before .before
+
+  found : Found (t judged) (start judged .args .edit) (new judged .key) (new judged .class) (area judged) (c .find-spot .result)
+      (counted .count-at .result)
+  found =
+      let asked = start judged .pre in
+      let valid = rules (counted .before) in
+      let count = counted .count-at .ensures .0 in
+      record {
+        rules = valid;
+        wide = asked .wide;
+        of = ledger-spot _ _ (asked .whole) valid _ count _ (asked .wide) _ (c .find-spot .ensures);
+        count = count ∙ sym (listed _ _ (asked .whole) valid);
+      }
+
+-- ---- the list refuses nothing
+module _ (c : tie.Else2) where
+  abbrev spot : tie.After-find-spot
+  spot = c .before .before
+
+  abbrev entry : tie.After-valid
+  entry = judged spot
+
+  abbrev made : List Record
+  made = edited (start entry .args .edit) (spot .find-spot .result .at) (new entry) (ledger-records (card-of (t entry)) (area entry))
+
+  accepted : Accepted (t entry) (start entry .args .edit) (new entry .key) (new entry .class) (area entry) (spot .find-spot .result)
+      (counted spot .count-at .result)
+  accepted = record { found = found spot; none = sym (c .before .refusal-by-list .ensures) ∙ c .if2 .left }
+
+-- ---- the new list is placed, and its side need counted
+module _ (c : tie.After-place-new) where
+  abbrev at : tie.Else2
+  at = c .before .before .before
+
+  abbrev total : ℕ
+  total = counted (spot at) .count-at .result - leaves-out (start (entry at) .args .edit) + brings (start (entry at) .args .edit)
+
+  placed : (c .place-new .result ≡ side-need-of (card-of (t (entry at))) (made at))
+      × Placed (card-of (t (entry at))) (start (entry at) .args .m) (made at) (c .place-new .last .1 .1 .1 .0) (take total (c .place-new .last .1 .1 .1 .1 .0))
+  placed =
+      rw (records-are _ _ _ (counted (spot at) .count-at .ensures .0)) at
+      (c .place-new .ensures (new (entry at)) (sym (start (entry at) .pre .written)) (new-fits (entry at)))
+
+-- ---- the needs
 returns : tie.Need-returns
 returns c =
-    let start = c .before .before .before .before .before .before .before .before in
     let valid = c .before .before .valid in
-    let bad = negated-false (valid .result) (ledger-invalid (card-of (paper (start .args .s))) (start .args .ledger .now)) (valid .ensures) (not-true _ (c .before .if1 .taken)) in
-    (c .refuse .ensures ∙ sym (judged-4 (paper (start .args .s)) (start .args .edit) (start .args .key .now) (start .args .class) (start .args .ledger .now) bad), λ z. absurd (omega (arith, c .refuse .ensures, z)))
-
-count-at-requires : tie.Need-count-at-requires
-count-at-requires c κs =
-    let start = c .before .before .before .before .before .before .before in
-    has-count (card-of (paper (start .args .s))) (start .args .ledger .now) (start .pre .3)
-
-sub-find-spot : tie.Need-sub-find-spot
-sub-find-spot c =
-    let start = c .before .before .before .before .before .before .before .before in
-    has-count (card-of (paper (start .args .s))) (start .args .ledger .now) (start .pre .3)
-
-part-find-spot-start : tie.Need-part-find-spot-start
-part-find-spot-start c =
-    let start = c .before .before .before .before .before .before .before .before in
-    has-count (card-of (paper (start .args .s))) (start .args .ledger .now) (start .pre .3)
-
-part-find-spot-end : tie.Need-part-find-spot-end
-part-find-spot-end c = search needs
+    let bad = negated-false (valid .result) _ (valid .ensures) (not-true _ (c .before .if1 .taken)) in
+    (c .refuse .ensures ∙ sym (judged-4 _ _ _ bad), λ z. absurd (omega (arith, c .refuse .ensures, z)))
 
 find-spot-requires : tie.Need-find-spot-requires
 find-spot-requires c κs =
-    let start = c .before .before .before .before .before .before .before .before .before in
-    let valid = c .before .before .before .valid in
-    let if1 = c .before .before .if1 in
-    let count-at = c .before .count-at in
-    (search-room (card-of (paper (start .args .s))) (start .args .ledger .now) (start .pre .3) (negated-true (valid .result) (ledger-invalid (card-of (paper (start .args .s))) (start .args .ledger .now)) (valid .ensures) (not-false _ (if1 .left))) (count-at .result) (count-at .ensures .0) (start .args .key .now) (start .pre .4), search-rises (card-of (paper (start .args .s))) (start .args .ledger .now) (start .pre .3) (negated-true (valid .result) (ledger-invalid (card-of (paper (start .args .s))) (start .args .ledger .now)) (valid .ensures) (not-false _ (if1 .left))) (count-at .result) (count-at .ensures .0) (start .args .key .now) (start .pre .4))
-
-refusal-by-list-requires : tie.Need-refusal-by-list-requires
-refusal-by-list-requires c κs = search needs
-
-refuse-requires-2 : tie.Need-refuse-requires-2
-refuse-requires-2 c κs = search needs
+    let judged = c .before .before .before in
+    let whole = start judged .pre .whole in
+    let valid = rules (c .before .before) in
+    let count = c .before .count-at .ensures .0 in (
+      search-room _ _ whole valid _ count (new judged .key) (start judged .pre .wide),
+      search-rises _ _ whole valid _ count (new judged .key) (start judged .pre .wide),
+    )
 
 returns-2 : tie.Need-returns-2
 returns-2 c =
-    let start = c .before .before .before .before .before .before .before .before .before .before .before .before .before in
-    let valid = c .before .before .before .before .before .before .before .valid in
-    let if1 = c .before .before .before .before .before .before .if1 in
-    let count-at = c .before .before .before .before .before .count-at in
-    let find-spot = c .before .before .before .find-spot in
-    let refusal-by-list = c .before .before .refusal-by-list in
-    let if2 = c .before .if2 in
-    let some : by-list (paper (start .args .s)) (start .args .edit) (find-spot .result .held) (count-at .result) ≡ 0 → ⊥ = λ e. if2 .taken (refusal-by-list .ensures ∙ e) in (
-      c .refuse2 .ensures ∙ refusal-by-list .ensures ∙ sym (judged-by-list (paper (start .args .s)) (start .args .edit) (start .args .key .now) (start .args .class) (start .args .ledger .now) (negated-true (valid .result) (ledger-invalid (card-of (paper (start .args .s))) (start .args .ledger .now)) (valid .ensures) (not-false _ (if1 .left))) (start .pre .4) (find-spot .result) (ledger-spot (card-of (paper (start .args .s))) (start .args .ledger .now) (start .pre .3) (negated-true (valid .result) (ledger-invalid (card-of (paper (start .args .s))) (start .args .ledger .now)) (valid .ensures) (not-false _ (if1 .left))) (count-at .result) (count-at .ensures .0) (start .args .key .now) (start .pre .4) (find-spot .result) (find-spot .ensures)) (count-at .result) ((count-at .ensures .0) ∙ sym (listed (card-of (paper (start .args .s))) (start .args .ledger .now) (start .pre .3) (negated-true (valid .result) (ledger-invalid (card-of (paper (start .args .s))) (start .args .ledger .now)) (valid .ensures) (not-false _ (if1 .left))))) some),
-      λ z. absurd (if2 .taken (sym (c .refuse2 .ensures) ∙ z)),
+    let by-list = c .before .before .refusal-by-list .ensures in
+    let some = c .before .if2 .taken in (
+      c .refuse2 .ensures ∙ by-list ∙ sym (judged-by-list (found (c .before .before .before)) (λ e. some (by-list ∙ e))),
+      λ z. absurd (some (sym (c .refuse2 .ensures) ∙ z)),
     )
 
 place-new-requires : tie.Need-place-new-requires
 place-new-requires c κs =
-    let start = c .before .before .before .before .before .before .before .before .before .before .before .before .before in
-    let valid = c .before .before .before .before .before .before .before .valid in
-    let if1 = c .before .before .before .before .before .before .if1 in
-    let count-at = c .before .before .before .before .before .count-at in
-    let find-spot = c .before .before .before .find-spot in
-    let refusal-by-list = c .before .before .refusal-by-list in
-    let r = ranges (paper (start .args .s)) (start .pre .0 .ok) in
-    let many = few (card-of (paper (start .args .s))) (start .args .ledger .now) (start .pre .3) (negated-true (valid .result) (ledger-invalid (card-of (paper (start .args .s))) (start .args .ledger .now)) (valid .ensures) (not-false _ (if1 .left))) in (
-      start .pre .0,
-      start .pre .1,
-      start .pre .2,
-      place-fits (paper (start .args .s)) (start .args .key .now) (start .args .class) (ledger-records (card-of (paper (start .args .s))) (start .args .ledger .now)) (find-spot .result) (ledger-spot (card-of (paper (start .args .s))) (start .args .ledger .now) (start .pre .3) (negated-true (valid .result) (ledger-invalid (card-of (paper (start .args .s))) (start .args .ledger .now)) (valid .ensures) (not-false _ (if1 .left))) (count-at .result) (count-at .ensures .0) (start .args .key .now) (start .pre .4) (find-spot .result) (find-spot .ensures)) (count-at .result) ((count-at .ensures .0) ∙ sym (listed (card-of (paper (start .args .s))) (start .args .ledger .now) (start .pre .3) (negated-true (valid .result) (ledger-invalid (card-of (paper (start .args .s))) (start .args .ledger .now)) (valid .ensures) (not-false _ (if1 .left))))) (start .args .edit) (sym (refusal-by-list .ensures) ∙ c .before .if2 .left),
-      omega (arith, many, (count-at .ensures .0), capacity-is (paper (start .args .s))),
-      ledger-room (card-of (paper (start .args .s))) (start .args .ledger .now) (start .pre .3) (count-at .result) (omega (arith, many, (count-at .ensures .0))),
-      ap length (start .pre .5) ∙ length-record ((card-of (paper (start .args .s))) .width) (record { key = (start .args .key .now); class = start .args .class }) (record { wide = start .pre .4; small = start .fits .class .fits }),
-    )
-
-refuse-requires-3 : tie.Need-refuse-requires-3
-refuse-requires-3 c κs = search needs
-
-same-length : tie.Need-same-length
-same-length c = search needs
+    let else2 = c .before .before in
+    let judged = entry else2 in
+    let asked = start judged .pre in
+    let few = n-few (counted (spot else2)) in
+    let most = made-few (accepted else2) (omega (arith, few, capacity-is (t judged))) in
+    let high = ranges (t judged) (asked .ready .ok) .capacity-high in
+    record {
+      ready = asked .ready;
+      buckets = asked .buckets;
+      halves = asked .halves;
+      choices = omega (arith, made-length (accepted else2), most, capacity-is (t judged), asked .choices);
+      room = ledger-room _ (area judged) (asked .whole) _ few;
+      few = omega (arith, few, capacity-is (t judged), high);
+      place = place-fits (accepted else2);
+      wide = ap length (asked .written) ∙ length-record _ _ (new-fits judged);
+    }
 
 returns-3 : tie.Need-returns-3
 returns-3 c =
-    let start = c .before .before .before .before .before .before .before .before .before .before .before .before .before .before .before .before .before .before .before in
-    let valid = c .before .before .before .before .before .before .before .before .before .before .before .before .before .valid in
-    let if1 = c .before .before .before .before .before .before .before .before .before .before .before .before .if1 in
-    let count-at = c .before .before .before .before .before .before .before .before .before .before .before .count-at in
-    let find-spot = c .before .before .before .before .before .before .before .before .before .find-spot in
-    let refusal-by-list = c .before .before .before .before .before .before .before .before .refusal-by-list in
-    let if2 = c .before .before .before .before .before .before .before .if2 in
-    let place-new = c .before .before .before .before .before .place-new in
-    let made = rw (records-are (card-of (paper (start .args .s))) (start .args .ledger .now) (count-at .result) (count-at .ensures .0)) at ((place-new .ensures (record { key = (start .args .key .now); class = start .args .class }) (sym (start .pre .5)) (record { wide = start .pre .4; small = start .fits .class .fits })) .0) in (
-      c .refuse3 .ensures ∙ sym (judged-9 (paper (start .args .s)) (start .args .edit) (start .args .key .now) (start .args .class) (start .args .ledger .now) (negated-true (valid .result) (ledger-invalid (card-of (paper (start .args .s))) (start .args .ledger .now)) (valid .ensures) (not-false _ (if1 .left))) (start .pre .4) (find-spot .result) (ledger-spot (card-of (paper (start .args .s))) (start .args .ledger .now) (start .pre .3) (negated-true (valid .result) (ledger-invalid (card-of (paper (start .args .s))) (start .args .ledger .now)) (valid .ensures) (not-false _ (if1 .left))) (count-at .result) (count-at .ensures .0) (start .args .key .now) (start .pre .4) (find-spot .result) (find-spot .ensures)) (count-at .result) ((count-at .ensures .0) ∙ sym (listed (card-of (paper (start .args .s))) (start .args .ledger .now) (start .pre .3) (negated-true (valid .result) (ledger-invalid (card-of (paper (start .args .s))) (start .args .ledger .now)) (valid .ensures) (not-false _ (if1 .left))))) (sym (refusal-by-list .ensures) ∙ if2 .left) (place-new .result) made (omega (arith, c .before .if3 .taken, side-places-are (paper (start .args .s))))),
+    let place = c .before .before .before .before .before .before .before in
+    let short = side-places-are (t (entry (at place))) in (
+      c .refuse3 .ensures ∙ sym (judged-9 (accepted (at place)) _ (placed place .0) (omega (arith, c .before .if3 .taken, short))),
       λ z. absurd (omega (arith, c .refuse3 .ensures, z)),
     )
 
-left-out-requires : tie.Need-left-out-requires
-left-out-requires c κs = search needs
-
-sub-t22 : tie.Need-sub-t22
-sub-t22 c =
-    let start = c .before .before .before .before .before .before .before .before .before .before .before .before .before .before .before .before .before .before .before in
-    let valid = c .before .before .before .before .before .before .before .before .before .before .before .before .before .valid in
-    let if1 = c .before .before .before .before .before .before .before .before .before .before .before .before .if1 in
-    let count-at = c .before .before .before .before .before .before .before .before .before .before .before .count-at in
-    let find-spot = c .before .before .before .before .before .before .before .before .before .find-spot in
-    let refusal-by-list = c .before .before .before .before .before .before .before .before .refusal-by-list in
-    let if2 = c .before .before .before .before .before .before .before .if2 in
-    omega (arith, within (start .args .edit) (find-spot .result .at) (count-at .result) (place-fits (paper (start .args .s)) (start .args .key .now) (start .args .class) (ledger-records (card-of (paper (start .args .s))) (start .args .ledger .now)) (find-spot .result) (ledger-spot (card-of (paper (start .args .s))) (start .args .ledger .now) (start .pre .3) (negated-true (valid .result) (ledger-invalid (card-of (paper (start .args .s))) (start .args .ledger .now)) (valid .ensures) (not-false _ (if1 .left))) (count-at .result) (count-at .ensures .0) (start .args .key .now) (start .pre .4) (find-spot .result) (find-spot .ensures)) (count-at .result) ((count-at .ensures .0) ∙ sym (listed (card-of (paper (start .args .s))) (start .args .ledger .now) (start .pre .3) (negated-true (valid .result) (ledger-invalid (card-of (paper (start .args .s))) (start .args .ledger .now)) (valid .ensures) (not-false _ (if1 .left))))) (start .args .edit) (sym (refusal-by-list .ensures) ∙ if2 .left)), c .left-out .ensures .0)
-
-brought-requires : tie.Need-brought-requires
-brought-requires c κs = search needs
-
-add-t24 : tie.Need-add-t24
-add-t24 c = search needs
-
-same-length-2 : tie.Need-same-length-2
-same-length-2 c = search needs
-
 returns-4 : tie.Need-returns-4
 returns-4 c =
-    let start = c .before .before .before .before .before .before .before .before .before .before .before .before .before .before .before .before .before .before .before .before in
-    let if1 = c .before .before .before .before .before .before .before .before .before .before .before .before .before .if1 in
-    let count-at = c .before .before .before .before .before .before .before .before .before .before .before .before .count-at in
-    let find-spot = c .before .before .before .before .before .before .before .before .before .before .find-spot in
-    let refusal-by-list = c .before .before .before .before .before .before .before .before .before .refusal-by-list in
-    let if2 = c .before .before .before .before .before .before .before .before .if2 in
-    let place-new = c .before .before .before .before .before .before .place-new in
-    let if3 = c .before .before .if3 in
-    let made = rw (records-are (card-of (paper (start .args .s))) (start .args .ledger .now) (count-at .result) (count-at .ensures .0)) at ((place-new .ensures (record { key = (start .args .key .now); class = start .args .class }) (sym (start .pre .5)) (record { wide = start .pre .4; small = start .fits .class .fits })) .0) in
-    let worked = rw (records-are (card-of (paper (start .args .s))) (start .args .ledger .now) (count-at .result) (count-at .ensures .0)) at ((place-new .ensures (record { key = (start .args .key .now); class = start .args .class }) (sym (start .pre .5)) (record { wide = start .pre .4; small = start .fits .class .fits })) .1) in
-    let is = makes (paper (start .args .s)) (start .args .key .now) (start .args .class) (ledger-records (card-of (paper (start .args .s))) (start .args .ledger .now)) (find-spot .result) (ledger-spot (card-of (paper (start .args .s))) (start .args .ledger .now) (start .pre .3) (negated-true (c .before .before .before .before .before .before .before .before .before .before .before .before .before .before .valid .result) (ledger-invalid (card-of (paper (start .args .s))) (start .args .ledger .now)) (c .before .before .before .before .before .before .before .before .before .before .before .before .before .before .valid .ensures) (not-false _ (if1 .left))) (count-at .result) (count-at .ensures .0) (start .args .key .now) (start .pre .4) (find-spot .result) (find-spot .ensures)) (count-at .result) ((count-at .ensures .0) ∙ sym (listed (card-of (paper (start .args .s))) (start .args .ledger .now) (start .pre .3) (negated-true (c .before .before .before .before .before .before .before .before .before .before .before .before .before .before .valid .result) (ledger-invalid (card-of (paper (start .args .s))) (start .args .ledger .now)) (c .before .before .before .before .before .before .before .before .before .before .before .before .before .before .valid .ensures) (not-false _ (if1 .left))))) (start .args .edit) (sym (refusal-by-list .ensures) ∙ if2 .left) in
-    let many = few (card-of (paper (start .args .s))) (start .args .ledger .now) (start .pre .3) (negated-true (c .before .before .before .before .before .before .before .before .before .before .before .before .before .before .valid .result) (ledger-invalid (card-of (paper (start .args .s))) (start .args .ledger .now)) (c .before .before .before .before .before .before .before .before .before .before .before .before .before .before .valid .ensures) (not-false _ (if1 .left))) in
-    let long = made-length (paper (start .args .s)) (start .args .key .now) (start .args .class) (ledger-records (card-of (paper (start .args .s))) (start .args .ledger .now)) (find-spot .result) (ledger-spot (card-of (paper (start .args .s))) (start .args .ledger .now) (start .pre .3) (negated-true (c .before .before .before .before .before .before .before .before .before .before .before .before .before .before .valid .result) (ledger-invalid (card-of (paper (start .args .s))) (start .args .ledger .now)) (c .before .before .before .before .before .before .before .before .before .before .before .before .before .before .valid .ensures) (not-false _ (if1 .left))) (count-at .result) (count-at .ensures .0) (start .args .key .now) (start .pre .4) (find-spot .result) (find-spot .ensures)) (count-at .result) ((count-at .ensures .0) ∙ sym (listed (card-of (paper (start .args .s))) (start .args .ledger .now) (start .pre .3) (negated-true (c .before .before .before .before .before .before .before .before .before .before .before .before .before .before .valid .result) (ledger-invalid (card-of (paper (start .args .s))) (start .args .ledger .now)) (c .before .before .before .before .before .before .before .before .before .before .before .before .before .before .valid .ensures) (not-false _ (if1 .left))))) (start .args .edit) (sym (refusal-by-list .ensures) ∙ if2 .left) in
-    let room = fits-capacity (paper (start .args .s)) (start .args .key .now) (start .args .class) (ledger-records (card-of (paper (start .args .s))) (start .args .ledger .now)) (find-spot .result) (ledger-spot (card-of (paper (start .args .s))) (start .args .ledger .now) (start .pre .3) (negated-true (c .before .before .before .before .before .before .before .before .before .before .before .before .before .before .valid .result) (ledger-invalid (card-of (paper (start .args .s))) (start .args .ledger .now)) (c .before .before .before .before .before .before .before .before .before .before .before .before .before .before .valid .ensures) (not-false _ (if1 .left))) (count-at .result) (count-at .ensures .0) (start .args .key .now) (start .pre .4) (find-spot .result) (find-spot .ensures)) (count-at .result) ((count-at .ensures .0) ∙ sym (listed (card-of (paper (start .args .s))) (start .args .ledger .now) (start .pre .3) (negated-true (c .before .before .before .before .before .before .before .before .before .before .before .before .before .before .valid .result) (ledger-invalid (card-of (paper (start .args .s))) (start .args .ledger .now)) (c .before .before .before .before .before .before .before .before .before .before .before .before .before .before .valid .ensures) (not-false _ (if1 .left))))) (start .args .edit) (sym (refusal-by-list .ensures) ∙ if2 .left) (omega (arith, many, (count-at .ensures .0), capacity-is (paper (start .args .s)))) in
-    let enough : place-new .result ≤ (card-of (paper (start .args .s))) .side-places = omega (arith, if3 .left, side-places-are (paper (start .args .s))) in (
-      sym (judged-0 (paper (start .args .s)) (start .args .edit) (start .args .key .now) (start .args .class) (start .args .ledger .now) (negated-true (c .before .before .before .before .before .before .before .before .before .before .before .before .before .before .valid .result) (ledger-invalid (card-of (paper (start .args .s))) (start .args .ledger .now)) (c .before .before .before .before .before .before .before .before .before .before .before .before .before .before .valid .ensures) (not-false _ (if1 .left))) (start .pre .4) (find-spot .result) (ledger-spot (card-of (paper (start .args .s))) (start .args .ledger .now) (start .pre .3) (negated-true (c .before .before .before .before .before .before .before .before .before .before .before .before .before .before .valid .result) (ledger-invalid (card-of (paper (start .args .s))) (start .args .ledger .now)) (c .before .before .before .before .before .before .before .before .before .before .before .before .before .before .valid .ensures) (not-false _ (if1 .left))) (count-at .result) (count-at .ensures .0) (start .args .key .now) (start .pre .4) (find-spot .result) (find-spot .ensures)) (count-at .result) ((count-at .ensures .0) ∙ sym (listed (card-of (paper (start .args .s))) (start .args .ledger .now) (start .pre .3) (negated-true (c .before .before .before .before .before .before .before .before .before .before .before .before .before .before .valid .result) (ledger-invalid (card-of (paper (start .args .s))) (start .args .ledger .now)) (c .before .before .before .before .before .before .before .before .before .before .before .before .before .before .valid .ensures) (not-false _ (if1 .left))))) (sym (refusal-by-list .ensures) ∙ if2 .left) (place-new .result) made enough),
+    let place = c .before .before .before .before .before .before .before .before in
+    let known = accepted (at place) in
+    let t = t (entry (at place)) in
+    let few = made-few known (omega (arith, n-few (counted (spot (at place))), capacity-is t)) in
+    let enough : place .place-new .result ≤ card-of t .side-places = omega (arith, c .before .before .if3 .left, side-places-are t) in (
+      sym (judged-0 known _ (placed place .0) enough),
       λ z. record {
-        valid = (negated-true (c .before .before .before .before .before .before .before .before .before .before .before .before .before .before .valid .result) (ledger-invalid (card-of (paper (start .args .s))) (start .args .ledger .now)) (c .before .before .before .before .before .before .before .before .before .before .before .before .before .before .valid .ensures) (not-false _ (if1 .left)));
-        place = subst (λ (n : ℕ). Fits (start .args .edit) (find-spot .result .at) n) ((count-at .ensures .0) ∙ sym (listed (card-of (paper (start .args .s))) (start .args .ledger .now) (start .pre .3) (negated-true (c .before .before .before .before .before .before .before .before .before .before .before .before .before .before .valid .result) (ledger-invalid (card-of (paper (start .args .s))) (start .args .ledger .now)) (c .before .before .before .before .before .before .before .before .before .before .before .before .before .before .valid .ensures) (not-false _ (if1 .left))))) (place-fits (paper (start .args .s)) (start .args .key .now) (start .args .class) (ledger-records (card-of (paper (start .args .s))) (start .args .ledger .now)) (find-spot .result) (ledger-spot (card-of (paper (start .args .s))) (start .args .ledger .now) (start .pre .3) (negated-true (c .before .before .before .before .before .before .before .before .before .before .before .before .before .before .valid .result) (ledger-invalid (card-of (paper (start .args .s))) (start .args .ledger .now)) (c .before .before .before .before .before .before .before .before .before .before .before .before .before .before .valid .ensures) (not-false _ (if1 .left))) (count-at .result) (count-at .ensures .0) (start .args .key .now) (start .pre .4) (find-spot .result) (find-spot .ensures)) (count-at .result) ((count-at .ensures .0) ∙ sym (listed (card-of (paper (start .args .s))) (start .args .ledger .now) (start .pre .3) (negated-true (c .before .before .before .before .before .before .before .before .before .before .before .before .before .before .valid .result) (ledger-invalid (card-of (paper (start .args .s))) (start .args .ledger .now)) (c .before .before .before .before .before .before .before .before .before .before .before .before .before .before .valid .ensures) (not-false _ (if1 .left))))) (start .args .edit) (sym (refusal-by-list .ensures) ∙ if2 .left));
-        room = rw long (omega (arith, room, capacity-is (paper (start .args .s)), within (start .args .edit) (find-spot .result .at) (count-at .result) (place-fits (paper (start .args .s)) (start .args .key .now) (start .args .class) (ledger-records (card-of (paper (start .args .s))) (start .args .ledger .now)) (find-spot .result) (ledger-spot (card-of (paper (start .args .s))) (start .args .ledger .now) (start .pre .3) (negated-true (c .before .before .before .before .before .before .before .before .before .before .before .before .before .before .valid .result) (ledger-invalid (card-of (paper (start .args .s))) (start .args .ledger .now)) (c .before .before .before .before .before .before .before .before .before .before .before .before .before .before .valid .ensures) (not-false _ (if1 .left))) (count-at .result) (count-at .ensures .0) (start .args .key .now) (start .pre .4) (find-spot .result) (find-spot .ensures)) (count-at .result) ((count-at .ensures .0) ∙ sym (listed (card-of (paper (start .args .s))) (start .args .ledger .now) (start .pre .3) (negated-true (c .before .before .before .before .before .before .before .before .before .before .before .before .before .before .valid .result) (ledger-invalid (card-of (paper (start .args .s))) (start .args .ledger .now)) (c .before .before .before .before .before .before .before .before .before .before .before .before .before .before .valid .ensures) (not-false _ (if1 .left))))) (start .args .edit) (sym (refusal-by-list .ensures) ∙ if2 .left)) .1));
-        list = is;
-        count = rw (long, c .before .left-out .ensures .0, c .brought .ensures .0);
-        worked = rw is worked;
-        need = rw is made;
+        valid = known .found .rules;
+        place = place-listed known;
+        room = omega (arith, few, capacity-is t);
+        list = makes known;
+        count = rw (made-length known, c .before .left-out .ensures .0, c .brought .ensures .0);
+        placed = rw (makes known, c .before .left-out .ensures .0, c .brought .ensures .0) (placed place .1);
+        need = rw (makes known) (placed place .0);
         enough = enough;
       },
     )
@@ -177,24 +180,27 @@ pub judge-spec : {M : Type 1} → statement M
 judge-spec =
     tie.close
     (tie.spec
-    valid-requires
-    refuse-requires
+    (λ c κs. search needs)
+    (λ c κs. search needs)
     returns
-    count-at-requires
-    sub-find-spot
-    part-find-spot-start
-    part-find-spot-end
+    (λ c κs. has-two (c .before))
+    (λ c. has-two (c .before .before))
+    (λ c. has-two (c .before .before))
+    (λ c. search needs)
     find-spot-requires
-    refusal-by-list-requires
-    refuse-requires-2
+    (λ c κs. search needs)
+    (λ c κs. search needs)
     returns-2
     place-new-requires
-    refuse-requires-3
-    same-length
+    (λ c κs. search needs)
+    (λ c. search needs)
+    (λ c. search needs)
     returns-3
-    left-out-requires
-    sub-t22
-    brought-requires
-    add-t24
-    same-length-2
+    (λ c κs. search needs)
+    (λ c. let else2 = c .before .before .before .before .before .before .before .before .before .before in
+    omega (arith, place-inside (accepted else2), c .left-out .ensures .0))
+    (λ c κs. search needs)
+    (λ c. search needs)
+    (λ c. search needs)
+    (λ c. search needs)
     returns-4)

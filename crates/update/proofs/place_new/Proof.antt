@@ -1,173 +1,150 @@
--- `update::place_new` meets its contract: the list that the edit would make is what its three areas hold. Assumes nothing.
-use mathlib.Core.Path.{_≡_, _∙_}
+-- `update::place_new` meets its contract: the list that the edit would make is what its three areas hold.
+use mathlib.Core.Path.{_≡_, sym, ap, _∙_}
+use mathlib.Core.List.{List, _++_}
+use Prim.Native.Nat.{ℕ, _+_, _-_, _≤_}
 use native.Mathlib.Omega.{arith}
-use Rattle.theory.specs.Settings.{card-of}
+use lib.ListN.{length, take, drop}
+use lib.Seq.{length-take-le}
+use Rattle.theory.specs.Settings.{Card, card-of}
+use Rattle.theory.specs.Records.{Record, records, record-bytes}
+use Rattle.theory.proofs.SettingsLaws.{sound}
+use Rattle.theory.proofs.ByteLaws.{Fit}
 use Rattle.settings.specs.Checked.{paper}
-use Rattle.settings.proofs.Laws.{width-is}
-use Rattle.update.proofs.EditLaws.{size-is, within, after-within, first-room, mid-room, last-room, new-list}
+use Rattle.placing.specs.Worked.{Placed}
+use Rattle.placing.proofs.WorkLaws.{front-length, front-take, kept-within}
+use Rattle.update.specs.Editing.{edited, brings, leaves-out}
+use Rattle.update.proofs.EditLaws.{size-is, within, Around, from-within, after-within, first-room, mid-room, last-room, new-list, total-is}
 use borrow.Author.Needs.{needs}
 use Rattle.update.proofs.place_new.Statement.{statement}
 use Rattle.update.proofs.place_new.Tie as tie
 
-left-out-requires : tie.Need-left-out-requires
-left-out-requires c κs = search needs
+-- ---- the sizes are known
+module _ (c : tie.After-record-size) where
+  abbrev start : tie.Start
+  start = c .before .before .before .before .before .before .before
 
-add-from : tie.Need-add-from
-add-from c =
-    let start = c .before .before .before .before .before in
-    omega (arith, within (start .args .edit) (start .args .at) (start .args .n) (start .pre .3))
+  abbrev s : Card
+  s = card-of (paper (start .args .s))
 
-record-size-requires : tie.Need-record-size-requires
-record-size-requires c κs = search needs
+  abbrev left : ℕ
+  left = c .before .left-out .result
 
-mul-after : tie.Need-mul-after
-mul-after c =
-    let start = c .before .before .before .before .before .before in
-    let left-out = c .before .left-out in
-    omega (arith, after-within (card-of (paper (start .args .s)) .width) (start .args .edit) (start .args .at) (start .args .n) (start .pre .3) (start .args .ledger .now) (start .pre .5) (left-out .result) (c .record-size .result) (left-out .ensures .0) (c .record-size .ensures ∙ size-is (card-of (paper (start .args .s)))))
+  around : Around (s .width) (start .args .edit) (start .args .at) (start .args .n) (start .args .ledger .now) left (c .record-size .result)
+  around =
+      record {
+        fits = start .pre .place;
+        room = start .pre .room;
+        left = c .before .left-out .ensures .0;
+        size = c .record-size .ensures ∙ size-is s;
+      }
 
-add-after : tie.Need-add-after
-add-after c =
-    let start = c .before .before .before .before .before .before in
-    let left-out = c .before .left-out in
-    omega (arith, after-within (card-of (paper (start .args .s)) .width) (start .args .edit) (start .args .at) (start .args .n) (start .pre .3) (start .args .ledger .now) (start .pre .5) (left-out .result) (c .record-size .result) (left-out .ensures .0) (c .record-size .ensures ∙ size-is (card-of (paper (start .args .s)))))
+-- ---- and how many records the new list has
+module _ (c : tie.After-brought) where
+  abbrev e : tie.Start
+  e = start (c .before)
 
-sub-rest : tie.Need-sub-rest
-sub-rest c =
-    let start = c .before .before .before .before .before .before in
-    omega (arith, within (start .args .edit) (start .args .at) (start .args .n) (start .pre .3) .1, c .before .left-out .ensures .0)
+  abbrev total : ℕ
+  total = e .args .at + c .brought .result + (e .args .n - (e .args .at + left (c .before)))
 
-brought-requires : tie.Need-brought-requires
-brought-requires c κs = search needs
+  counted : total ≡ e .args .n - leaves-out (e .args .edit) + brings (e .args .edit)
+  counted = total-is (around (c .before)) (c .brought .result) (c .brought .ensures .0)
 
-sub-place-parts : tie.Need-sub-place-parts
-sub-place-parts c = search needs
+  in-kept : total ≤ length (e .args .kept .now)
+  in-kept = omega (arith, counted, e .pre .choices)
 
-part-place-parts-start : tie.Need-part-place-parts-start
-part-place-parts-start c = search needs
+-- ---- it is placed
+module _ (c : tie.After-place-parts) where
+  abbrev sized : tie.After-brought
+  sized = c .before .before .before .before .before
 
-part-place-parts-end : tie.Need-part-place-parts-end
-part-place-parts-end c = search needs
+  abbrev at : tie.Start
+  at = e sized
 
-sub-place-parts-2 : tie.Need-sub-place-parts-2
-sub-place-parts-2 c =
-    let start = c .before .before .before .before .before .before .before .before .before in
-    let left-out = c .before .before .before .before .left-out in
-    let record-size = c .before .before .before .record-size in
-    after-within (card-of (paper (start .args .s)) .width) (start .args .edit) (start .args .at) (start .args .n) (start .pre .3) (start .args .ledger .now) (start .pre .5) (left-out .result) (record-size .result) (left-out .ensures .0) (record-size .ensures ∙ size-is (card-of (paper (start .args .s))))
+  abbrev choices : List ℕ
+  choices = c .place-parts .last .1 .1 .1 .1 .1 .1 .1 .1 .1 .1 .0
 
-part-place-parts-start-2 : tie.Need-part-place-parts-start-2
-part-place-parts-start-2 c =
-    let start = c .before .before .before .before .before .before .before .before .before in
-    let left-out = c .before .before .before .before .left-out in
-    let record-size = c .before .before .before .record-size in
-    after-within (card-of (paper (start .args .s)) .width) (start .args .edit) (start .args .at) (start .args .n) (start .pre .3) (start .args .ledger .now) (start .pre .5) (left-out .result) (record-size .result) (left-out .ensures .0) (record-size .ensures ∙ size-is (card-of (paper (start .args .s))))
+  abbrev work : List ℕ
+  work = c .place-parts .last .1 .1 .1 .0
 
-part-place-parts-end-2 : tie.Need-part-place-parts-end-2
-part-place-parts-end-2 c = search needs
+  -- kept with its choices
+  abbrev back : List ℕ
+  back = choices ++ drop (total sized) (at .args .kept .now)
 
+  choices-long : length choices ≡ total sized
+  choices-long = c .place-parts .kept .1 .1 .1 .1 .1 .1 .1 .1 .1 .1 .0 ∙ length-take-le (total sized) (at .args .kept .now) (in-kept sized)
+
+  back-long : total sized ≤ length back
+  back-long = omega (arith, front-length (total sized) (at .args .kept .now) choices (in-kept sized) choices-long, in-kept sized)
+
+  kept-first : take (total sized) back ≡ choices
+  kept-first = front-take (total sized) (at .args .kept .now) choices (in-kept sized) choices-long
+
+  placed : (x : Record) → record-bytes x ≡ at .args .«record» .now → Fit (s (sized .before) .width) x
+      → Placed (s (sized .before)) (at .args .m)
+      (edited (at .args .edit) (at .args .at) x (records (s (sized .before) .width) (at .args .n) (drop 2 (at .args .ledger .now)))) work choices
+  placed x f g =
+      rw (new-list (around (sized .before)) (sized .brought .result) (sized .brought .ensures .0) (at .args .«record» .now) x f g) at
+      (c .place-parts .ensures)
+
+-- ---- the needs
 place-parts-requires : tie.Need-place-parts-requires
 place-parts-requires c κs =
-    let start = c .before .before .before .before .before .before .before .before .before .before in
-    let left-out = c .before .before .before .before .before .left-out in
-    let record-size = c .before .before .before .before .record-size in
-    let brought = c .before .before .before .brought in
-    let W = (card-of (paper (start .args .s)) .width) in
-    let wide : W ≡ 13 = width-is (paper (start .args .s)) in
-    let few = within (start .args .edit) (start .args .at) (start .args .n) (start .pre .3) in (
-      start .pre .0,
-      start .pre .1,
-      start .pre .2,
-      first-room (card-of (paper (start .args .s)) .width) (start .args .edit) (start .args .at) (start .args .n) (start .pre .3) (start .args .ledger .now) (start .pre .5) (left-out .result) (record-size .result) (left-out .ensures .0) (record-size .ensures ∙ size-is (card-of (paper (start .args .s)))),
-      mid-room W (brought .result) (brought .ensures .1) (start .args .«record» .now) (start .pre .6),
-      last-room (card-of (paper (start .args .s)) .width) (start .args .edit) (start .args .at) (start .args .n) (start .pre .3) (start .args .ledger .now) (start .pre .5) (left-out .result) (record-size .result) (left-out .ensures .0) (record-size .ensures ∙ size-is (card-of (paper (start .args .s)))),
-      omega (arith, brought .ensures .1, left-out .ensures .0, few .0, few .1),
+    let sized = c .before .before .before .before in
+    let e = e sized in
+    let few = within (e .args .edit) (e .args .at) (e .args .n) (e .pre .place) in
+    record {
+      ready = e .pre .ready;
+      buckets = e .pre .buckets;
+      halves = e .pre .halves;
+      before = first-room (around (sized .before));
+      middle = mid-room _ (sized .brought .result) (sized .brought .ensures .1) (e .args .«record» .now) (e .pre .wide);
+      after = last-room (around (sized .before));
+      few = omega (arith, sized .brought .ensures .1, few .0, e .pre .few);
+      places = length-take-le (total sized) (e .args .kept .now) (in-kept sized);
+    }
+
+side-need-requires : tie.Need-side-need-requires
+side-need-requires c κs =
+    let place = c .before .before .before .before .before .before in
+    let pre = at place .pre in
+    let right = sound (paper (at place .args .s)) (pre .ready .ok) in (
+      pre .ready .ok,
+      pre .buckets,
+      place .place-parts .kept .1 .1 .1 .0 ∙ pre .halves,
+      λ i. rw (kept-first place) (kept-within right (pre .buckets) (place .place-parts .ensures) i),
     )
-
-sub-need-parts : tie.Need-sub-need-parts
-sub-need-parts c = search needs
-
-part-need-parts-start : tie.Need-part-need-parts-start
-part-need-parts-start c = search needs
-
-part-need-parts-end : tie.Need-part-need-parts-end
-part-need-parts-end c = search needs
-
-sub-need-parts-2 : tie.Need-sub-need-parts-2
-sub-need-parts-2 c =
-    let start = c .before .before .before .before .before .before .before .before .before .before .before .before .before .before .before in
-    let left-out = c .before .before .before .before .before .before .before .before .before .before .left-out in
-    let record-size = c .before .before .before .before .before .before .before .before .before .record-size in
-    after-within (card-of (paper (start .args .s)) .width) (start .args .edit) (start .args .at) (start .args .n) (start .pre .3) (start .args .ledger .now) (start .pre .5) (left-out .result) (record-size .result) (left-out .ensures .0) (record-size .ensures ∙ size-is (card-of (paper (start .args .s))))
-
-part-need-parts-start-2 : tie.Need-part-need-parts-start-2
-part-need-parts-start-2 c =
-    let start = c .before .before .before .before .before .before .before .before .before .before .before .before .before .before .before in
-    let left-out = c .before .before .before .before .before .before .before .before .before .before .left-out in
-    let record-size = c .before .before .before .before .before .before .before .before .before .record-size in
-    after-within (card-of (paper (start .args .s)) .width) (start .args .edit) (start .args .at) (start .args .n) (start .pre .3) (start .args .ledger .now) (start .pre .5) (left-out .result) (record-size .result) (left-out .ensures .0) (record-size .ensures ∙ size-is (card-of (paper (start .args .s))))
-
-part-need-parts-end-2 : tie.Need-part-need-parts-end-2
-part-need-parts-end-2 c = search needs
-
-need-parts-requires : tie.Need-need-parts-requires
-need-parts-requires c κs =
-    let start = c .before .before .before .before .before .before .before .before .before .before .before .before .before .before .before .before in
-    let left-out = c .before .before .before .before .before .before .before .before .before .before .before .left-out in
-    let record-size = c .before .before .before .before .before .before .before .before .before .before .record-size in
-    let brought = c .before .before .before .before .before .before .before .before .before .brought in
-    let place-parts = c .before .before .before .before .before .place-parts in
-    let W = (card-of (paper (start .args .s)) .width) in
-    let wide : W ≡ 13 = width-is (paper (start .args .s)) in
-    let few = within (start .args .edit) (start .args .at) (start .args .n) (start .pre .3) in (
-      start .pre .0,
-      start .pre .1,
-      place-parts .kept .1 .1 .1 .0 ∙ start .pre .2,
-      first-room (card-of (paper (start .args .s)) .width) (start .args .edit) (start .args .at) (start .args .n) (start .pre .3) (start .args .ledger .now) (start .pre .5) (left-out .result) (record-size .result) (left-out .ensures .0) (record-size .ensures ∙ size-is (card-of (paper (start .args .s)))),
-      mid-room W (brought .result) (brought .ensures .1) (start .args .«record» .now) (start .pre .6),
-      last-room (card-of (paper (start .args .s)) .width) (start .args .edit) (start .args .at) (start .args .n) (start .pre .3) (start .args .ledger .now) (start .pre .5) (left-out .result) (record-size .result) (left-out .ensures .0) (record-size .ensures ∙ size-is (card-of (paper (start .args .s)))),
-      omega (arith, brought .ensures .1, left-out .ensures .0, few .0, few .1),
-      place-parts .ensures,
-    )
-
-same-length : tie.Need-same-length
-same-length c = search needs
 
 returns : tie.Need-returns
 returns c =
-    let start = c .before .before .before .before .before .before .before .before .before .before .before .before .before .before .before .before .before in
-    let left-out = c .before .before .before .before .before .before .before .before .before .before .before .before .left-out in
-    let record-size = c .before .before .before .before .before .before .before .before .before .before .before .record-size in
-    let brought = c .before .before .before .before .before .before .before .before .before .before .brought in
-    let place-parts = c .before .before .before .before .before .before .place-parts in
-    λ x e f.
-    let l = new-list (card-of (paper (start .args .s)) .width) (start .args .edit) (start .args .at) (start .args .n) (start .pre .3) (start .args .ledger .now) (start .pre .5) (left-out .result) (record-size .result) (left-out .ensures .0) (record-size .ensures ∙ size-is (card-of (paper (start .args .s)))) (brought .result) (brought .ensures .0) (start .args .«record» .now) x e f in
-    (rw l at (c .need-parts .ensures), rw l at (place-parts .ensures))
+    let place = c .before .before .before .before .before .before .before in
+    let first = ap (λ (j : ℕ). take j (back place)) (sym (counted (sized place))) ∙ kept-first place in
+    λ x f g. (c .side-need .ensures _ (rw (kept-first place) (placed place x f g)), rw first (placed place x f g))
 
 pub place-new-spec : {M : Type 1} → statement M
 place-new-spec =
     tie.close
     (tie.spec
-    left-out-requires
-    add-from
-    record-size-requires
-    mul-after
-    add-after
-    sub-rest
-    brought-requires
-    sub-place-parts
-    part-place-parts-start
-    part-place-parts-end
-    sub-place-parts-2
-    part-place-parts-start-2
-    part-place-parts-end-2
+    (λ c κs. search needs)
+    (λ c. let e = c .before .before .before .before .before .before in omega (arith, within (e .args .edit) (e .args .at) (e .args .n) (e .pre .place)))
+    (λ c κs. search needs)
+    (λ c. omega (arith, after-within (around c)))
+    (λ c. omega (arith, after-within (around c)))
+    (λ c. from-within (around c))
+    (λ c κs. search needs)
+    (λ c. omega (arith, in-kept c))
+    (λ c. omega (arith, in-kept c))
+    (λ c. search needs)
+    (λ c. search needs)
+    (λ c. search needs)
+    (λ c. after-within (around (c .before .before .before)))
+    (λ c. after-within (around (c .before .before .before)))
+    (λ c. search needs)
+    (λ c. in-kept (c .before .before .before))
+    (λ c. sym (length-take-le (total (c .before .before .before .before)) _ (in-kept (c .before .before .before .before))))
     place-parts-requires
-    sub-need-parts
-    part-need-parts-start
-    part-need-parts-end
-    sub-need-parts-2
-    part-need-parts-start-2
-    part-need-parts-end-2
-    need-parts-requires
-    same-length
+    (λ c. back-long (c .before .before .before .before .before))
+    (λ c. let place = c .before .before .before .before .before .before in sym (ap length (kept-first place) ∙ choices-long place))
+    side-need-requires
+    (λ c. search needs)
+    (λ c. search needs)
     returns)

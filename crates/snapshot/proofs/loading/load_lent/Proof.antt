@@ -1,171 +1,182 @@
--- `snapshot::loading::load_lent` meets its contract: each answer is the definition's. Assumes nothing.
-use mathlib.Core.Path.{sym, ap, _∙_}
+-- `snapshot::loading::load_lent` meets its contract: each answer is the definition's.
+use mathlib.Core.Path.{_≡_, sym, ap, _∙_}
+use mathlib.Core.List.{List}
+use Prim.Native.Nat.{ℕ, _+_, _-_, _≤_}
 use native.Mathlib.Omega.{arith}
-use lib.ListN.{length, length-drop}
-use Rattle.theory.specs.Settings.{card-of}
+use lib.ListN.{length, take, drop, length-drop}
+use lib.Seq.{length-take-le}
+use Rattle.theory.specs.Settings.{Settings, card-of}
+use Rattle.theory.specs.Records.{records}
 use Rattle.theory.specs.Ledger.{side-need-of}
-use Rattle.theory.specs.Layout.{layout}
+use Rattle.theory.specs.Layout.{Areas, layout}
 use Rattle.theory.proofs.SettingsLaws.{ranges}
 use Rattle.settings.specs.Checked.{paper}
 use Rattle.settings.proofs.Laws.{capacity-is, side-places-are, work-length-is}
 use Rattle.ledger.proofs.PartLaws.{tail-is}
+use Rattle.snapshot.specs.Files.{listed, by-file}
 use Rattle.snapshot.proofs.FileLaws.{head-long, found-few, found-full, found-fits, found-listed}
-use Rattle.snapshot.proofs.LoadLaws.{loads-refused, loads-9, loads-0}
+use Rattle.snapshot.proofs.LoadLaws.{Loading, loads-refused, loads-9, loads-0}
 use borrow.Author.Needs.{needs}
 use Rattle.snapshot.proofs.loading.load_lent.Statement.{statement}
 use Rattle.snapshot.proofs.loading.load_lent.Tie as tie
 
-refusal-by-file-requires : tie.Need-refusal-by-file-requires
-refusal-by-file-requires c κs =
-    let start = c .before .before .before .before .before .before .before .before in
-    (start .pre .0 .ok, (head-long (start .args .file .now) (start .pre .1)))
+-- ---- at entry
+module _ (c : tie.Start) where
+  abbrev t : Settings
+  t = paper (c .args .s)
 
-not-loaded-requires : tie.Need-not-loaded-requires
-not-loaded-requires c κs = search needs
+  abbrev file : List ℕ
+  file = c .args .file .now
 
-returns : tie.Need-returns
-returns c =
-    let start = c .before .before .before .before .before .before .before .before .before .before .before in
-    let refusal-by-file = c .before .before .refusal-by-file in
-    (c .not-loaded .ensures (record { ledger = start .args .ledger .now; true-counts = start .args .true-counts .now; clipped-counts = start .args .clipped .now; buckets = start .args .buckets .now; side-store = start .args .side .now })) ∙ loads-refused (start .args .file .now) (length (start .args .work .now)) (record { ledger = start .args .ledger .now; true-counts = start .args .true-counts .now; clipped-counts = start .args .clipped .now; buckets = start .args .buckets .now; side-store = start .args .side .now }) (start .pre .1) (paper (start .args .s)) (start .pre .2) (start .pre .0 .ok) (start .pre .3) (start .pre .4) (refusal-by-file .result) (refusal-by-file .ensures) (c .before .if1 .taken)
+  abbrev areas : Areas
+  areas =
+      record {
+        ledger = c .args .ledger .now;
+        true-counts = c .args .true-counts .now;
+        clipped-counts = c .args .clipped .now;
+        buckets = c .args .buckets .now;
+        side-store = c .args .side .now;
+      }
 
-sub-count-at : tie.Need-sub-count-at
-sub-count-at c =
-    let start = c .before .before .before .before .before .before .before .before .before .before in
-    omega (arith, (head-long (start .args .file .now) (start .pre .1)))
+  long : 16 ≤ length file
+  long = head-long file (c .pre .1)
 
-part-count-at-start : tie.Need-part-count-at-start
-part-count-at-start c =
-    let start = c .before .before .before .before .before .before .before .before .before .before in
-    omega (arith, (head-long (start .args .file .now) (start .pre .1)))
+  loading : Loading file (length (c .args .work .now)) areas t
+  loading = record { whole = c .pre .1; same = c .pre .2; ok = c .pre .0 .ok; work = c .pre .3; sized = c .pre .4 }
 
-part-count-at-end : tie.Need-part-count-at-end
-part-count-at-end c = search needs
+-- ---- the file refuses nothing, and its records are counted
+module _ (c : tie.After-count-at) where
+  abbrev start : tie.Start
+  start = c .before .before .before .before .before .before .before .before .before .before .before .before
 
+  abbrev n : ℕ
+  n = c .count-at .result
+
+  none : by-file (t start) (file start) ≡ 0
+  none = sym (c .before .before .before .refusal-by-file .ensures) ∙ c .before .before .if1 .left
+
+  few : n ≤ t start .capacity
+  few = found-few (file start) (t start) n (start .pre .1) (c .count-at .ensures .0) none
+
+  most : n ≤ 4096
+  most = omega (arith, few, ranges (t start) (start .pre .0 .ok) .capacity-high)
+
+-- ---- they are placed, and their side need counted
+module _ (c : tie.After-place-records) where
+  abbrev counted : tie.After-count-at
+  counted = c .before .before .before .before .before
+
+  abbrev e : tie.Start
+  e = start counted
+
+  abbrev m : ℕ
+  m = c .before .before .before .before .buckets .result
+
+  abbrev kept : List ℕ
+  kept = c .place-records .last .1 .1 .1 .1 .0
+
+  halves : length (e .args .work .now) ≡ m + m
+  halves = omega (arith, e .pre .3, c .before .before .before .before .buckets .ensures, work-length-is (t e))
+
+  in-kept : n counted ≤ length kept
+  in-kept = omega (arith, c .place-records .kept .1 .1 .1 .1 .0, most counted)
+
+  all : records (card-of (t e) .width) (n counted) (take (length (file e) - 16) (drop 16 (file e))) ≡ listed (t e) (file e)
+  all = found-listed (file e) (t e) (n counted) (e .pre .1) (counted .count-at .ensures .0) (none counted)
+
+  need-is : c .place-records .result ≡ side-need-of (card-of (t e)) (listed (t e) (file e))
+  need-is = c .place-records .ensures .0 ∙ ap (side-need-of (card-of (t e))) all
+
+-- ---- the needs
 count-at-requires : tie.Need-count-at-requires
 count-at-requires c κs =
-    let start = c .before .before .before .before .before .before .before .before .before .before .before in
-    rw (tail-is 14 (start .args .file .now) (omega (arith, (head-long (start .args .file .now) (start .pre .1)))), length-drop) (omega (arith, (head-long (start .args .file .now) (start .pre .1))))
-
-buckets-requires : tie.Need-buckets-requires
-buckets-requires c κs = search needs
-
-sub-area : tie.Need-sub-area
-sub-area c =
-    let start = c .before .before .before .before .before .before .before .before .before .before .before .before .before in
-    (head-long (start .args .file .now) (start .pre .1))
-
-part-area-start : tie.Need-part-area-start
-part-area-start c =
-    let start = c .before .before .before .before .before .before .before .before .before .before .before .before .before in
-    (head-long (start .args .file .now) (start .pre .1))
-
-part-area-end : tie.Need-part-area-end
-part-area-end c = search needs
+    let e = c .before .before .before .before .before .before .before .before .before .before .before in
+    rw (tail-is 14 (file e) (omega (arith, long e)), length-drop) (omega (arith, long e))
 
 place-records-requires : tie.Need-place-records-requires
 place-records-requires c κs =
-    let start = c .before .before .before .before .before .before .before .before .before .before .before .before .before .before .before in
-    let refusal-by-file = c .before .before .before .before .before .before .refusal-by-file in
-    let if1 = c .before .before .before .before .before .if1 in
-    let count-at = c .before .before .before .count-at in
-    let buckets = c .before .before .buckets in
-    let r = ranges (paper (start .args .s)) (start .pre .0 .ok) in (
-      start .pre .0,
-      buckets .ensures,
-      omega (arith, start .pre .3, buckets .ensures, work-length-is (paper (start .args .s))),
-      found-fits (start .args .file .now) (paper (start .args .s)) (count-at .result) (start .pre .1) (count-at .ensures .0) (sym (refusal-by-file .ensures) ∙ (if1 .left)),
-      omega (arith, found-few (start .args .file .now) (paper (start .args .s)) (count-at .result) (start .pre .1) (count-at .ensures .0) (sym (refusal-by-file .ensures) ∙ (if1 .left)), r .capacity-high),
-    )
+    let buckets = c .before .before .before in
+    let counted = buckets .before in
+    let e = start counted in
+    record {
+      ready = e .pre .0;
+      buckets = buckets .buckets .ensures;
+      halves = omega (arith, e .pre .3, buckets .buckets .ensures, work-length-is (t e));
+      choices = omega (arith, most counted);
+      room = found-fits (file e) (t e) (n counted) (e .pre .1) (counted .count-at .ensures .0) (none counted);
+      few = most counted;
+    }
 
-not-loaded-requires-2 : tie.Need-not-loaded-requires-2
-not-loaded-requires-2 c κs = search needs
-
-same-length : tie.Need-same-length
-same-length c = search needs
+returns : tie.Need-returns
+returns c =
+    let refused = c .before .before in
+    let e = refused .before .before .before .before .before .before .before .before .before in
+    c .not-loaded .ensures (areas e) ∙ loads-refused (loading e) (refused .refusal-by-file .result) (refused .refusal-by-file .ensures) (c .before .if1 .taken)
 
 returns-2 : tie.Need-returns-2
 returns-2 c =
-    let start = c .before .before .before .before .before .before .before .before .before .before .before .before .before .before .before .before .before .before .before .before .before in
-    let refusal-by-file = c .before .before .before .before .before .before .before .before .before .before .before .before .refusal-by-file in
-    let if1 = c .before .before .before .before .before .before .before .before .before .before .before .if1 in
-    let count-at = c .before .before .before .before .before .before .before .before .before .count-at in
-    let place-records = c .before .before .before .before .before .place-records in
-    (c .not-loaded2 .ensures (record { ledger = start .args .ledger .now; true-counts = start .args .true-counts .now; clipped-counts = start .args .clipped .now; buckets = start .args .buckets .now; side-store = start .args .side .now })) ∙ loads-9 (start .args .file .now) (length (start .args .work .now)) (record { ledger = start .args .ledger .now; true-counts = start .args .true-counts .now; clipped-counts = start .args .clipped .now; buckets = start .args .buckets .now; side-store = start .args .side .now }) (start .pre .1) (paper (start .args .s)) (start .pre .2) (start .pre .0 .ok) (start .pre .3) (start .pre .4) (sym (refusal-by-file .ensures) ∙ (if1 .left)) (place-records .result) ((place-records .ensures .0) ∙ ap (side-need-of (card-of (paper (start .args .s)))) (found-listed (start .args .file .now) (paper (start .args .s)) (count-at .result) (start .pre .1) (count-at .ensures .0) (sym (refusal-by-file .ensures) ∙ (if1 .left)))) (omega (arith, c .before .if2 .taken, side-places-are (paper (start .args .s))))
+    let place = c .before .before .before .before .before .before in
+    let e = e place in
+    c .not-loaded2 .ensures (areas e)
+    ∙ loads-9 (loading e) (none (counted place)) (place .place-records .result) (need-is place) (omega (arith, c .before .if2 .taken, side-places-are (t e)))
 
 write-list-requires : tie.Need-write-list-requires
 write-list-requires c κs =
-    let start = c .before .before .before .before .before .before .before .before .before .before .before .before .before .before .before .before .before .before .before .before .before .before .before .before .before .before in
-    let refusal-by-file = c .before .before .before .before .before .before .before .before .before .before .before .before .before .before .before .before .before .refusal-by-file in
-    let if1 = c .before .before .before .before .before .before .before .before .before .before .before .before .before .before .before .before .if1 in
-    let count-at = c .before .before .before .before .before .before .before .before .before .before .before .before .before .before .count-at in
-    let buckets = c .before .before .before .before .before .before .before .before .before .before .before .before .before .buckets in
-    let place-records = c .before .before .before .before .before .before .before .before .before .before .place-records in
-    let if2 = c .before .before .before .before .before .before .if2 in (
-      start .pre .0,
-      buckets .ensures,
-      (place-records .kept .1 .1 .1 .0) ∙ omega (arith, start .pre .3, buckets .ensures, work-length-is (paper (start .args .s))),
-      omega (arith, found-few (start .args .file .now) (paper (start .args .s)) (count-at .result) (start .pre .1) (count-at .ensures .0) (sym (refusal-by-file .ensures) ∙ (if1 .left)), capacity-is (paper (start .args .s))),
-      found-full (start .args .file .now) (paper (start .args .s)) (count-at .result) (start .pre .1) (count-at .ensures .0) (sym (refusal-by-file .ensures) ∙ (if1 .left)),
-      place-records .ensures .1,
-      place-records .ensures .0,
-      omega (arith, if2 .left, side-places-are (paper (start .args .s))),
-      start .pre .4,
+    let good = c .before .before .before .before .before .before .before in
+    let place = good .before .before .before .before .before in
+    let e = e place in
+    let told = counted place .count-at .ensures .0 in (
+      record {
+        ok = e .pre .0 .ok;
+        buckets = place .before .before .before .before .buckets .ensures;
+        work-length = place .place-records .kept .1 .1 .1 .0 ∙ halves place;
+        records-fit = found-fits (file e) (t e) (n (counted place)) (e .pre .1) told (none (counted place));
+        placed = place .place-records .ensures .1;
+      },
+      omega (arith, few (counted place), capacity-is (t e)),
+      found-full (file e) (t e) (n (counted place)) (e .pre .1) told (none (counted place)),
+      place .place-records .ensures .0,
+      omega (arith, good .if2 .left, side-places-are (t e)),
+      e .pre .4,
     )
-
-same-length-2 : tie.Need-same-length-2
-same-length-2 c = search needs
-
-same-length-3 : tie.Need-same-length-3
-same-length-3 c = search needs
-
-same-length-4 : tie.Need-same-length-4
-same-length-4 c = search needs
-
-same-length-5 : tie.Need-same-length-5
-same-length-5 c = search needs
-
-same-length-6 : tie.Need-same-length-6
-same-length-6 c = search needs
-
-same-length-7 : tie.Need-same-length-7
-same-length-7 c = search needs
 
 returns-3 : tie.Need-returns-3
 returns-3 c =
-    let start = c .before .before .before .before .before .before .before .before .before .before .before .before .before .before .before .before .before .before .before .before .before .before .before .before .before .before .before .before .before .before .before .before .before .before .before .before .before in
-    let refusal-by-file = c .before .before .before .before .before .before .before .before .before .before .before .before .before .before .before .before .before .before .before .before .before .before .before .before .before .before .before .before .refusal-by-file in
-    let if1 = c .before .before .before .before .before .before .before .before .before .before .before .before .before .before .before .before .before .before .before .before .before .before .before .before .before .before .before .if1 in
-    let count-at = c .before .before .before .before .before .before .before .before .before .before .before .before .before .before .before .before .before .before .before .before .before .before .before .before .before .count-at in
-    let place-records = c .before .before .before .before .before .before .before .before .before .before .before .before .before .before .before .before .before .before .before .before .before .place-records in
-    let if2 = c .before .before .before .before .before .before .before .before .before .before .before .before .before .before .before .before .before .if2 in
-    let write-list = c .before .before .before .before .before .before .before .before .before .before .write-list in
-    loads-0 (start .args .file .now) (length (start .args .work .now)) (record { ledger = start .args .ledger .now; true-counts = start .args .true-counts .now; clipped-counts = start .args .clipped .now; buckets = start .args .buckets .now; side-store = start .args .side .now }) (start .pre .1) (paper (start .args .s)) (start .pre .2) (start .pre .0 .ok) (start .pre .3) (start .pre .4) (sym (refusal-by-file .ensures) ∙ (if1 .left)) (place-records .result) ((place-records .ensures .0) ∙ ap (side-need-of (card-of (paper (start .args .s)))) (found-listed (start .args .file .now) (paper (start .args .s)) (count-at .result) (start .pre .1) (count-at .ensures .0) (sym (refusal-by-file .ensures) ∙ (if1 .left)))) (omega (arith, if2 .left, side-places-are (paper (start .args .s)))) _ ((write-list .ensures) ∙ ap (layout (card-of (paper (start .args .s)))) (found-listed (start .args .file .now) (paper (start .args .s)) (count-at .result) (start .pre .1) (count-at .ensures .0) (sym (refusal-by-file .ensures) ∙ (if1 .left))))
+    let write = c .before .before .before .before .before .before .before .before .before .before in
+    let good = write .before .before .before .before .before .before .before .before in
+    let place = good .before .before .before .before .before in
+    let e = e place in
+    loads-0 (loading e) (none (counted place)) (place .place-records .result) (need-is place) (omega (arith, good .if2 .left, side-places-are (t e))) _
+    (write .write-list .ensures ∙ ap (layout (card-of (t e))) (all place))
 
 pub load-lent-spec : {M : Type 1} → statement M
 load-lent-spec =
     tie.close
     (tie.spec
-    refusal-by-file-requires
-    not-loaded-requires
+    (λ c κs. let e = c .before .before .before .before .before .before .before .before in (e .pre .0 .ok, long e))
+    (λ c κs. search needs)
     returns
-    sub-count-at
-    part-count-at-start
-    part-count-at-end
+    (λ c. omega (arith, long (c .before .before .before .before .before .before .before .before .before .before)))
+    (λ c. omega (arith, long (c .before .before .before .before .before .before .before .before .before .before)))
+    (λ c. search needs)
     count-at-requires
-    buckets-requires
-    sub-area
-    part-area-start
-    part-area-end
+    (λ c κs. search needs)
+    (λ c. long (start (c .before)))
+    (λ c. long (start (c .before)))
+    (λ c. search needs)
+    (λ c. search needs)
     place-records-requires
-    not-loaded-requires-2
-    same-length
+    (λ c κs. search needs)
+    (λ c. search needs)
     returns-2
+    (λ c. in-kept (c .before .before .before .before .before .before .before .before .before .before .before))
+    (λ c. let place = c .before .before .before .before .before .before .before .before .before .before .before .before in
+    sym (length-take-le (n (counted place)) (kept place) (in-kept place)))
     write-list-requires
-    same-length-2
-    same-length-3
-    same-length-4
-    same-length-5
-    same-length-6
-    same-length-7
+    (λ c. search needs)
+    (λ c. search needs)
+    (λ c. search needs)
+    (λ c. search needs)
+    (λ c. search needs)
+    (λ c. search needs)
     returns-3)

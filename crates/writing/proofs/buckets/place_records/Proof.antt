@@ -1,50 +1,49 @@
--- `place_records` meets its contract: the first i records are placed, and each turn places one more. Assumes nothing.
+-- `place_records` meets its contract: the first i records are placed, and each turn places one more.
 use mathlib.Core.Path.{_≡_, refl, _∙_}
-use Prim.Native.Nat.{_-_, _≤_}
+use mathlib.Core.List.{List}
+use Prim.Native.Nat.{ℕ, _-_, _≤_}
 use native.Mathlib.Omega.{arith}
-use lib.ListN.{length, take}
-use Rattle.theory.specs.Settings.{card-of}
+use lib.ListN.{length}
+use Rattle.theory.specs.Settings.{Card, card-of}
 use Rattle.settings.specs.Checked.{paper}
-use Rattle.placing.specs.Worked.{nth}
-use Rattle.writing.specs.Buckets.{crowded-by, placed}
+use Rattle.writing.specs.Buckets.{placed}
 use Rattle.writing.proofs.BucketLaws.{growing-none}
 use Rattle.writing.proofs.buckets.place_records.Statement.{statement}
 use Rattle.writing.proofs.buckets.place_records.Tie as tie
 
+-- the first i of n records are placed
+record First (s : Card) (m : ℕ) (work area : List ℕ) (n size i : ℕ) (buckets : List ℕ) : Type 0 where
+  most : i ≤ n
+  same : length buckets ≡ size
+  is : buckets ≡ placed s m work i area
+
 abbrev Inv-loop : tie.InvT-loop
-Inv-loop s t m work buckets₀ area n i₀ buckets i = (i ≤ n) × (length buckets ≡ length buckets₀) × (buckets ≡ placed (card-of (paper s)) m work i area)
+Inv-loop s m work kept buckets₀ area n i₀ buckets i = First (card-of (paper s)) m work area n (length buckets₀) i buckets
 
 abbrev μ-loop : tie.MeasureT-loop
-μ-loop s t m work buckets₀ area n i₀ buckets i = n - i
+μ-loop s m work kept buckets₀ area n i₀ buckets i = n - i
 
 loop-holds : tie.Need-loop-holds Inv-loop μ-loop
 loop-holds c =
-    let start = c .before .before .before .before in (
-      omega arith,
-      refl,
-      start .pre .5 ∙ growing-none (card-of (paper (start .args .s))) (crowded-by (card-of (paper (start .args .s))) (start .args .m) (start .args .work .now)) (nth (take (start .args .m) (start .args .work .now))) (card-of (paper (start .args .s)) .width) (start .args .area .now),
-    )
+    let start = c .before .before .before .before in
+    record { most = omega arith; same = refl; is = start .pre .1 ∙ growing-none _ _ _ _ (start .args .area .now) }
 
 place-record-requires : tie.Need-place-record-requires Inv-loop μ-loop
 place-record-requires c κs =
-    let start = c .before .before .before .before .before .before .before in
-    let loop = c .before .before .loop in
-    (start .pre .0, start .pre .1, start .pre .2, start .pre .3, omega arith, start .pre .4, loop .inv .2)
-
-add-i : tie.Need-add-i Inv-loop μ-loop
-add-i c = omega arith
-
-loop-less : tie.Need-loop-less Inv-loop μ-loop
-loop-less c = omega arith
+    let loop = c .before .before in
+    (loop .before .before .before .before .before .pre .0, omega arith, loop .loop .inv .is)
 
 loop-again : tie.Need-loop-again Inv-loop μ-loop
-loop-again c = (omega arith, c .before .before .place-record .kept .1 .1 .1 .1 .0 ∙ c .before .before .before .before .before .loop .inv .1, c .before .before .place-record .ensures)
-
-same-length : tie.Need-same-length Inv-loop μ-loop
-same-length c = omega arith
+loop-again c =
+    let place = c .before .before .place-record in
+    let inv = c .before .before .before .before .before .loop .inv in
+    record { most = omega arith; same = place .kept .1 .1 .1 .1 .0 ∙ inv .same; is = place .ensures }
 
 returns : tie.Need-returns Inv-loop μ-loop
-returns c = let e : c .before .loop .i ≡ c .before .before .before .before .before .before .args .n = omega arith in c .before .loop .inv .2 ∙ rw e
+returns c =
+    let loop = c .before .loop in
+    let all : loop .i ≡ c .before .before .before .before .before .before .args .n = omega (arith, loop .inv .most) in
+    loop .inv .is ∙ rw all
 
 pub place-records-spec : {M : Type 1} → statement M
 place-records-spec =
@@ -54,8 +53,8 @@ place-records-spec =
     μ-loop
     loop-holds
     place-record-requires
-    add-i
-    loop-less
+    (λ c. omega arith)
+    (λ c. omega arith)
     loop-again
-    same-length
+    (λ c. c .before .loop .inv .same)
     returns)

@@ -1,4 +1,4 @@
--- `write_side` meets its contract: zeros, then the records that belong to the side, then their count. Assumes nothing.
+-- `write_side` meets its contract: zeros, then the records that belong to the side, then their count.
 use mathlib.Core.Path.{_≡_, sym, ap, _∙_}
 use mathlib.Core.List.{List, _++_}
 use Prim.Native.Nat.{ℕ, _-_, _*_, _≤_}
@@ -6,11 +6,12 @@ use native.Mathlib.Omega.{arith}
 use lib.ListN.{length, take, drop}
 use lib.Seq.{drop-at, length-take-le}
 use Rattle.theory.specs.Records.{to-bytes, records}
-use Rattle.theory.specs.Settings.{Card, card-of, record-size, side-length}
+use Rattle.theory.specs.Settings.{Settings, Card, card-of, record-size, side-length}
 use Rattle.theory.proofs.SettingsLaws.{sound}
 use Rattle.settings.specs.Checked.{paper}
 use Rattle.settings.proofs.Laws.{bounds}
 use Rattle.ledger.proofs.PartLaws.{tail-is, tail-back}
+use Rattle.placing.specs.Worked.{Worked}
 use Rattle.writing.proofs.PartLaws.{zeros, zeros-drop}
 use Rattle.writing.proofs.SideLaws.{sent-none, sent-need, side-none, side-written}
 use borrow.Author.Needs.{needs}
@@ -21,78 +22,77 @@ places-length : (s : Card) (n : ℕ) → n ≡ side-length s → n - 2 ≡ recor
 unfolding side-length
 places-length s n e = omega arith
 
--- the count has its two bytes
-few : (c : tie.After-zero-fill) → 2 ≤ length (c .zero-fill .last .0)
-few c =
-    let start = c .before .before .before .before .before .before in
-    omega (arith, c .zero-fill .kept .0, start .pre .5, bounds (paper (start .args .s)) (start .pre .0 .ok) .side-least)
+-- ---- at entry
+module _ (c : tie.Start) where
+  abbrev t : Settings
+  t = paper (c .args .s)
 
-zero-fill-requires : tie.Need-zero-fill-requires
-zero-fill-requires c κs = search needs
+  abbrev side : List ℕ
+  side = c .args .side .now
 
-same-length : tie.Need-same-length
-same-length c = search needs
+  worked : Worked (card-of t) (c .args .m) (records (card-of t .width) (c .args .n) (c .args .area .now)) (c .args .work .now)
+  worked = c .pre .0 .placed .worked
 
+  -- the count has its two bytes
+  has-two : 2 ≤ length side
+  has-two = omega (arith, c .pre .1, bounds t (c .pre .0 .ok) .side-least)
+
+-- ---- the area is zeros
+module _ (c : tie.After-zero-fill) where
+  abbrev start : tie.Start
+  start = c .before .before .before .before .before .before
+
+  abbrev blank : List ℕ
+  blank = c .zero-fill .last .0
+
+  few : 2 ≤ length blank
+  few = omega (arith, c .zero-fill .kept .0, has-two start)
+
+-- ---- the needs
 returns : tie.Need-returns
 returns c =
-    let start = c .before .before .before .before .before .before .before .before .before in
-    let zero-fill = c .before .before .before .zero-fill in
-    zero-fill .ensures ∙ ap zeros (start .pre .5) ∙ sym (side-none (card-of (paper (start .args .s))) (start .args .m) (records (card-of (paper (start .args .s)) .width) (start .args .n) (start .args .area .now)) (start .args .work .now) (start .pre .4) (sym (start .pre .6) ∙ c .if1 .taken))
-
-sub-side-records : tie.Need-sub-side-records
-sub-side-records c = few (c .before .before .before)
-
-part-side-records-start : tie.Need-part-side-records-start
-part-side-records-start c = few (c .before .before .before)
-
-part-side-records-end : tie.Need-part-side-records-end
-part-side-records-end c = search needs
+    let zeroed = c .before .before .before in
+    let e = start zeroed in
+    zeroed .zero-fill .ensures ∙ ap zeros (e .pre .1) ∙ sym (side-none (worked e) (sym (e .pre .2) ∙ c .if1 .taken))
 
 side-records-requires : tie.Need-side-records-requires
 side-records-requires c κs =
-    let start = c .before .before .before .before .before .before .before .before .before .before in
-    let zero-fill = c .before .before .before .before .zero-fill in
-    let before = c .before .before .before .before in (
-      start .pre .0,
-      start .pre .1,
-      start .pre .2,
-      start .pre .3,
-      omega (arith, start .pre .6, start .pre .7, sent-need (card-of (paper (start .args .s))) (start .args .m) (records (card-of (paper (start .args .s)) .width) (start .args .n) (start .args .area .now)) (start .args .work .now) (start .pre .4)),
-      tail-is 2 (zero-fill .last .0) (few (before)) ∙ ap (drop 2) (zero-fill .ensures) ∙ zeros-drop (length (start .args .side .now)) 2
-          ∙ sent-none (card-of (paper (start .args .s))) (start .args .m) (start .args .work .now) (start .args .area .now) (length (start .args .side .now) - 2) (places-length (card-of (paper (start .args .s))) (length (start .args .side .now)) (start .pre .5)),
+    let zeroed = c .before .before .before .before in
+    let e = start zeroed in (
+      e .pre .0,
+      omega (arith, e .pre .2, e .pre .3, sent-need (worked e)),
+      tail-is 2 (blank zeroed) (few zeroed) ∙ ap (drop 2) (zeroed .zero-fill .ensures) ∙ zeros-drop (length (side e)) 2
+          ∙ sent-none (card-of (t e)) (e .args .m) (e .args .work .now) (e .args .area .now) _ (places-length (card-of (t e)) (length (side e)) (e .pre .1)),
     )
 
 write-number-requires : tie.Need-write-number-requires
 write-number-requires c κs =
-    let start = c .before .before .before .before .before .before .before .before .before .before .before .before .before .before in
-    (omega (arith, start .pre .5, bounds (paper (start .args .s)) (start .pre .0 .ok) .side-least), omega (arith, start .pre .7, sound (paper (start .args .s)) (start .pre .0 .ok) .side-small))
-
-same-length-2 : tie.Need-same-length-2
-same-length-2 c = search needs
+    let e = start (c .before .before .before .before .before .before .before .before) in
+    (omega (arith, has-two e), omega (arith, e .pre .3, sound (t e) (e .pre .0 .ok) .side-small))
 
 returns-2 : tie.Need-returns-2
 returns-2 c =
-    let start = c .before .before .before .before .before .before .before .before .before .before .before .before .before .before .before .before .before in
-    let zero-fill = c .before .before .before .before .before .before .before .before .before .before .before .zero-fill in
-    let before = c .before .before .before .before .before .before .before .before .before .before .before in
-    let side-records = c .before .before .before .before .before .before .side-records in
-    let write-number = c .before .before .write-number in
-    write-number .ensures
-    ∙ ap (λ (l : List ℕ). to-bytes 2 (start .args .need) ++ drop 2 l) (tail-back 2 (zero-fill .last .0) (side-records .last .1 .1 .1 .1 .0) (few (before)))
-    ∙ ap (λ (l : List ℕ). to-bytes 2 (start .args .need) ++ l) (drop-at (take 2 (zero-fill .last .0)) (side-records .last .1 .1 .1 .1 .0) 2 (length-take-le 2 (zero-fill .last .0) (few (before))) ∙ side-records .ensures)
-    ∙ side-written (card-of (paper (start .args .s))) (start .args .m) (records (card-of (paper (start .args .s)) .width) (start .args .n) (start .args .area .now)) (start .args .work .now) (start .pre .4) (start .args .need) (start .pre .6)
+    let sent = c .before .before .before .before .before .before in
+    let zeroed = sent .before .before .before .before .before in
+    let e = start zeroed in
+    let places = sent .side-records .last .1 .1 .1 .1 .0 in
+    let front = drop-at (take 2 (blank zeroed)) places 2 (length-take-le 2 (blank zeroed) (few zeroed)) in
+    c .before .before .write-number .ensures
+    ∙ ap (λ (l : List ℕ). to-bytes 2 (e .args .need) ++ drop 2 l) (tail-back 2 (blank zeroed) places (few zeroed))
+    ∙ ap (λ (l : List ℕ). to-bytes 2 (e .args .need) ++ l) (front ∙ sent .side-records .ensures)
+    ∙ side-written (worked e) (e .args .need) (e .pre .2)
 
 pub write-side-spec : {M : Type 1} → statement M
 write-side-spec =
     tie.close
     (tie.spec
-    zero-fill-requires
-    same-length
+    (λ c κs. search needs)
+    (λ c. search needs)
     returns
-    sub-side-records
-    part-side-records-start
-    part-side-records-end
+    (λ c. few (c .before .before .before))
+    (λ c. few (c .before .before .before))
+    (λ c. search needs)
     side-records-requires
     write-number-requires
-    same-length-2
+    (λ c. search needs)
     returns-2)

@@ -1,0 +1,18 @@
+-- What the writers of the layout have at hand: allowed settings, and a list of n records that is placed. Its records lie in an area.
+use mathlib.Core.Path.{_≡_}
+use mathlib.Core.Bool.{true}
+use mathlib.Core.List.{List}
+use Prim.Native.Nat.{ℕ, _+_, _*_, _≤_}
+use lib.ListN.{length}
+use Rattle.theory.specs.Settings.{allowed, card-of}
+use Rattle.theory.specs.Records.{records}
+use Rattle.settings.specs.declared.Settings.{Settings}
+use Rattle.settings.specs.Checked.{paper}
+use Rattle.placing.specs.Worked.{Placed}
+
+pub record Laying (s : Settings) (m : ℕ) (work kept area : List ℕ) (n : ℕ) : Type 0 where
+  pub ok : allowed (paper s) ≡ true
+  pub buckets : m ≡ card-of (paper s) .buckets
+  pub work-length : length work ≡ m + m
+  pub records-fit : n * (card-of (paper s) .width + 4) ≤ length area
+  pub placed : Placed (card-of (paper s)) m (records (card-of (paper s) .width) n area) work kept
