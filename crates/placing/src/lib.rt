@@ -11,7 +11,7 @@ ghost use Rattle.theory.specs.Lists.{has};
 ghost use Rattle.theory.specs.Records.{Record, records};
 ghost use Rattle.theory.specs.Hash.{H as H-of};
 ghost use Rattle.theory.specs.Settings.{allowed, card-of};
-ghost use Rattle.theory.specs.Placing.{true-count, all-top, chosen, choosers};
+ghost use Rattle.theory.specs.Placing.{true-count, all-top, chosen};
 ghost use Rattle.theory.specs.Ledger.{side-need-of};
 ghost use Rattle.settings.specs.Checked.{paper};
 ghost use Rattle.placing.specs.Ready.{Ready, Choosing, Placing};
