@@ -2,7 +2,7 @@
  * DPDK's rte_hash, in one run: rounds that alternate, over the same keys in an order that is random in each round, and the median round.
  * Beside the times, how many buckets or slots a lookup reads. */
 #include "flow.h"
-#include "lay.h"
+#include "layout.h"
 #include "others.h"
 #include "plain.h"
 #include "timing.h"
@@ -185,7 +185,7 @@ static int build(void)
         random_key(absent[i]);
         classes[i] = (uint32_t)random_number();
     }
-    if (lay(&set, table, held, classes, &at) != 0) {
+    if (lay_out(&set, table, held, classes, &at) != 0) {
         printf("%" PRIu64 " flows: no layout\n", set.flows);
         return 1;
     }

@@ -1,7 +1,7 @@
 /* Time of an add and a remove by the doors and by plain C that lays out every area as they do, in one run: rounds that alternate, over the
  * same keys, and the median round. The areas of all are compared after every round, once with a flow more and once without. */
 #include "flow.h"
-#include "relay.h"
+#include "plain_update.h"
 #include "timing.h"
 #include <stdio.h>
 #include <stdlib.h>
@@ -32,13 +32,13 @@ static uint32_t call(int way, enum edit edit, const uint8_t *key)
     struct areas *at = &areas[way];
     const uint32_t class = 7;
     if (way == SAME) {
-        return relay_branching(&set, table, at, edit, key, 13, class);
+        return plain_update_branching(&set, table, at, edit, key, 13, class);
     }
     if (way == NO_BRANCHES) {
-        return relay(&set, table, at, edit, key, 13, class);
+        return plain_update(&set, table, at, edit, key, 13, class);
     }
     if (way == KEPT) {
-        return relay_kept(&set, table, at, edit, key, 13, class);
+        return plain_update_kept(&set, table, at, edit, key, 13, class);
     }
     if (edit == ADD) {
         return flow_add(set.p, set.k, set.room, set.top, set.capacity, set.side_places, at->ledger, at->ledger_length, at->true_counts,

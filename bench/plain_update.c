@@ -1,4 +1,4 @@
-#include "relay.h"
+#include "plain_update.h"
 #include <string.h>
 
 enum { KEY = 13, RECORD = 17, MOST_FLOWS = 4096, NOWHERE = 4096 };
@@ -267,19 +267,19 @@ __attribute__((always_inline)) static inline uint32_t five_passes(choose *choice
     return 0;
 }
 
-uint32_t relay_branching(const struct settings *set, const uint64_t *table, struct areas *at, enum edit edit, const uint8_t *key,
+uint32_t plain_update_branching(const struct settings *set, const uint64_t *table, struct areas *at, enum edit edit, const uint8_t *key,
                          size_t key_length, uint32_t class)
 {
     return five_passes(choice_by_branches, set, table, at, edit, key, key_length, class);
 }
 
-uint32_t relay(const struct settings *set, const uint64_t *table, struct areas *at, enum edit edit, const uint8_t *key, size_t key_length,
+uint32_t plain_update(const struct settings *set, const uint64_t *table, struct areas *at, enum edit edit, const uint8_t *key, size_t key_length,
                uint32_t class)
 {
     return five_passes(choice_of, set, table, at, edit, key, key_length, class);
 }
 
-uint32_t relay_kept(const struct settings *set, const uint64_t *table, struct areas *at, enum edit edit, const uint8_t *key,
+uint32_t plain_update_kept(const struct settings *set, const uint64_t *table, struct areas *at, enum edit edit, const uint8_t *key,
                     size_t key_length, uint32_t class)
 {
     static uint64_t hashes[MOST_FLOWS];
