@@ -1,7 +1,7 @@
 #include "plain_update.h"
-#include <string.h>
+#include "plain_parts.h"
 
-enum { KEY = 13, RECORD = 17, MOST_FLOWS = 4096, NOWHERE = 4096 };
+enum { NOWHERE = 4096 };
 
 /* The list that a call would make, while the ledger is not edited yet. */
 struct list {
@@ -11,12 +11,7 @@ struct list {
     enum edit edit;
 };
 
-static uint64_t big(const uint8_t *at)
-{
-    uint64_t x;
-    memcpy(&x, at, 8);
-    return __builtin_bswap64(x);
-}
+static uint64_t big(const uint8_t *at) { return __builtin_bswap64(load(at)); }
 
 /* Key order: two loads of 8 bytes that overlap. */
 static int below(const uint8_t *a, const uint8_t *b)
@@ -34,15 +29,6 @@ static const uint8_t *record_of(const struct list *list, size_t i)
         return list->records + RECORD * (i + 1);
     }
     return i == list->at ? list->record : list->records + RECORD * (i - 1);
-}
-
-static uint64_t hash(const uint64_t *table, const uint8_t *key)
-{
-    uint64_t h = 0;
-    for (size_t a = 0; a < KEY; a++) {
-        h ^= table[256 * a + key[a]];
-    }
-    return h;
 }
 
 /* One more for each of the key's bucket numbers, repeats dropped. */
@@ -102,7 +88,7 @@ static size_t choice_by_branches(const struct settings *set, const uint16_t *cou
 static uint32_t judge(const struct settings *set, const struct areas *at, enum edit edit, const uint8_t *key, size_t key_length,
                       struct list *list)
 {
-    if (set->p - 4 > 8 || set->k - 1 > 3 || set->room - 1 > 3 || set->top - 2 > 13 || set->capacity - 1 > 4095 || set->side_places > 64) {
+    if (!in_range(set->p, set->k, set->room, set->top, set->capacity, set->side_places)) {
         return 1;
     }
     const size_t m = (size_t)1 << set->p;
@@ -201,14 +187,6 @@ static void put(const struct settings *set, struct areas *at, size_t choice, con
     memcpy(bucket + 1 + RECORD * bucket[0]++, record, RECORD);
 }
 
-static void record_bytes(uint8_t *record, const uint8_t *key, uint32_t class)
-{
-    memcpy(record, key, KEY);
-    for (int i = 0; i < 4; i++) {
-        record[KEY + i] = (uint8_t)(class >> 8 * (3 - i));
-    }
-}
-
 typedef size_t choose(const struct settings *set, const uint16_t *counts, uint64_t h);
 
 /* Five passes over the records, each with the hash of every key. Made once for each way to choose. */
@@ -223,23 +201,23 @@ __attribute__((always_inline)) static inline uint32_t five_passes(choose *choice
     }
     const size_t m = (size_t)1 << set->p;
     uint8_t record[RECORD];
-    record_bytes(record, key, class);
+    put_record(record, key, class);
     list.record = record;
 
     uint16_t *counts = at->work, *choosers = at->work + m;
     memset(at->work, 0, 2 * m * sizeof at->work[0]);
     for (size_t i = 0; i < list.n; i++) {
-        count(set, counts, hash(table, record_of(&list, i)));
+        count(set, counts, hash_of(table, record_of(&list, i)));
     }
     for (size_t i = 0; i < list.n; i++) {
-        size_t choice = choice_by(set, counts, hash(table, record_of(&list, i)));
+        size_t choice = choice_by(set, counts, hash_of(table, record_of(&list, i)));
         if (choice != NOWHERE) {
             choosers[choice]++;
         }
     }
     size_t need = 0;
     for (size_t i = 0; i < list.n; i++) {
-        size_t choice = choice_by(set, counts, hash(table, record_of(&list, i)));
+        size_t choice = choice_by(set, counts, hash_of(table, record_of(&list, i)));
         need += (size_t)to_side(set, choosers, choice);
     }
     if (need > set->side_places) {
@@ -250,7 +228,7 @@ __attribute__((always_inline)) static inline uint32_t five_passes(choose *choice
     write_counts(set, at);
     const uint8_t *records = at->ledger + 2;
     for (size_t i = 0; i < list.n; i++) {
-        size_t choice = choice_by(set, counts, hash(table, records + RECORD * i));
+        size_t choice = choice_by(set, counts, hash_of(table, records + RECORD * i));
         if (!to_side(set, choosers, choice)) {
             put(set, at, choice, records + RECORD * i);
         }
@@ -258,7 +236,7 @@ __attribute__((always_inline)) static inline uint32_t five_passes(choose *choice
     memset(at->side, 0, at->side_length);
     size_t on_side = 0;
     for (size_t i = 0; i < list.n; i++) {
-        size_t choice = choice_by(set, counts, hash(table, records + RECORD * i));
+        size_t choice = choice_by(set, counts, hash_of(table, records + RECORD * i));
         if (to_side(set, choosers, choice)) {
             memcpy(at->side + 2 + RECORD * on_side++, records + RECORD * i, RECORD);
         }
@@ -291,13 +269,13 @@ uint32_t plain_update_kept(const struct settings *set, const uint64_t *table, st
     }
     const size_t m = (size_t)1 << set->p;
     uint8_t record[RECORD];
-    record_bytes(record, key, class);
+    put_record(record, key, class);
     list.record = record;
 
     uint16_t *counts = at->work, *choosers = at->work + m;
     memset(at->work, 0, 2 * m * sizeof at->work[0]);
     for (size_t i = 0; i < list.n; i++) {
-        hashes[i] = hash(table, record_of(&list, i));
+        hashes[i] = hash_of(table, record_of(&list, i));
         count(set, counts, hashes[i]);
     }
     for (size_t i = 0; i < list.n; i++) {
