@@ -2,8 +2,7 @@
 #include "plain.h"
 #include "plain_parts.h"
 
-uint32_t plain_hash_lent(const uint64_t *table, size_t table_length, const uint8_t *key, size_t key_length, uint64_t *h,
-                         size_t h_length)
+uint32_t plain_hash_lent(const uint64_t *table, size_t table_length, const uint8_t *key, size_t key_length, uint64_t *h, size_t h_length)
 {
     if (table_length != TABLE || h_length != 1) {
         return 2;
@@ -16,9 +15,8 @@ uint32_t plain_hash_lent(const uint64_t *table, size_t table_length, const uint8
 }
 
 uint64_t plain_search_lent(const uint64_t *table, size_t table_length, uint64_t p, uint64_t k, uint64_t room, uint64_t top,
-                           uint64_t capacity, uint64_t side_places, const uint8_t *clipped, size_t clipped_length,
-                           const uint8_t *buckets, size_t buckets_length, const uint8_t *side, size_t side_length,
-                           const uint8_t *key, size_t key_length)
+                           uint64_t capacity, uint64_t side_places, const uint8_t *clipped, size_t clipped_length, const uint8_t *buckets,
+                           size_t buckets_length, const uint8_t *side, size_t side_length, const uint8_t *key, size_t key_length)
 {
     uint32_t refused = judge_search(table_length, p, k, room, top, capacity, side_places, clipped_length, buckets_length, side_length);
     if (refused != 0) {

@@ -88,7 +88,7 @@ static size_t choice_by_branches(const struct settings *set, const uint16_t *cou
 static uint32_t judge(const struct settings *set, const struct areas *at, enum edit edit, const uint8_t *key, size_t key_length,
                       struct list *list)
 {
-    if (!in_range(set->p, set->k, set->room, set->top, set->capacity, set->side_places)) {
+    if (out_of_range(set->p, set->k, set->room, set->top, set->capacity, set->side_places)) {
         return 1;
     }
     const size_t m = (size_t)1 << set->p;
@@ -190,7 +190,7 @@ static void put(const struct settings *set, struct areas *at, size_t choice, con
 typedef size_t choose(const struct settings *set, const uint16_t *counts, uint64_t h);
 
 /* Five passes over the records, each with the hash of every key. Made once for each way to choose. */
-__attribute__((always_inline)) static inline uint32_t five_passes(choose *choice_by, const struct settings *set, const uint64_t *table,
+INLINED uint32_t five_passes(choose *choice_by, const struct settings *set, const uint64_t *table,
                                                                   struct areas *at, enum edit edit, const uint8_t *key,
                                                                   size_t key_length, uint32_t class)
 {
