@@ -11,16 +11,16 @@ struct list {
     enum edit edit;
 };
 
-static uint64_t big(const uint8_t *at) { return __builtin_bswap64(load(at)); }
+INLINED uint64_t big(const uint8_t *at) { return __builtin_bswap64(load(at)); }
 
 /* Key order: two loads of 8 bytes that overlap. */
-static int below(const uint8_t *a, const uint8_t *b)
+INLINED int below(const uint8_t *a, const uint8_t *b)
 {
     uint64_t x = big(a), y = big(b);
     return x != y ? x < y : big(a + 5) < big(b + 5);
 }
 
-static const uint8_t *record_of(const struct list *list, size_t i)
+INLINED const uint8_t *record_of(const struct list *list, size_t i)
 {
     if (i < list->at) {
         return list->records + RECORD * i;
@@ -32,7 +32,7 @@ static const uint8_t *record_of(const struct list *list, size_t i)
 }
 
 /* One more for each of the key's bucket numbers, repeats dropped. */
-static void count(const struct settings *set, uint16_t *counts, uint64_t h)
+INLINED void count(const struct settings *set, uint16_t *counts, uint64_t h)
 {
     const size_t mask = ((size_t)1 << set->p) - 1;
     size_t b[4];
@@ -47,7 +47,7 @@ static void count(const struct settings *set, uint16_t *counts, uint64_t h)
 }
 
 /* Of the key's numbers with the least count, the lowest; NOWHERE where all counts are T or more. Repeats do no harm. */
-static size_t choice_of(const struct settings *set, const uint16_t *counts, uint64_t h)
+INLINED size_t choice_of(const struct settings *set, const uint16_t *counts, uint64_t h)
 {
     const size_t mask = ((size_t)1 << set->p) - 1;
     uint32_t least = UINT32_MAX;
@@ -58,8 +58,8 @@ static size_t choice_of(const struct settings *set, const uint16_t *counts, uint
     return least >> 16 < set->top ? least & 0xffff : NOWHERE;
 }
 
-/* The same, as the doors have it: repeats dropped first, and a branch at each comparison. */
-static size_t choice_by_branches(const struct settings *set, const uint16_t *counts, uint64_t h)
+/* The same with branches: repeats dropped first, and a branch at each comparison. */
+INLINED size_t choice_by_branches(const struct settings *set, const uint16_t *counts, uint64_t h)
 {
     const size_t mask = ((size_t)1 << set->p) - 1;
     size_t own[4], n = 0, least = set->top, best = NOWHERE;
@@ -176,12 +176,12 @@ static void write_counts(const struct settings *set, struct areas *at)
     }
 }
 
-static int to_side(const struct settings *set, const uint16_t *choosers, size_t choice)
+INLINED int to_side(const struct settings *set, const uint16_t *choosers, size_t choice)
 {
     return choice == NOWHERE || choosers[choice] > set->room;
 }
 
-static void put(const struct settings *set, struct areas *at, size_t choice, const uint8_t *record)
+INLINED void put(const struct settings *set, struct areas *at, size_t choice, const uint8_t *record)
 {
     uint8_t *bucket = at->buckets + choice * (1 + RECORD * set->room);
     memcpy(bucket + 1 + RECORD * bucket[0]++, record, RECORD);
@@ -190,9 +190,8 @@ static void put(const struct settings *set, struct areas *at, size_t choice, con
 typedef size_t choose(const struct settings *set, const uint16_t *counts, uint64_t h);
 
 /* Five passes over the records, each with the hash of every key. Made once for each way to choose. */
-INLINED uint32_t five_passes(choose *choice_by, const struct settings *set, const uint64_t *table,
-                                                                  struct areas *at, enum edit edit, const uint8_t *key,
-                                                                  size_t key_length, uint32_t class)
+INLINED uint32_t five_passes(choose *choice_by, const struct settings *set, const uint64_t *table, struct areas *at, enum edit edit,
+                             const uint8_t *key, size_t key_length, uint32_t class)
 {
     struct list list;
     uint32_t answer = judge(set, at, edit, key, key_length, &list);
@@ -246,19 +245,21 @@ INLINED uint32_t five_passes(choose *choice_by, const struct settings *set, cons
 }
 
 uint32_t plain_update_branching(const struct settings *set, const uint64_t *table, struct areas *at, enum edit edit, const uint8_t *key,
-                         size_t key_length, uint32_t class)
+                                size_t key_length, uint32_t class)
 {
     return five_passes(choice_by_branches, set, table, at, edit, key, key_length, class);
 }
 
-uint32_t plain_update(const struct settings *set, const uint64_t *table, struct areas *at, enum edit edit, const uint8_t *key, size_t key_length,
-               uint32_t class)
+uint32_t plain_update_five(const struct settings *set, const uint64_t *table, struct areas *at, enum edit edit, const uint8_t *key,
+                           size_t key_length, uint32_t class)
 {
     return five_passes(choice_of, set, table, at, edit, key, key_length, class);
 }
 
-uint32_t plain_update_kept(const struct settings *set, const uint64_t *table, struct areas *at, enum edit edit, const uint8_t *key,
-                    size_t key_length, uint32_t class)
+/* The choices are kept until the areas are written, so only the first two passes need hashes: the second takes those of the first, or
+ * hashes each key again. */
+INLINED uint32_t choices_kept(int hashes_kept, const struct settings *set, const uint64_t *table, struct areas *at, enum edit edit,
+                              const uint8_t *key, size_t key_length, uint32_t class)
 {
     static uint64_t hashes[MOST_FLOWS];
     static uint16_t choices[MOST_FLOWS];
@@ -275,11 +276,15 @@ uint32_t plain_update_kept(const struct settings *set, const uint64_t *table, st
     uint16_t *counts = at->work, *choosers = at->work + m;
     memset(at->work, 0, 2 * m * sizeof at->work[0]);
     for (size_t i = 0; i < list.n; i++) {
-        hashes[i] = hash_of(table, record_of(&list, i));
-        count(set, counts, hashes[i]);
+        uint64_t h = hash_of(table, record_of(&list, i));
+        if (hashes_kept) {
+            hashes[i] = h;
+        }
+        count(set, counts, h);
     }
     for (size_t i = 0; i < list.n; i++) {
-        choices[i] = (uint16_t)choice_of(set, counts, hashes[i]);
+        uint64_t h = hashes_kept ? hashes[i] : hash_of(table, record_of(&list, i));
+        choices[i] = (uint16_t)choice_of(set, counts, h);
         if (choices[i] != NOWHERE) {
             choosers[choices[i]]++;
         }
@@ -306,4 +311,16 @@ uint32_t plain_update_kept(const struct settings *set, const uint64_t *table, st
     }
     at->side[1] = (uint8_t)on_side;
     return 0;
+}
+
+uint32_t plain_update_twice(const struct settings *set, const uint64_t *table, struct areas *at, enum edit edit, const uint8_t *key,
+                            size_t key_length, uint32_t class)
+{
+    return choices_kept(0, set, table, at, edit, key, key_length, class);
+}
+
+uint32_t plain_update_kept(const struct settings *set, const uint64_t *table, struct areas *at, enum edit edit, const uint8_t *key,
+                           size_t key_length, uint32_t class)
+{
+    return choices_kept(1, set, table, at, edit, key, key_length, class);
 }
