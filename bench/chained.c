@@ -1,10 +1,10 @@
 #include "others.h"
-#include <string.h>
+#include "plain_parts.h"
 
-enum { HEADS = 4096, MOST_FLOWS = 4096 };
+enum { HEADS = 4096 };
 
 struct node {
-    uint8_t key[13];
+    uint8_t key[KEY];
     uint32_t class;
     const struct node *next;
 };
@@ -12,33 +12,14 @@ struct node {
 static struct node nodes[MOST_FLOWS];
 static const struct node *heads[HEADS];
 
-static size_t head_of(const uint64_t *table, const uint8_t *key)
-{
-    uint64_t h = 0;
-    for (size_t a = 0; a < 13; a++) {
-        h ^= table[256 * a + key[a]];
-    }
-    return h % HEADS;
-}
-
-static uint64_t load(const uint8_t *at)
-{
-    uint64_t x;
-    memcpy(&x, at, 8);
-    return x;
-}
-
-static int same_key(const uint8_t *a, const uint8_t *b)
-{
-    return ((load(a) ^ load(b)) | (load(a + 5) ^ load(b + 5))) == 0;
-}
+static size_t head_of(const uint64_t *table, const uint8_t *key) { return hash_of(table, key) % HEADS; }
 
 void chained_build(const uint64_t *table, uint8_t keys[][13], const uint32_t *classes, size_t flows)
 {
     memset(heads, 0, sizeof heads);
     for (size_t i = 0; i < flows; i++) {
         size_t head = head_of(table, keys[i]);
-        memcpy(nodes[i].key, keys[i], 13);
+        memcpy(nodes[i].key, keys[i], KEY);
         nodes[i].class = classes[i];
         nodes[i].next = heads[head];
         heads[head] = &nodes[i];
@@ -52,7 +33,7 @@ uint64_t chained_search(const uint64_t *table, const uint8_t *key)
             return node->class;
         }
     }
-    return (uint64_t)100 << 32;
+    return answer(ABSENT, 0);
 }
 
 unsigned chained_reads(const uint64_t *table, const uint8_t *key)

@@ -1,8 +1,9 @@
-/* The tables that the doors are measured against. Each is built once for a size, and answers as a search does: class for a held key, 100
- * x 2^32 for an absent one. The reads of a lookup are counted by a second function, which is not timed. */
+/* The tables of others that the doors are measured against. Each is built once for a size, and answers as a search does: class for a held
+ * key, 100 x 2^32 for an absent one. The reads of a lookup are counted by a second function, which is not timed. */
 #ifndef OTHERS_H
 #define OTHERS_H
 
+#include "results.h"
 #include <stddef.h>
 #include <stdint.h>
 
@@ -16,12 +17,12 @@ void hashmap_build(const uint8_t *keys, const uint32_t *classes, size_t flows);
 uint64_t hashmap_search(const uint8_t *key);
 unsigned hashmap_reads(const uint8_t *key);
 
-/* DPDK's rte_hash with its own hash, single lookups. Reads are of slots whose key is compared; a lookup probes up to 2 buckets before. Not
- * there unless rte.c is compiled with DPDK. */
-int rte_there(void);
-int rte_start(void);
-int rte_build(uint8_t keys[][13], const uint32_t *classes, size_t flows);
-uint64_t rte_search(const uint8_t *key);
-unsigned rte_reads(const uint8_t *key);
+/* DPDK's rte_hash with its own hash: a single lookup, and one of up to 32 keys at once, with an answer for each. Reads are of slots whose
+ * key is compared; a lookup probes up to 2 buckets before. These are NULL where rte.c is compiled without DPDK. */
+int rte_start(void) WHERE_LINKED;
+int rte_build(uint8_t keys[][13], const uint32_t *classes, size_t flows) WHERE_LINKED;
+uint64_t rte_search(const uint8_t *key) WHERE_LINKED;
+uint32_t rte_search_bulk(const uint8_t *keys, size_t n, uint64_t *answers) WHERE_LINKED;
+unsigned rte_reads(const uint8_t *key) WHERE_LINKED;
 
 #endif

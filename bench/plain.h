@@ -1,4 +1,4 @@
-/* What the doors are measured against, in plain C. */
+/* The searches that the doors are measured against: C of the same algorithm on the same areas, with the same judgements. */
 #ifndef PLAIN_H
 #define PLAIN_H
 
@@ -6,13 +6,28 @@
 #include <stdint.h>
 
 /* As flow_hash_lent. */
-uint32_t plain_hash_lent(const uint64_t *table, size_t table_length, const uint8_t *key, size_t key_length, uint64_t *h,
-                         size_t h_length);
+typedef uint32_t hash_lent(const uint64_t *table, size_t table_length, const uint8_t *key, size_t key_length, uint64_t *h,
+                           size_t h_length);
 
-/* As flow_search_lent: the same judgements, the same algorithm. */
-uint64_t plain_search_lent(const uint64_t *table, size_t table_length, uint64_t p, uint64_t k, uint64_t room, uint64_t top,
-                           uint64_t capacity, uint64_t side_places, const uint8_t *clipped, size_t clipped_length,
-                           const uint8_t *buckets, size_t buckets_length, const uint8_t *side, size_t side_length,
-                           const uint8_t *key, size_t key_length);
+/* As flow_search_lent. */
+typedef uint64_t search_lent(const uint64_t *table, size_t table_length, uint64_t p, uint64_t k, uint64_t room, uint64_t top,
+                             uint64_t capacity, uint64_t side_places, const uint8_t *clipped, size_t clipped_length,
+                             const uint8_t *buckets, size_t buckets_length, const uint8_t *side, size_t side_length, const uint8_t *key,
+                             size_t key_length);
+
+/* As flow_search_burst: a key after the other in keys, the answer of each in answers. */
+typedef uint32_t search_burst(const uint64_t *table, size_t table_length, uint64_t p, uint64_t k, uint64_t room, uint64_t top,
+                              uint64_t capacity, uint64_t side_places, const uint8_t *clipped, size_t clipped_length,
+                              const uint8_t *buckets, size_t buckets_length, const uint8_t *side, size_t side_length, const uint8_t *keys,
+                              size_t keys_length, uint64_t *answers, size_t answers_length);
+
+/* plain.c. A bucket's records are compared up to the one with the key. */
+hash_lent plain_hash_lent;
+search_lent plain_search_lent;
+
+/* tuned.c. Every record of a bucket is compared, with no branch on what is equal. The bursts make three passes over their keys: hashes,
+ * counters, buckets; one of them asks for each bucket ahead, in the second pass. */
+search_lent tuned_search_lent;
+search_burst tuned_search_burst, tuned_search_burst_ahead;
 
 #endif

@@ -1,4 +1,4 @@
-/* rte_hash of DPDK, where bin/bench --dpdk compiles this with -DDPDK; else it is not there. */
+/* rte_hash of DPDK, where bin/bench --dpdk compiles this with -DDPDK; else nothing. */
 #include "others.h"
 
 #ifdef DPDK
@@ -8,6 +8,9 @@
 #include <rte_lcore.h>
 #include <string.h>
 
+enum { BULK = 32 };
+static const uint64_t ABSENT = (uint64_t)100 << 32;
+
 static struct rte_hash *hash, *counted;
 static unsigned compared;
 
@@ -16,8 +19,6 @@ static int counting_compare(const void *a, const void *b, size_t length)
     compared++;
     return memcmp(a, b, length);
 }
-
-int rte_there(void) { return 1; }
 
 int rte_start(void)
 {
@@ -60,10 +61,31 @@ int rte_build(uint8_t keys[][13], const uint32_t *classes, size_t flows)
     return 0;
 }
 
+/* Data on a hit, with no branch on it, as nothing foresees it. */
+static uint64_t answer(uint64_t hit, const void *data) { return ((uint64_t)(uintptr_t)data & -hit) | (ABSENT & ~-hit); }
+
 uint64_t rte_search(const uint8_t *key)
 {
-    void *data;
-    return rte_hash_lookup_data(hash, key, &data) < 0 ? (uint64_t)100 << 32 : (uint64_t)(uintptr_t)data;
+    void *data = NULL;
+    uint64_t hit = rte_hash_lookup_data(hash, key, &data) >= 0;
+    return answer(hit, data);
+}
+
+uint32_t rte_search_bulk(const uint8_t *keys, size_t n, uint64_t *answers)
+{
+    static void *data[BULK];
+    const void *pointers[BULK];
+    uint64_t hits = 0;
+    for (size_t i = 0; i < n; i++) {
+        pointers[i] = keys + 13 * i;
+    }
+    if (rte_hash_lookup_bulk_data(hash, pointers, (uint32_t)n, &hits, data) < 0) {
+        return 1;
+    }
+    for (size_t i = 0; i < n; i++) {
+        answers[i] = answer(hits >> i & 1, data[i]);
+    }
+    return 0;
 }
 
 unsigned rte_reads(const uint8_t *key)
@@ -72,29 +94,6 @@ unsigned rte_reads(const uint8_t *key)
     compared = 0;
     rte_hash_lookup_data(counted, key, &data);
     return compared;
-}
-
-#else
-
-int rte_there(void) { return 0; }
-int rte_start(void) { return 0; }
-
-int rte_build(uint8_t keys[][13], const uint32_t *classes, size_t flows)
-{
-    (void)keys, (void)classes, (void)flows;
-    return 1;
-}
-
-uint64_t rte_search(const uint8_t *key)
-{
-    (void)key;
-    return 0;
-}
-
-unsigned rte_reads(const uint8_t *key)
-{
-    (void)key;
-    return 0;
 }
 
 #endif

@@ -1,74 +1,212 @@
-/* Time of a search by the doors, by plain C of the same algorithm, by a chained hash table, by Rust's HashMap and, where it is linked, by
- * DPDK's rte_hash, in one run: rounds that alternate, over the same keys in an order that is random in each round, and the median round.
- * Beside the times, how many buckets or slots a lookup reads. */
+/* Time of a search by the doors, by C of the same algorithm and by the tables of others, in one run: rounds that alternate, over the same
+ * keys in an order that is random in each round, and the median round. Beside the times, how many buckets or slots a lookup reads. */
 #include "flow.h"
-#include "lay.h"
+#include "layout.h"
 #include "others.h"
 #include "plain.h"
+#include "results.h"
 #include "timing.h"
 #include <inttypes.h>
 #include <stdio.h>
-#include <stdlib.h>
 #include <string.h>
 
-enum { LOOKUPS = 8192, ROUNDS = 201, MOST_FLOWS = 4096, ABSENT = 100 };
+enum { LOOKUPS = 8192, ROUNDS = 401, MOST_FLOWS = 4096 };
+static const uint64_t ABSENT = (uint64_t)100 << 32;
 
-/* One flow for each bucket, or nearly so. */
-static const struct settings sizes[] = {
+/* One flow for each bucket, or nearly so; then fewer flows in as many buckets as the largest has. */
+static const struct settings shapes[] = {
     {256, 8, 3, 4, 15, 256, 64},
     {1000, 10, 3, 4, 15, 1024, 64},
     {4000, 12, 3, 4, 15, 4096, 64},
+    {256, 12, 3, 4, 15, 4096, 64},
+    {1000, 12, 3, 4, 15, 4096, 64},
 };
+enum { LARGEST = 2, SPARSE_256, SPARSE_1000, SHAPES };
+
+/* What is looked up: held keys, held and absent ones in random order, absent ones. */
+enum mix { HITS, HALF, MISSES, MIXES };
 
 static struct settings set;
 static struct lookup at;
 static uint64_t table[3328];
 static uint8_t held[MOST_FLOWS][13], absent[MOST_FLOWS][13];
 static uint32_t classes[MOST_FLOWS];
+
+/* The keys of a round, and what each contestant has to answer. */
 static uint8_t order[LOOKUPS][13];
+static uint64_t wanted[LOOKUPS];
+
+/* The C by each compiler that is there: bin/bench adds the compiler's name. The doors of the library that bin/bench --before names. */
+search_lent plain_search_lent_by_gcc WHERE_LINKED, plain_search_lent_by_clang WHERE_LINKED;
+search_lent tuned_search_lent_by_gcc WHERE_LINKED, tuned_search_lent_by_clang WHERE_LINKED;
+search_burst tuned_search_burst_by_gcc WHERE_LINKED, tuned_search_burst_by_clang WHERE_LINKED;
+search_burst tuned_search_burst_ahead_by_gcc WHERE_LINKED, tuned_search_burst_ahead_by_clang WHERE_LINKED;
+search_lent before_flow_search_lent WHERE_LINKED;
+__typeof__(flow_search) before_flow_search WHERE_LINKED;
+
+/* Until include/flow.h declares it. */
+search_burst flow_search_burst WHERE_LINKED;
 
 /* Every way to look a key up: answer x 2^32 + class. */
-static uint64_t lent(const uint8_t *key)
-{
-    return flow_search_lent(table, 3328, set.p, set.k, set.room, set.top, set.capacity, set.side_places, at.clipped, at.clipped_length,
-                            at.buckets, at.buckets_length, at.side, at.side_length, key, 13);
-}
-static uint64_t plain(const uint8_t *key)
-{
-    return plain_search_lent(table, 3328, set.p, set.k, set.room, set.top, set.capacity, set.side_places, at.clipped, at.clipped_length,
-                             at.buckets, at.buckets_length, at.side, at.side_length, key, 13);
-}
-static uint64_t whole(const uint8_t *key)
-{
-    return flow_search(set.p, set.k, set.room, set.top, set.capacity, set.side_places, at.clipped, at.clipped_length, at.buckets,
-                       at.buckets_length, at.side, at.side_length, key, 13);
-}
+#define AREAS                                                                                                                            \
+    set.p, set.k, set.room, set.top, set.capacity, set.side_places, at.clipped, at.clipped_length, at.buckets, at.buckets_length,        \
+        at.side, at.side_length
+static uint64_t lent(const uint8_t *key) { return flow_search_lent(table, 3328, AREAS, key, 13); }
+static uint64_t no_table(const uint8_t *key) { return flow_search(AREAS, key, 13); }
+static uint64_t before_lent(const uint8_t *key) { return before_flow_search_lent(table, 3328, AREAS, key, 13); }
+static uint64_t before_no_table(const uint8_t *key) { return before_flow_search(AREAS, key, 13); }
+static uint64_t plain_gcc(const uint8_t *key) { return plain_search_lent_by_gcc(table, 3328, AREAS, key, 13); }
+static uint64_t plain_clang(const uint8_t *key) { return plain_search_lent_by_clang(table, 3328, AREAS, key, 13); }
+static uint64_t tuned_gcc(const uint8_t *key) { return tuned_search_lent_by_gcc(table, 3328, AREAS, key, 13); }
+static uint64_t tuned_clang(const uint8_t *key) { return tuned_search_lent_by_clang(table, 3328, AREAS, key, 13); }
 static uint64_t chained(const uint8_t *key) { return chained_search(table, key); }
 static uint64_t hashmap(const uint8_t *key) { return hashmap_search(key); }
 static uint64_t rte(const uint8_t *key) { return rte_search(key); }
 
-/* One round: nanoseconds a lookup; the answers are added to *sum. Written out for each way, so that each is called directly. */
-#define ROUND(name, way)                                                                                                                   \
-    static double name(uint64_t *sum)                                                                                                      \
-    {                                                                                                                                      \
-        uint64_t x = 0;                                                                                                                    \
-        double before = now();                                                                                                             \
-        for (int i = 0; i < LOOKUPS; i++) {                                                                                                \
-            x += way(order[i]);                                                                                                            \
-        }                                                                                                                                  \
-        *sum += x;                                                                                                                         \
-        return (now() - before) / LOOKUPS;                                                                                                 \
+/* Every way to look n keys up at once: 0, and the answer of each in answers. */
+static uint32_t burst(const uint8_t *keys, size_t n, uint64_t *answers)
+{
+    return flow_search_burst(table, 3328, AREAS, keys, 13 * n, answers, n);
+}
+static uint32_t passes_gcc(const uint8_t *keys, size_t n, uint64_t *answers)
+{
+    return tuned_search_burst_by_gcc(table, 3328, AREAS, keys, 13 * n, answers, n);
+}
+static uint32_t passes_clang(const uint8_t *keys, size_t n, uint64_t *answers)
+{
+    return tuned_search_burst_by_clang(table, 3328, AREAS, keys, 13 * n, answers, n);
+}
+static uint32_t ahead_gcc(const uint8_t *keys, size_t n, uint64_t *answers)
+{
+    return tuned_search_burst_ahead_by_gcc(table, 3328, AREAS, keys, 13 * n, answers, n);
+}
+static uint32_t ahead_clang(const uint8_t *keys, size_t n, uint64_t *answers)
+{
+    return tuned_search_burst_ahead_by_clang(table, 3328, AREAS, keys, 13 * n, answers, n);
+}
+static uint32_t bulk(const uint8_t *keys, size_t n, uint64_t *answers) { return rte_search_bulk(keys, n, answers); }
+
+/* For each way a function that gives the answers of n keys, and one that measures a round: nanoseconds a lookup; the answers are added to
+ * *sum, with no branch on what they are. Written out for each way, so that each is called directly. */
+#define SINGLE(way)                                                                                                                      \
+    static void all_##way(uint8_t keys[][13], size_t n, uint64_t *answers)                                                               \
+    {                                                                                                                                    \
+        for (size_t i = 0; i < n; i++) {                                                                                                 \
+            answers[i] = way(keys[i]);                                                                                                   \
+        }                                                                                                                                \
+    }                                                                                                                                    \
+    static double round_##way(uint64_t *sum)                                                                                             \
+    {                                                                                                                                    \
+        uint64_t x = 0;                                                                                                                  \
+        double before = now();                                                                                                           \
+        for (int i = 0; i < LOOKUPS; i++) {                                                                                              \
+            x += way(order[i]);                                                                                                          \
+        }                                                                                                                                \
+        *sum += x;                                                                                                                       \
+        return (now() - before) / LOOKUPS;                                                                                               \
+    }                                                                                                                                    \
+    /* The same with a caller that branches on each answer; the empty line of assembly keeps it a branch. */                             \
+    static double branching_##way(uint64_t *sum)                                                                                         \
+    {                                                                                                                                    \
+        uint64_t x = 0;                                                                                                                  \
+        double before = now();                                                                                                           \
+        for (int i = 0; i < LOOKUPS; i++) {                                                                                              \
+            uint64_t answer = way(order[i]);                                                                                             \
+            if (answer >> 32) {                                                                                                          \
+                __asm__ volatile("");                                                                                                    \
+                x += ABSENT;                                                                                                             \
+            } else {                                                                                                                     \
+                x += answer;                                                                                                             \
+            }                                                                                                                            \
+        }                                                                                                                                \
+        *sum += x;                                                                                                                       \
+        return (now() - before) / LOOKUPS;                                                                                               \
     }
 
-ROUND(round_lent, lent)
-ROUND(round_plain, plain)
-ROUND(round_whole, whole)
-ROUND(round_chained, chained)
-ROUND(round_hashmap, hashmap)
-ROUND(round_rte, rte)
+/* The same for a way that takes keys in bursts; a refusal makes the sum wrong. */
+#define BURST(way, size)                                                                                                                 \
+    static void all_##way##_##size(uint8_t keys[][13], size_t n, uint64_t *answers)                                                      \
+    {                                                                                                                                    \
+        for (size_t i = 0; i < n; i += size) {                                                                                           \
+            way(keys[i], n - i < size ? n - i : size, answers + i);                                                                      \
+        }                                                                                                                                \
+    }                                                                                                                                    \
+    static double round_##way##_##size(uint64_t *sum)                                                                                    \
+    {                                                                                                                                    \
+        uint64_t x = 0, answers[size];                                                                                                   \
+        double before = now();                                                                                                           \
+        for (int i = 0; i < LOOKUPS; i += size) {                                                                                        \
+            x += way(order[i], size, answers);                                                                                           \
+            for (int j = 0; j < size; j++) {                                                                                             \
+                x += answers[j];                                                                                                         \
+            }                                                                                                                            \
+        }                                                                                                                                \
+        *sum += x;                                                                                                                       \
+        return (now() - before) / LOOKUPS;                                                                                               \
+    }
+
+SINGLE(lent)
+SINGLE(no_table)
+SINGLE(before_lent)
+SINGLE(before_no_table)
+SINGLE(plain_gcc)
+SINGLE(plain_clang)
+SINGLE(tuned_gcc)
+SINGLE(tuned_clang)
+SINGLE(chained)
+SINGLE(hashmap)
+SINGLE(rte)
+BURST(burst, 1)
+BURST(burst, 4)
+BURST(burst, 32)
+BURST(burst, 256)
+BURST(passes_gcc, 32)
+BURST(passes_clang, 32)
+BURST(ahead_gcc, 32)
+BURST(ahead_clang, 32)
+BURST(bulk, 32)
+
+/* clang-format off */
+enum {
+    LENT, NO_TABLE, BEFORE_LENT, BEFORE_NO_TABLE, PLAIN_GCC, PLAIN_CLANG, TUNED_GCC, TUNED_CLANG, CHAINED, HASHMAP, RTE, SINGLES,
+    BURST_1 = SINGLES, BURST_4, BURST_32, BURST_256, PASSES_GCC, PASSES_CLANG, AHEAD_GCC, AHEAD_CLANG, BULK, CONTESTANTS
+};
+#define OF_SINGLE(way) all_##way, round_##way, branching_##way
+#define OF_BURST(way) all_##way, round_##way, NULL
+static const struct {
+    const char *name;
+    function *there;
+    void (*all)(uint8_t keys[][13], size_t n, uint64_t *answers);
+    double (*round)(uint64_t *sum), (*branching)(uint64_t *sum);
+} contestants[] = {
+    [LENT] = {"flow_search_lent", (function *)flow_search_lent, OF_SINGLE(lent)},
+    [NO_TABLE] = {"flow_search (no table)", (function *)flow_search, OF_SINGLE(no_table)},
+    [BEFORE_LENT] = {"before: flow_search_lent", (function *)before_flow_search_lent, OF_SINGLE(before_lent)},
+    [BEFORE_NO_TABLE] = {"before: flow_search (no table)", (function *)before_flow_search, OF_SINGLE(before_no_table)},
+    [PLAIN_GCC] = {"plain C by gcc", (function *)plain_search_lent_by_gcc, OF_SINGLE(plain_gcc)},
+    [PLAIN_CLANG] = {"plain C by clang", (function *)plain_search_lent_by_clang, OF_SINGLE(plain_clang)},
+    [TUNED_GCC] = {"tuned C by gcc", (function *)tuned_search_lent_by_gcc, OF_SINGLE(tuned_gcc)},
+    [TUNED_CLANG] = {"tuned C by clang", (function *)tuned_search_lent_by_clang, OF_SINGLE(tuned_clang)},
+    [CHAINED] = {"chained table, C by gcc", (function *)chained_search, OF_SINGLE(chained)},
+    [HASHMAP] = {"std HashMap, Rust", (function *)hashmap_search, OF_SINGLE(hashmap)},
+    [RTE] = {"rte_hash, DPDK", (function *)rte_search, OF_SINGLE(rte)},
+    [BURST_1] = {"flow_search_burst of 1", (function *)flow_search_burst, OF_BURST(burst_1)},
+    [BURST_4] = {"flow_search_burst of 4", (function *)flow_search_burst, OF_BURST(burst_4)},
+    [BURST_32] = {"flow_search_burst of 32", (function *)flow_search_burst, OF_BURST(burst_32)},
+    [BURST_256] = {"flow_search_burst of 256", (function *)flow_search_burst, OF_BURST(burst_256)},
+    [PASSES_GCC] = {"C burst of 32 by gcc", (function *)tuned_search_burst_by_gcc, OF_BURST(passes_gcc_32)},
+    [PASSES_CLANG] = {"C burst of 32 by clang", (function *)tuned_search_burst_by_clang, OF_BURST(passes_clang_32)},
+    [AHEAD_GCC] = {"C burst of 32 by gcc, with prefetch", (function *)tuned_search_burst_ahead_by_gcc, OF_BURST(ahead_gcc_32)},
+    [AHEAD_CLANG] = {"C burst of 32 by clang, with prefetch", (function *)tuned_search_burst_ahead_by_clang, OF_BURST(ahead_clang_32)},
+    [BULK] = {"rte_hash, DPDK, bulk of 32", (function *)rte_search_bulk, OF_BURST(bulk_32)},
+};
+/* clang-format on */
+
+/* What was measured: the bursts at the largest shape alone. */
+static struct column columns[SHAPES][MIXES], branching[MIXES];
 
 /* The buckets that a search of the pruned table reads: by its counters alone, 0 or 1. */
-static unsigned bucket_reads(const uint8_t *key)
+static unsigned pruned_reads(const uint8_t *key)
 {
     uint64_t h;
     flow_hash_lent(table, 3328, key, 13, &h, 1);
@@ -85,27 +223,31 @@ static unsigned chained_reads_of(const uint8_t *key) { return chained_reads(tabl
 
 static const struct {
     const char *name;
-    uint64_t (*way)(const uint8_t *);
-    double (*round)(uint64_t *);
-    unsigned (*reads)(const uint8_t *);
-} ways[] = {
-    {"flow_search_lent", lent, round_lent, bucket_reads},
-    {"plain C, the same", plain, round_plain, bucket_reads},
-    {"flow_search (no table)", whole, round_whole, bucket_reads},
-    {"chained table, C", chained, round_chained, chained_reads_of},
-    {"std HashMap, Rust", hashmap, round_hashmap, hashmap_reads},
-    {"rte_hash, DPDK", rte, round_rte, rte_reads},
+    unsigned (*reads)(const uint8_t *key);
+} readers[] = {
+    {"the pruned table, by doors and C", pruned_reads},
+    {"chained table", chained_reads_of},
+    {"std HashMap", hashmap_reads},
+    {"rte_hash", rte_reads},
 };
-enum { WAYS = sizeof ways / sizeof ways[0], PLAIN = 1, SIZES = sizeof sizes / sizeof sizes[0], COLUMNS = 2 * SIZES };
-
-/* What was measured: hits and misses of each size. */
+enum { READERS = sizeof readers / sizeof readers[0] };
 static struct {
-    double ns, to_plain, mean_reads;
-    unsigned most_reads;
-} results[WAYS][COLUMNS];
+    unsigned most;
+    double mean;
+} reads[READERS][SHAPES][MIXES];
 
-/* rte_hash, the last, takes part where it is linked. */
-static int contestants(void) { return rte_there() ? WAYS : WAYS - 1; }
+static void count_reads(int shape, enum mix mix, uint8_t keys[][13])
+{
+    for (int r = 0; r < READERS; r++) {
+        uint64_t sum = 0;
+        for (uint64_t i = 0; i < set.flows && readers[r].reads != NULL; i++) {
+            unsigned n = readers[r].reads(keys[i]);
+            reads[r][shape][mix].most = n > reads[r][shape][mix].most ? n : reads[r][shape][mix].most;
+            sum += n;
+        }
+        reads[r][shape][mix].mean = (double)sum / (double)set.flows;
+    }
+}
 
 static void random_key(uint8_t *key)
 {
@@ -114,111 +256,225 @@ static void random_key(uint8_t *key)
     }
 }
 
-/* Lookups over one kind of key: a column of the results. */
-static int measure(int column, uint8_t keys[][13])
+/* The keys of a round. The sum of what they have to answer. */
+static uint64_t draw(enum mix mix)
 {
-    static double times[WAYS][ROUNDS], ratios[WAYS][ROUNDS];
-    uint64_t sums[WAYS] = {0};
-    for (int round = 0; round < ROUNDS; round++) {
-        for (int i = 0; i < LOOKUPS; i++) {
-            memcpy(order[i], keys[random_number() % set.flows], 13);
-        }
-        for (int w = 0; w < contestants(); w++) {
-            times[w][round] = ways[w].round(&sums[w]);
-        }
-        for (int w = 0; w < contestants(); w++) {
-            ratios[w][round] = times[w][round] / times[PLAIN][round];
-        }
+    uint64_t sum = 0;
+    for (int i = 0; i < LOOKUPS; i++) {
+        uint64_t x = random_number(), flow = x % set.flows;
+        int hit = mix == HITS || (mix == HALF && x >> 63);
+        memcpy(order[i], hit ? held[flow] : absent[flow], 13);
+        sum += wanted[i] = hit ? classes[flow] : ABSENT;
     }
-    for (int w = 0; w < contestants(); w++) {
-        unsigned most = 0;
-        uint64_t sum = 0;
-        if (sums[w] != sums[0]) {
-            printf("%s: the answers differ\n", ways[w].name);
+    return sum;
+}
+
+/* Every contestant gives these answers, in its bursts where it has some. */
+static int check(uint8_t keys[][13], size_t n, const uint64_t *right)
+{
+    static uint64_t answers[LOOKUPS];
+    for (int c = 0; c < CONTESTANTS; c++) {
+        if (contestants[c].there == NULL) {
+            continue;
+        }
+        memset(answers, 255, sizeof answers);
+        contestants[c].all(keys, n, answers);
+        if (memcmp(answers, right, n * sizeof answers[0]) != 0) {
+            printf("%s, %" PRIu64 " flows: a wrong answer\n", contestants[c].name, set.flows);
             return 1;
         }
-        for (uint64_t i = 0; i < set.flows; i++) {
-            unsigned reads = ways[w].reads(keys[i]);
-            most = reads > most ? reads : most;
-            sum += reads;
-        }
-        results[w][column].ns = median(times[w], ROUNDS);
-        results[w][column].to_plain = median(ratios[w], ROUNDS);
-        results[w][column].most_reads = most;
-        results[w][column].mean_reads = (double)sum / (double)set.flows;
     }
     return 0;
 }
 
-/* One table: a row for each contestant, a column for hits and one for misses of each size. */
-static void table_of(const char *what, void (*cell)(int way, int column))
+/* Three columns, a mix each: the rounds of those that take part. */
+static int measure(struct column *of, int branch, int most)
 {
-    printf("\n| %s |", what);
-    for (size_t i = 0; i < SIZES; i++) {
-        printf(" %" PRIu64 " flows, hits | misses |", sizes[i].flows);
-    }
-    printf("\n|---|");
-    for (int column = 0; column < COLUMNS; column++) {
-        printf("---|");
-    }
-    for (int w = 0; w < contestants(); w++) {
-        printf("\n| %s |", ways[w].name);
-        for (int column = 0; column < COLUMNS; column++) {
-            cell(w, column);
+    uint64_t sums[CONTESTANTS] = {0}, sum = 0;
+    int turns[CONTESTANTS], count = 0;
+    for (int c = 0; c < most; c++) {
+        if (contestants[c].there != NULL) {
+            turns[count++] = c;
         }
     }
-    printf("\n");
-}
-
-static void ns_cell(int way, int column) { printf(" %.1f |", results[way][column].ns); }
-static void ratio_cell(int way, int column) { printf(" %.2f |", results[way][column].to_plain); }
-static void reads_cell(int way, int column)
-{
-    printf(" %u, %.2f |", results[way][column].most_reads, results[way][column].mean_reads);
+    for (int round = 0; round < ROUNDS; round++) {
+        for (int mix = 0; mix < MIXES; mix++) {
+            sum += draw((enum mix)mix);
+            if (round == 0 && check(order, LOOKUPS, wanted) != 0) {
+                return 1;
+            }
+            shuffle(turns, count);
+            for (int i = 0; i < count; i++) {
+                int c = turns[i];
+                of[mix].times[c][round] = (branch ? contestants[c].branching : contestants[c].round)(&sums[c]);
+            }
+        }
+    }
+    for (int mix = 0; mix < MIXES; mix++) {
+        of[mix].rounds = ROUNDS;
+    }
+    for (int i = 0; i < count; i++) {
+        if (sums[turns[i]] != sum) {
+            printf("%s: the answers differ\n", contestants[turns[i]].name);
+            return 1;
+        }
+    }
+    return 0;
 }
 
 /* A table of so many random flows in every contestant; each held key is found with its class, and each absent one is not. */
 static int build(void)
 {
+    static uint64_t found[MOST_FLOWS], not_found[MOST_FLOWS];
     for (uint64_t i = 0; i < set.flows; i++) {
         random_key(held[i]);
         random_key(absent[i]);
         classes[i] = (uint32_t)random_number();
     }
-    if (lay(&set, table, held, classes, &at) != 0) {
+    if (lay_out(&set, table, held, classes, &at) != 0) {
         printf("%" PRIu64 " flows: no layout\n", set.flows);
         return 1;
     }
+    for (uint64_t i = 0; i < set.flows; i++) {
+        found[i] = classes[i];
+        not_found[i] = ABSENT;
+    }
     chained_build(table, held, classes, set.flows);
     hashmap_build(&held[0][0], classes, set.flows);
-    if (rte_there() && rte_build(held, classes, set.flows) != 0) {
+    if (rte_build != NULL && rte_build(held, classes, set.flows) != 0) {
         printf("rte_hash: not built\n");
         return 1;
     }
-    for (int w = 0; w < contestants(); w++) {
-        for (uint64_t i = 0; i < set.flows; i++) {
-            if (ways[w].way(held[i]) != classes[i] || ways[w].way(absent[i]) != (uint64_t)ABSENT << 32) {
-                printf("%s, flow %" PRIu64 ": wrong answer\n", ways[w].name, i);
-                return 1;
-            }
-        }
-    }
-    return 0;
+    return check(held, set.flows, found) != 0 || check(absent, set.flows, not_found) != 0;
 }
 
-int main(void)
+/* A cell: hits / half / misses. */
+static void print_times(const struct column *of, int contestant)
 {
-    if (flow_hash_table(table, 3328) != 0 || rte_start() != 0) {
+    printf(" %.1f / %.1f / %.1f |", time_of(&of[HITS], contestant), time_of(&of[HALF], contestant), time_of(&of[MISSES], contestant));
+}
+static void print_ratios(const struct column *of, int contestant, int other)
+{
+    printf(" %.2f / %.2f / %.2f |", ratio_of(&of[HITS], contestant, other), ratio_of(&of[HALF], contestant, other),
+           ratio_of(&of[MISSES], contestant, other));
+}
+
+static void print_shapes(const char *what)
+{
+    printf("\n| %s |", what);
+    for (int shape = 0; shape < SHAPES; shape++) {
+        printf(" %" PRIu64 " flows, p %" PRIu64 " |", shapes[shape].flows, shapes[shape].p);
+    }
+    printf("\n|---|---|---|---|---|---|\n");
+}
+
+static void print_tables(void)
+{
+    print_shapes("ns a search: hits / half / misses");
+    for (int c = 0; c < SINGLES; c++) {
+        if (contestants[c].there != NULL) {
+            printf("| %s |", contestants[c].name);
+            for (int shape = 0; shape < SHAPES; shape++) {
+                print_times(columns[shape], c);
+            }
+            printf("\n");
+        }
+    }
+    print_shapes("flow_search_lent's time to that of");
+    for (int c = LENT + 1; c < SINGLES; c++) {
+        if (contestants[c].there != NULL) {
+            printf("| %s |", contestants[c].name);
+            for (int shape = 0; shape < SHAPES; shape++) {
+                print_ratios(columns[shape], LENT, c);
+            }
+            printf("\n");
+        }
+    }
+    printf("\n| 4000 flows, p 12, the caller branches on each answer | ns a search: hits / half / misses | flow_search_lent's time to it "
+           "|\n");
+    printf("|---|---|---|\n");
+    for (int c = 0; c < SINGLES; c++) {
+        if (contestants[c].there != NULL) {
+            printf("| %s |", contestants[c].name);
+            print_times(branching, c);
+            print_ratios(branching, LENT, c);
+            printf("\n");
+        }
+    }
+
+    /* the bursts beside what searches key by key */
+    int clang = contestants[TUNED_CLANG].there != NULL,
+        bases[] = {clang ? TUNED_CLANG : TUNED_GCC, clang ? PASSES_CLANG : PASSES_GCC, BULK};
+    printf("\n| 4000 flows, p 12 | ns a key: hits / half / misses |");
+    for (int i = 0; i < 3; i++) {
+        if (contestants[bases[i]].there != NULL) {
+            printf(" to %s |", contestants[bases[i]].name);
+        }
+    }
+    printf("\n|---|---|---|---|%s\n", contestants[BULK].there != NULL ? "---|" : "");
+    for (int c = 0; c < CONTESTANTS; c++) {
+        if (contestants[c].there == NULL || (c < SINGLES && c != LENT && c != TUNED_GCC && c != TUNED_CLANG && c != RTE)) {
+            continue;
+        }
+        printf("| %s |", contestants[c].name);
+        print_times(columns[LARGEST], c);
+        for (int i = 0; i < 3; i++) {
+            if (contestants[bases[i]].there != NULL) {
+                print_ratios(columns[LARGEST], c, bases[i]);
+            }
+        }
+        printf("\n");
+    }
+
+    print_shapes("reads, most and mean: hits / misses");
+    for (int r = 0; r < READERS; r++) {
+        if (readers[r].reads != NULL) {
+            printf("| %s |", readers[r].name);
+            for (int shape = 0; shape < SHAPES; shape++) {
+                printf(" %u, %.2f / %u, %.2f |", reads[r][shape][HITS].most, reads[r][shape][HITS].mean, reads[r][shape][MISSES].most,
+                       reads[r][shape][MISSES].mean);
+            }
+            printf("\n");
+        }
+    }
+}
+
+static void print_aims(FILE *to)
+{
+    const struct aim aims[] = {
+        {"flow_search_lent to tuned C by clang, 4,000 flows", LENT, TUNED_CLANG, columns[LARGEST], 3, {1.15, 1.15, 1.15}},
+        {"flow_search_lent to rte_hash, 4,000 flows", LENT, RTE, columns[LARGEST], 3, {0.90, 1.00, 1.15}},
+        {"flow_search_lent to before, 256 flows in p 12, hits", LENT, BEFORE_LENT, columns[SPARSE_256], 1, {1.00}},
+        {"flow_search_lent to before, 1,000 flows in p 12, hits", LENT, BEFORE_LENT, columns[SPARSE_1000], 1, {1.00}},
+        {"flow_search (no table) to before, 4,000 flows", NO_TABLE, BEFORE_NO_TABLE, columns[LARGEST], 3, {1.00, 1.00, 1.00}},
+        {"flow_search_burst of 32 to tuned C by clang, 4,000 flows", BURST_32, TUNED_CLANG, columns[LARGEST], 3, {0.80, 0.80, 0.80}},
+        {"flow_search_burst of 32 to C burst by clang, 4,000 flows", BURST_32, PASSES_CLANG, columns[LARGEST], 3, {1.15, 1.15, 1.15}},
+        {"flow_search_burst of 32 to rte_hash in bulk, 4,000 flows", BURST_32, BULK, columns[LARGEST], 3, {1.10, 0.70, 1.50}},
+    };
+    for (size_t i = 0; i < sizeof aims / sizeof aims[0]; i++) {
+        print_aim(to, &aims[i], contestants[aims[i].contestant].there != NULL && contestants[aims[i].other].there != NULL);
+    }
+}
+
+int main(int words, char **word)
+{
+    FILE *aims = open_aims(words, word);
+    if (aims == NULL || flow_hash_table(table, 3328) != 0 || (rte_start != NULL && rte_start() != 0)) {
         return 1;
     }
-    for (size_t i = 0; i < SIZES; i++) {
-        set = sizes[i];
-        if (build() != 0 || measure(2 * (int)i, held) != 0 || measure(2 * (int)i + 1, absent) != 0) {
+    for (int shape = 0; shape < SHAPES; shape++) {
+        set = shapes[shape];
+        if (build() != 0) {
+            return 1;
+        }
+        count_reads(shape, HITS, held);
+        count_reads(shape, MISSES, absent);
+        if (measure(columns[shape], 0, shape == LARGEST ? CONTESTANTS : SINGLES) != 0 ||
+            (shape == LARGEST && measure(branching, 1, SINGLES) != 0)) {
             return 1;
         }
     }
-    table_of("ns a search", ns_cell);
-    table_of("to plain C", ratio_cell);
-    table_of("reads: most, mean", reads_cell);
-    return 0;
+    print_tables();
+    print_aims(aims);
+    return fclose(aims) != 0;
 }

@@ -1,64 +1,85 @@
-/* Time of an add and a remove by the doors and by plain C that lays out every area as they do, in one run: rounds that alternate, over the
- * same keys, and the median round. The areas of all are compared after every round, once with a flow more and once without. */
+/* Time of an add and a remove by the doors and by plain C that lays out every area as they do, in one run: rounds that alternate, over
+ * the same keys, and the median round. The areas of all are compared after every round, once with a flow more and once without. */
 #include "flow.h"
-#include "relay.h"
+#include "plain_update.h"
+#include "results.h"
 #include "timing.h"
 #include <stdio.h>
 #include <stdlib.h>
 #include <string.h>
 
-enum { PAIRS = 8, ROUNDS = 61, RECORD = 17, MOST_FLOWS = 4096 };
+enum { PAIRS = 8, ROUNDS = 101, RECORD = 17, MOST_FLOWS = 4096 };
 
 /* The flows vary, the settings stay. */
 static const uint64_t sizes[] = {250, 500, 1000, 2000, 4000};
-enum { SIZES = sizeof sizes / sizeof sizes[0] };
+enum { AT_1000 = 2, AT_4000 = 4, SIZES = sizeof sizes / sizeof sizes[0] };
 
 static struct settings set = {0, 12, 3, 4, 15, 4096, 64};
 static uint64_t table[3328];
 static uint8_t keys[PAIRS][13];
 
-/* Every way to make a call, on areas of its own. */
-enum { DOORS, SAME, NO_BRANCHES, KEPT, WAYS };
-static const char *const names[WAYS] = {
-    "flow_add, flow_remove",
-    "plain C, the same",
-    "plain C, choice without branches",
-    "plain C, hashes kept",
-};
-static struct areas areas[WAYS];
+/* The C by each compiler that is there: bin/bench adds the compiler's name. The doors of the library that bin/bench --before names. */
+update plain_update_branching_by_gcc WHERE_LINKED, plain_update_branching_by_clang WHERE_LINKED;
+update plain_update_five_by_gcc WHERE_LINKED, plain_update_five_by_clang WHERE_LINKED;
+update plain_update_twice_by_gcc WHERE_LINKED, plain_update_twice_by_clang WHERE_LINKED;
+update plain_update_kept_by_gcc WHERE_LINKED, plain_update_kept_by_clang WHERE_LINKED;
+__typeof__(flow_add) before_flow_add WHERE_LINKED;
+__typeof__(flow_remove) before_flow_remove WHERE_LINKED;
+__typeof__(flow_area_lengths) before_flow_area_lengths WHERE_LINKED;
 
-static uint32_t call(int way, enum edit edit, const uint8_t *key)
-{
-    struct areas *at = &areas[way];
-    const uint32_t class = 7;
-    if (way == SAME) {
-        return relay_branching(&set, table, at, edit, key, 13, class);
+/* The doors as the C is called; they make their hash table themselves. */
+#define DOORS(name, add, remove)                                                                                                         \
+    static uint32_t name(const struct settings *s, const uint64_t *no_table, struct areas *at, enum edit edit, const uint8_t *key,       \
+                         size_t key_length, uint32_t class)                                                                              \
+    {                                                                                                                                    \
+        (void)no_table;                                                                                                                  \
+        return edit == ADD ? add(s->p, s->k, s->room, s->top, s->capacity, s->side_places, at->ledger, at->ledger_length,                \
+                                 at->true_counts, at->true_counts_length, at->clipped, at->clipped_length, at->buckets,                  \
+                                 at->buckets_length, at->side, at->side_length, at->work, at->work_length, key, key_length, class)       \
+                           : remove(s->p, s->k, s->room, s->top, s->capacity, s->side_places, at->ledger, at->ledger_length,             \
+                                    at->true_counts, at->true_counts_length, at->clipped, at->clipped_length, at->buckets,               \
+                                    at->buckets_length, at->side, at->side_length, at->work, at->work_length, key, key_length);          \
     }
-    if (way == NO_BRANCHES) {
-        return relay(&set, table, at, edit, key, 13, class);
-    }
-    if (way == KEPT) {
-        return relay_kept(&set, table, at, edit, key, 13, class);
-    }
-    if (edit == ADD) {
-        return flow_add(set.p, set.k, set.room, set.top, set.capacity, set.side_places, at->ledger, at->ledger_length, at->true_counts,
-                        at->true_counts_length, at->clipped, at->clipped_length, at->buckets, at->buckets_length, at->side,
-                        at->side_length, at->work, at->work_length, key, 13, class);
-    }
-    return flow_remove(set.p, set.k, set.room, set.top, set.capacity, set.side_places, at->ledger, at->ledger_length, at->true_counts,
-                       at->true_counts_length, at->clipped, at->clipped_length, at->buckets, at->buckets_length, at->side,
-                       at->side_length, at->work, at->work_length, key, 13);
-}
+DOORS(doors, flow_add, flow_remove)
+DOORS(before, before_flow_add, before_flow_remove)
+
+/* Every way to make a call, on areas of its own. */
+/* clang-format off */
+enum {
+    NOW, BEFORE, BRANCHING_GCC, BRANCHING_CLANG, FIVE_GCC, FIVE_CLANG, TWICE_GCC, TWICE_CLANG, KEPT_GCC, KEPT_CLANG, CONTESTANTS
+};
+#define OF_C(update) (function *)plain_update_##update, plain_update_##update
+static const struct {
+    const char *name;
+    function *there;
+    update *call;
+} contestants[] = {
+    [NOW] = {"flow_add, flow_remove", (function *)flow_add, doors},
+    [BEFORE] = {"before: flow_add, flow_remove", (function *)before_flow_add, before},
+    [BRANCHING_GCC] = {"plain C by gcc, five passes, choice by branches", OF_C(branching_by_gcc)},
+    [BRANCHING_CLANG] = {"plain C by clang, five passes, choice by branches", OF_C(branching_by_clang)},
+    [FIVE_GCC] = {"plain C by gcc, five passes, choice without branches", OF_C(five_by_gcc)},
+    [FIVE_CLANG] = {"plain C by clang, five passes, choice without branches", OF_C(five_by_clang)},
+    [TWICE_GCC] = {"plain C by gcc, hashed twice, choices kept", OF_C(twice_by_gcc)},
+    [TWICE_CLANG] = {"plain C by clang, hashed twice, choices kept", OF_C(twice_by_clang)},
+    [KEPT_GCC] = {"plain C by gcc, hashes kept", OF_C(kept_by_gcc)},
+    [KEPT_CLANG] = {"plain C by clang, hashes kept", OF_C(kept_by_clang)},
+};
+/* clang-format on */
+static struct areas areas[CONTESTANTS];
+static struct column columns[SIZES];
+
+static uint32_t call(int c, enum edit edit, const uint8_t *key) { return contestants[c].call(&set, table, &areas[c], edit, key, 13, 7); }
 
 /* One round: microseconds a pair; the answers are added to *sum. */
-static double round_of(int way, uint32_t *sum)
+static double round_of(int c, uint32_t *sum)
 {
-    double before = now();
+    double start = now();
     for (int i = 0; i < PAIRS; i++) {
-        *sum += call(way, ADD, keys[i]);
-        *sum += call(way, REMOVE, keys[i]);
+        *sum += call(c, ADD, keys[i]);
+        *sum += call(c, REMOVE, keys[i]);
     }
-    return (now() - before) / 1e3 / PAIRS;
+    return (now() - start) / 1e3 / PAIRS;
 }
 
 static void random_bytes(uint8_t *to, size_t n)
@@ -70,31 +91,25 @@ static void random_bytes(uint8_t *to, size_t n)
 
 static int by_key(const void *a, const void *b) { return memcmp(a, b, 13); }
 
-static int alike(int way)
+static int alike(const struct areas *a, const struct areas *b)
 {
-    const struct areas *a = &areas[DOORS], *b = &areas[way];
     return memcmp(a->ledger, b->ledger, a->ledger_length) == 0 &&
            memcmp(a->true_counts, b->true_counts, a->true_counts_length * sizeof a->true_counts[0]) == 0 &&
            memcmp(a->clipped, b->clipped, a->clipped_length) == 0 && memcmp(a->buckets, b->buckets, a->buckets_length) == 0 &&
            memcmp(a->side, b->side, a->side_length) == 0;
 }
 
-static int all_alike(void)
+/* Work is as long as the contestant asks for: the doors of each library say it, the C takes 2 * m numbers. */
+static int allocate(int c)
 {
-    for (int way = 0; way < WAYS; way++) {
-        if (!alike(way)) {
-            printf("%s: the areas differ\n", names[way]);
-            return 0;
-        }
-    }
-    return 1;
-}
-
-static int allocate(struct areas *at)
-{
+    struct areas *at = &areas[c];
     uint64_t lengths[6];
-    if (flow_area_lengths(set.p, set.k, set.room, set.top, set.capacity, set.side_places, lengths, 6) != 0) {
+    if ((c == BEFORE ? before_flow_area_lengths : flow_area_lengths)(set.p, set.k, set.room, set.top, set.capacity, set.side_places,
+                                                                     lengths, 6) != 0) {
         return 1;
+    }
+    if (c != NOW && c != BEFORE) {
+        lengths[5] = (uint64_t)2 << set.p;
     }
     at->ledger = malloc(at->ledger_length = lengths[0]);
     at->true_counts = malloc((at->true_counts_length = lengths[1]) * sizeof at->true_counts[0]);
@@ -112,8 +127,11 @@ static void build(size_t flows)
     static uint8_t records[MOST_FLOWS][RECORD];
     random_bytes(&records[0][0], RECORD * flows);
     qsort(records, flows, RECORD, by_key);
-    for (int way = 0; way < WAYS; way++) {
-        struct areas *at = &areas[way];
+    for (int c = 0; c < CONTESTANTS; c++) {
+        struct areas *at = &areas[c];
+        if (contestants[c].there == NULL) {
+            continue;
+        }
         memset(at->ledger, 0, at->ledger_length);
         at->ledger[0] = (uint8_t)(flows >> 8);
         at->ledger[1] = (uint8_t)flows;
@@ -132,77 +150,104 @@ static int check(void)
     uint8_t key[13];
     random_bytes(key, 13);
     for (int edit = ADD; edit <= REMOVE; edit++) {
-        for (int way = 0; way < WAYS; way++) {
-            uint32_t answer = call(way, (enum edit)edit, key);
-            if (answer != 0) {
-                printf("%s: refused, %u\n", names[way], answer);
+        for (int c = 0; c < CONTESTANTS; c++) {
+            if (contestants[c].there == NULL) {
+                continue;
+            }
+            uint32_t answer = call(c, (enum edit)edit, key);
+            if (answer != 0 || !alike(&areas[NOW], &areas[c])) {
+                printf("%s: refused with %u, or the areas differ\n", contestants[c].name, answer);
                 return 1;
             }
-        }
-        if (!all_alike()) {
-            return 1;
         }
     }
     return 0;
 }
 
-int main(void)
+static void print_heads(const char *what)
 {
-    static double us[WAYS][SIZES], ratio[WAYS][SIZES];
-    static double times[WAYS][ROUNDS], ratios[WAYS][ROUNDS];
-    if (flow_hash_table(table, 3328) != 0) {
+    printf("\n| %s |", what);
+    for (int size = 0; size < SIZES; size++) {
+        printf(" %d flows |", (int)sizes[size]);
+    }
+    printf("\n|---|---|---|---|---|---|\n");
+}
+
+static void print_tables(void)
+{
+    static const char *const heads[] = {"µs an add and a remove", "the doors' time to that of", "to 250 flows"};
+    for (int kind = 0; kind < 3; kind++) {
+        print_heads(heads[kind]);
+        for (int c = kind == 1 ? NOW + 1 : NOW; c < CONTESTANTS; c++) {
+            if (contestants[c].there == NULL) {
+                continue;
+            }
+            printf("| %s |", contestants[c].name);
+            for (int size = 0; size < SIZES; size++) {
+                if (kind == 0) {
+                    printf(" %.0f |", time_of(&columns[size], c));
+                } else {
+                    printf(" %.2f |",
+                           kind == 1 ? ratio_of(&columns[size], NOW, c) : time_of(&columns[size], c) / time_of(&columns[0], c));
+                }
+            }
+            printf("\n");
+        }
+    }
+}
+
+/* The aims are beside the faster of the compilers that are there. */
+static void print_aims(FILE *to)
+{
+    static const struct {
+        const char *what;
+        int size;
+        double bound;
+    } aims[] = {
+        {"flow_add and flow_remove to plain C, hashes kept, by the faster of gcc and clang, 1,000 flows", AT_1000, 2.00},
+        {"flow_add and flow_remove to plain C, hashes kept, by the faster of gcc and clang, 4,000 flows", AT_4000, 1.80},
+    };
+    for (int i = 0; i < 2; i++) {
+        const struct column *column = &columns[aims[i].size];
+        int clang = contestants[KEPT_CLANG].there != NULL && time_of(column, KEPT_CLANG) < time_of(column, KEPT_GCC);
+        print_aim(to, &(struct aim){aims[i].what, NOW, clang ? KEPT_CLANG : KEPT_GCC, column, 1, {aims[i].bound}},
+                  contestants[KEPT_CLANG].there != NULL);
+    }
+}
+
+int main(int words, char **word)
+{
+    FILE *aims = open_aims(words, word);
+    int order[CONTESTANTS], count = 0;
+    if (aims == NULL || flow_hash_table(table, 3328) != 0) {
         return 1;
     }
-    for (int way = 0; way < WAYS; way++) {
-        if (allocate(&areas[way]) != 0) {
+    for (int c = 0; c < CONTESTANTS; c++) {
+        if (contestants[c].there == NULL) {
+            continue;
+        }
+        order[count++] = c;
+        if (allocate(c) != 0) {
             return 1;
         }
     }
     for (int size = 0; size < SIZES; size++) {
         build(sizes[size]);
+        columns[size].rounds = ROUNDS;
         for (int round = 0; round < ROUNDS; round++) {
             uint32_t sum = 0;
             random_bytes(&keys[0][0], sizeof keys);
-            for (int way = 0; way < WAYS; way++) {
-                times[way][round] = round_of(way, &sum);
+            shuffle(order, count);
+            for (int i = 0; i < count; i++) {
+                columns[size].times[order[i]][round] = round_of(order[i], &sum);
             }
             if (sum != 0 || check() != 0) {
                 printf("%d flows: refused, or not alike\n", (int)sizes[size]);
                 return 1;
             }
-            for (int way = 0; way < WAYS; way++) {
-                ratios[way][round] = times[DOORS][round] / times[way][round];
-            }
-        }
-        for (int way = 0; way < WAYS; way++) {
-            us[way][size] = median(times[way], ROUNDS);
-            ratio[way][size] = median(ratios[way], ROUNDS);
         }
     }
-    static const char *const heads[] = {"µs an add and a remove", "the doors' time to that of", "to 250 flows"};
-    for (int kind = 0; kind < 3; kind++) {
-        printf("\n| %s |", heads[kind]);
-        for (int size = 0; size < SIZES; size++) {
-            printf(" %d flows |", (int)sizes[size]);
-        }
-        printf("\n|---|");
-        for (int size = 0; size < SIZES; size++) {
-            printf("---|");
-        }
-        for (int way = 0; way < WAYS; way++) {
-            if (kind == 1 && way == DOORS) {
-                continue;
-            }
-            printf("\n| %s |", names[way]);
-            for (int size = 0; size < SIZES; size++) {
-                if (kind == 0) {
-                    printf(" %.0f |", us[way][size]);
-                } else {
-                    printf(" %.2f |", kind == 1 ? ratio[way][size] : us[way][size] / us[way][0]);
-                }
-            }
-        }
-        printf("\n");
-    }
-    return 0;
+    print_tables();
+    print_aims(aims);
+    return fclose(aims) != 0;
 }

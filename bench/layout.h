@@ -1,6 +1,6 @@
 /* The layout of a list of flows in plain C, for the benchmark: document 01, 'Placing'. */
-#ifndef LAY_H
-#define LAY_H
+#ifndef LAYOUT_H
+#define LAYOUT_H
 
 #include <stddef.h>
 #include <stdint.h>
@@ -18,6 +18,6 @@ struct lookup {
 
 /* Lays out the flows, whose keys differ; sorts keys and classes by key. 0, or 1 when the layout is not defined or memory is short. What an
  * earlier call put there is freed. */
-int lay(const struct settings *set, const uint64_t *table, uint8_t keys[][13], uint32_t *classes, struct lookup *at);
+int lay_out(const struct settings *set, const uint64_t *table, uint8_t keys[][13], uint32_t *classes, struct lookup *at);
 
 #endif

@@ -1,27 +1,16 @@
-#include "lay.h"
+#include "layout.h"
+#include "plain_parts.h"
 #include <stdlib.h>
-#include <string.h>
 
-enum { KEY = 13, RECORD = 17, MOST_FLOWS = 4096, MOST_BUCKETS = 4096 };
+enum { MOST_BUCKETS = 4096 };
 
 static int by_key(const void *a, const void *b) { return memcmp(a, b, KEY); }
-
-static void put(uint8_t *to, const uint8_t *key, uint32_t class)
-{
-    memcpy(to, key, KEY);
-    for (int i = 0; i < 4; i++) {
-        to[KEY + i] = (uint8_t)(class >> 8 * (3 - i));
-    }
-}
 
 /* The key's bucket numbers, repeats dropped; how many. */
 static size_t numbers_of(const struct settings *set, const uint64_t *table, const uint8_t *key, size_t *numbers)
 {
-    uint64_t h = 0;
+    const uint64_t h = hash_of(table, key);
     size_t n = 0;
-    for (size_t a = 0; a < KEY; a++) {
-        h ^= table[256 * a + key[a]];
-    }
     for (size_t j = 0; j < set->k; j++) {
         size_t b = h >> 16 * j & (((size_t)1 << set->p) - 1), i = 0;
         while (i < n && numbers[i] != b) {
@@ -34,7 +23,7 @@ static size_t numbers_of(const struct settings *set, const uint64_t *table, cons
     return n;
 }
 
-int lay(const struct settings *set, const uint64_t *table, uint8_t keys[][13], uint32_t *classes, struct lookup *at)
+int lay_out(const struct settings *set, const uint64_t *table, uint8_t keys[][13], uint32_t *classes, struct lookup *at)
 {
     static uint8_t records[MOST_FLOWS][RECORD];
     static size_t true_counts[MOST_BUCKETS], choosers[MOST_BUCKETS], choice[MOST_FLOWS];
@@ -42,7 +31,7 @@ int lay(const struct settings *set, const uint64_t *table, uint8_t keys[][13], u
     size_t numbers[4];
 
     for (size_t i = 0; i < set->flows; i++) {
-        put(records[i], keys[i], classes[i]);
+        put_record(records[i], keys[i], classes[i]);
     }
     qsort(records, set->flows, RECORD, by_key);
     memset(true_counts, 0, sizeof true_counts);
@@ -50,7 +39,7 @@ int lay(const struct settings *set, const uint64_t *table, uint8_t keys[][13], u
     for (size_t i = 0; i < set->flows; i++) {
         const uint8_t *r = records[i];
         memcpy(keys[i], r, KEY);
-        classes[i] = (uint32_t)r[13] << 24 | (uint32_t)r[14] << 16 | (uint32_t)r[15] << 8 | r[16];
+        classes[i] = class_of(r);
         size_t n = numbers_of(set, table, r, numbers);
         for (size_t j = 0; j < n; j++) {
             true_counts[numbers[j]]++;

@@ -1,7 +1,7 @@
-#include "relay.h"
-#include <string.h>
+#include "plain_update.h"
+#include "plain_parts.h"
 
-enum { KEY = 13, RECORD = 17, MOST_FLOWS = 4096, NOWHERE = 4096 };
+enum { NOWHERE = 4096 };
 
 /* The list that a call would make, while the ledger is not edited yet. */
 struct list {
@@ -11,21 +11,16 @@ struct list {
     enum edit edit;
 };
 
-static uint64_t big(const uint8_t *at)
-{
-    uint64_t x;
-    memcpy(&x, at, 8);
-    return __builtin_bswap64(x);
-}
+INLINED uint64_t big(const uint8_t *at) { return __builtin_bswap64(load(at)); }
 
 /* Key order: two loads of 8 bytes that overlap. */
-static int below(const uint8_t *a, const uint8_t *b)
+INLINED int below(const uint8_t *a, const uint8_t *b)
 {
     uint64_t x = big(a), y = big(b);
     return x != y ? x < y : big(a + 5) < big(b + 5);
 }
 
-static const uint8_t *record_of(const struct list *list, size_t i)
+INLINED const uint8_t *record_of(const struct list *list, size_t i)
 {
     if (i < list->at) {
         return list->records + RECORD * i;
@@ -36,17 +31,8 @@ static const uint8_t *record_of(const struct list *list, size_t i)
     return i == list->at ? list->record : list->records + RECORD * (i - 1);
 }
 
-static uint64_t hash(const uint64_t *table, const uint8_t *key)
-{
-    uint64_t h = 0;
-    for (size_t a = 0; a < KEY; a++) {
-        h ^= table[256 * a + key[a]];
-    }
-    return h;
-}
-
 /* One more for each of the key's bucket numbers, repeats dropped. */
-static void count(const struct settings *set, uint16_t *counts, uint64_t h)
+INLINED void count(const struct settings *set, uint16_t *counts, uint64_t h)
 {
     const size_t mask = ((size_t)1 << set->p) - 1;
     size_t b[4];
@@ -61,7 +47,7 @@ static void count(const struct settings *set, uint16_t *counts, uint64_t h)
 }
 
 /* Of the key's numbers with the least count, the lowest; NOWHERE where all counts are T or more. Repeats do no harm. */
-static size_t choice_of(const struct settings *set, const uint16_t *counts, uint64_t h)
+INLINED size_t choice_of(const struct settings *set, const uint16_t *counts, uint64_t h)
 {
     const size_t mask = ((size_t)1 << set->p) - 1;
     uint32_t least = UINT32_MAX;
@@ -72,8 +58,8 @@ static size_t choice_of(const struct settings *set, const uint16_t *counts, uint
     return least >> 16 < set->top ? least & 0xffff : NOWHERE;
 }
 
-/* The same, as the doors have it: repeats dropped first, and a branch at each comparison. */
-static size_t choice_by_branches(const struct settings *set, const uint16_t *counts, uint64_t h)
+/* The same with branches: repeats dropped first, and a branch at each comparison. */
+INLINED size_t choice_by_branches(const struct settings *set, const uint16_t *counts, uint64_t h)
 {
     const size_t mask = ((size_t)1 << set->p) - 1;
     size_t own[4], n = 0, least = set->top, best = NOWHERE;
@@ -102,7 +88,7 @@ static size_t choice_by_branches(const struct settings *set, const uint16_t *cou
 static uint32_t judge(const struct settings *set, const struct areas *at, enum edit edit, const uint8_t *key, size_t key_length,
                       struct list *list)
 {
-    if (set->p - 4 > 8 || set->k - 1 > 3 || set->room - 1 > 3 || set->top - 2 > 13 || set->capacity - 1 > 4095 || set->side_places > 64) {
+    if (out_of_range(set->p, set->k, set->room, set->top, set->capacity, set->side_places)) {
         return 1;
     }
     const size_t m = (size_t)1 << set->p;
@@ -190,31 +176,22 @@ static void write_counts(const struct settings *set, struct areas *at)
     }
 }
 
-static int to_side(const struct settings *set, const uint16_t *choosers, size_t choice)
+INLINED int to_side(const struct settings *set, const uint16_t *choosers, size_t choice)
 {
     return choice == NOWHERE || choosers[choice] > set->room;
 }
 
-static void put(const struct settings *set, struct areas *at, size_t choice, const uint8_t *record)
+INLINED void put(const struct settings *set, struct areas *at, size_t choice, const uint8_t *record)
 {
     uint8_t *bucket = at->buckets + choice * (1 + RECORD * set->room);
     memcpy(bucket + 1 + RECORD * bucket[0]++, record, RECORD);
 }
 
-static void record_bytes(uint8_t *record, const uint8_t *key, uint32_t class)
-{
-    memcpy(record, key, KEY);
-    for (int i = 0; i < 4; i++) {
-        record[KEY + i] = (uint8_t)(class >> 8 * (3 - i));
-    }
-}
-
 typedef size_t choose(const struct settings *set, const uint16_t *counts, uint64_t h);
 
 /* Five passes over the records, each with the hash of every key. Made once for each way to choose. */
-__attribute__((always_inline)) static inline uint32_t five_passes(choose *choice_by, const struct settings *set, const uint64_t *table,
-                                                                  struct areas *at, enum edit edit, const uint8_t *key,
-                                                                  size_t key_length, uint32_t class)
+INLINED uint32_t five_passes(choose *choice_by, const struct settings *set, const uint64_t *table, struct areas *at, enum edit edit,
+                             const uint8_t *key, size_t key_length, uint32_t class)
 {
     struct list list;
     uint32_t answer = judge(set, at, edit, key, key_length, &list);
@@ -223,23 +200,23 @@ __attribute__((always_inline)) static inline uint32_t five_passes(choose *choice
     }
     const size_t m = (size_t)1 << set->p;
     uint8_t record[RECORD];
-    record_bytes(record, key, class);
+    put_record(record, key, class);
     list.record = record;
 
     uint16_t *counts = at->work, *choosers = at->work + m;
     memset(at->work, 0, 2 * m * sizeof at->work[0]);
     for (size_t i = 0; i < list.n; i++) {
-        count(set, counts, hash(table, record_of(&list, i)));
+        count(set, counts, hash_of(table, record_of(&list, i)));
     }
     for (size_t i = 0; i < list.n; i++) {
-        size_t choice = choice_by(set, counts, hash(table, record_of(&list, i)));
+        size_t choice = choice_by(set, counts, hash_of(table, record_of(&list, i)));
         if (choice != NOWHERE) {
             choosers[choice]++;
         }
     }
     size_t need = 0;
     for (size_t i = 0; i < list.n; i++) {
-        size_t choice = choice_by(set, counts, hash(table, record_of(&list, i)));
+        size_t choice = choice_by(set, counts, hash_of(table, record_of(&list, i)));
         need += (size_t)to_side(set, choosers, choice);
     }
     if (need > set->side_places) {
@@ -250,7 +227,7 @@ __attribute__((always_inline)) static inline uint32_t five_passes(choose *choice
     write_counts(set, at);
     const uint8_t *records = at->ledger + 2;
     for (size_t i = 0; i < list.n; i++) {
-        size_t choice = choice_by(set, counts, hash(table, records + RECORD * i));
+        size_t choice = choice_by(set, counts, hash_of(table, records + RECORD * i));
         if (!to_side(set, choosers, choice)) {
             put(set, at, choice, records + RECORD * i);
         }
@@ -258,7 +235,7 @@ __attribute__((always_inline)) static inline uint32_t five_passes(choose *choice
     memset(at->side, 0, at->side_length);
     size_t on_side = 0;
     for (size_t i = 0; i < list.n; i++) {
-        size_t choice = choice_by(set, counts, hash(table, records + RECORD * i));
+        size_t choice = choice_by(set, counts, hash_of(table, records + RECORD * i));
         if (to_side(set, choosers, choice)) {
             memcpy(at->side + 2 + RECORD * on_side++, records + RECORD * i, RECORD);
         }
@@ -267,20 +244,22 @@ __attribute__((always_inline)) static inline uint32_t five_passes(choose *choice
     return 0;
 }
 
-uint32_t relay_branching(const struct settings *set, const uint64_t *table, struct areas *at, enum edit edit, const uint8_t *key,
-                         size_t key_length, uint32_t class)
+uint32_t plain_update_branching(const struct settings *set, const uint64_t *table, struct areas *at, enum edit edit, const uint8_t *key,
+                                size_t key_length, uint32_t class)
 {
     return five_passes(choice_by_branches, set, table, at, edit, key, key_length, class);
 }
 
-uint32_t relay(const struct settings *set, const uint64_t *table, struct areas *at, enum edit edit, const uint8_t *key, size_t key_length,
-               uint32_t class)
+uint32_t plain_update_five(const struct settings *set, const uint64_t *table, struct areas *at, enum edit edit, const uint8_t *key,
+                           size_t key_length, uint32_t class)
 {
     return five_passes(choice_of, set, table, at, edit, key, key_length, class);
 }
 
-uint32_t relay_kept(const struct settings *set, const uint64_t *table, struct areas *at, enum edit edit, const uint8_t *key,
-                    size_t key_length, uint32_t class)
+/* The choices are kept until the areas are written, so only the first two passes need hashes: the second takes those of the first, or
+ * hashes each key again. */
+INLINED uint32_t choices_kept(int hashes_kept, const struct settings *set, const uint64_t *table, struct areas *at, enum edit edit,
+                              const uint8_t *key, size_t key_length, uint32_t class)
 {
     static uint64_t hashes[MOST_FLOWS];
     static uint16_t choices[MOST_FLOWS];
@@ -291,17 +270,21 @@ uint32_t relay_kept(const struct settings *set, const uint64_t *table, struct ar
     }
     const size_t m = (size_t)1 << set->p;
     uint8_t record[RECORD];
-    record_bytes(record, key, class);
+    put_record(record, key, class);
     list.record = record;
 
     uint16_t *counts = at->work, *choosers = at->work + m;
     memset(at->work, 0, 2 * m * sizeof at->work[0]);
     for (size_t i = 0; i < list.n; i++) {
-        hashes[i] = hash(table, record_of(&list, i));
-        count(set, counts, hashes[i]);
+        uint64_t h = hash_of(table, record_of(&list, i));
+        if (hashes_kept) {
+            hashes[i] = h;
+        }
+        count(set, counts, h);
     }
     for (size_t i = 0; i < list.n; i++) {
-        choices[i] = (uint16_t)choice_of(set, counts, hashes[i]);
+        uint64_t h = hashes_kept ? hashes[i] : hash_of(table, record_of(&list, i));
+        choices[i] = (uint16_t)choice_of(set, counts, h);
         if (choices[i] != NOWHERE) {
             choosers[choices[i]]++;
         }
@@ -328,4 +311,16 @@ uint32_t relay_kept(const struct settings *set, const uint64_t *table, struct ar
     }
     at->side[1] = (uint8_t)on_side;
     return 0;
+}
+
+uint32_t plain_update_twice(const struct settings *set, const uint64_t *table, struct areas *at, enum edit edit, const uint8_t *key,
+                            size_t key_length, uint32_t class)
+{
+    return choices_kept(0, set, table, at, edit, key, key_length, class);
+}
+
+uint32_t plain_update_kept(const struct settings *set, const uint64_t *table, struct areas *at, enum edit edit, const uint8_t *key,
+                           size_t key_length, uint32_t class)
+{
+    return choices_kept(1, set, table, at, edit, key, key_length, class);
 }

@@ -1,0 +1,61 @@
+#include "results.h"
+#include "timing.h"
+#include <string.h>
+
+double time_of(const struct column *column, int contestant)
+{
+    static double times[MOST_ROUNDS];
+    memcpy(times, column->times[contestant], sizeof times);
+    return median(times, (size_t)column->rounds);
+}
+
+double ratio_of(const struct column *column, int contestant, int other)
+{
+    static double ratios[MOST_ROUNDS];
+    for (int round = 0; round < column->rounds; round++) {
+        ratios[round] = column->times[contestant][round] / column->times[other][round];
+    }
+    return median(ratios, (size_t)column->rounds);
+}
+
+void shuffle(int *contestants, int count)
+{
+    for (int i = count - 1; i > 0; i--) {
+        int j = (int)(random_number() % (uint64_t)(i + 1)), kept = contestants[i];
+        contestants[i] = contestants[j];
+        contestants[j] = kept;
+    }
+}
+
+FILE *open_aims(int words, char **word) { return fopen(words > 1 ? word[1] : "/dev/null", "a"); }
+
+void print_aim(FILE *to, const struct aim *aim, int measured)
+{
+    static const char *const mixes[] = {"hits", "half", "misses"};
+    double ratios[3] = {0, 0, 0};
+    int missed = 0;
+    fprintf(to, "| %s |", aim->what);
+    for (int i = 0; i < aim->count; i++) {
+        fprintf(to, "%s %.2f", i == 0 ? "" : " /", aim->bounds[i]);
+    }
+    fprintf(to, " |");
+    if (!measured) {
+        fprintf(to, " | not measured |\n");
+        return;
+    }
+    for (int i = 0; i < aim->count; i++) {
+        ratios[i] = ratio_of(&aim->columns[i], aim->contestant, aim->other);
+        fprintf(to, "%s %.2f", i == 0 ? "" : " /", ratios[i]);
+    }
+    fprintf(to, " |");
+    for (int i = 0; i < aim->count; i++) {
+        if ((int)(100 * ratios[i] + 0.5) > (int)(100 * aim->bounds[i] + 0.5)) {
+            fprintf(to, "%s", missed == 0 ? " missed" : ",");
+            if (aim->count == 3) {
+                fprintf(to, "%s %s", missed == 0 ? " at" : "", mixes[i]);
+            }
+            missed++;
+        }
+    }
+    fprintf(to, "%s |\n", missed == 0 ? " met" : "");
+}
