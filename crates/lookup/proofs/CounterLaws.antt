@@ -10,12 +10,12 @@ use lib.Dec.{ltb}
 use lib.Pow.{pow-pos, pow-mono}
 use borrow.Author.Tests.{ltb-true, ltb-false, lt-ltb, le-ltb}
 use Rattle.theory.specs.Lists.{any, least}
-use Rattle.theory.specs.Hash.{hash, numbers-of}
+use Rattle.theory.specs.Hash.{hash, numbers-of, hashes}
 use Rattle.theory.specs.Settings.{Settings, allowed, card-of, clipped-length}
 use Rattle.theory.specs.Lookup.{counter}
 use Rattle.theory.proofs.SettingsLaws.{ranges, sound}
 use Rattle.theory.proofs.ListLaws.{by-test}
-use Rattle.theory.proofs.RankLaws.{hashes, any-numbers, rank, rank-least, rank-chosen}
+use Rattle.theory.proofs.RankLaws.{any-numbers, rank, rank-least, rank-chosen}
 use Rattle.lookup.specs.Choosing.{card-at, ChoiceOf}
 
 -- the greater of two is above when one is

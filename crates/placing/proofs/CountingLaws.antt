@@ -12,9 +12,8 @@ use borrow.Author.Tests.{eqb-true, eqb-false}
 use lib.ListN.{length, take, getD, set, length-append}
 use lib.Seq.{take-suc, getD-set-same, getD-set-other}
 use Rattle.theory.specs.Lists.{filter, any, has, upto}
-use Rattle.theory.specs.Hash.{hash}
+use Rattle.theory.specs.Hash.{hash, hashes}
 use Rattle.theory.proofs.ListLaws.{by-test}
-use Rattle.theory.proofs.RankLaws.{hashes}
 use Rattle.hash.proofs.NumberingLaws.{upto-more}
 use Rattle.placing.specs.Worked.{nth}
 

@@ -8,12 +8,12 @@ use native.Mathlib.Omega.{arith}
 use lib.Dec.{eqb}
 use lib.ListN.{length}
 use Rattle.theory.specs.Lists.{has, least}
-use Rattle.theory.specs.Hash.{H, numbers-of}
+use Rattle.theory.specs.Hash.{H, numbers-of, hashes}
 use Rattle.theory.specs.Settings as plain
 use Rattle.theory.specs.Settings.{allowed, card-of}
 use Rattle.theory.specs.Placing.{all-top, least-count, chosen}
 use Rattle.theory.proofs.ListLaws.{least-top}
-use Rattle.theory.proofs.RankLaws.{hashes, any-numbers, rank, rank-least, rank-chosen}
+use Rattle.theory.proofs.RankLaws.{any-numbers, rank, rank-least, rank-chosen}
 use Rattle.theory.proofs.SettingsLaws.{Sound, sound}
 use Rattle.theory.proofs.PlacingLaws.{chosen-below}
 use Rattle.settings.specs.declared.Settings.{Settings}

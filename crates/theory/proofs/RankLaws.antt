@@ -11,16 +11,13 @@ use lib.Dec.{eqb, ltb}
 use lib.Pow.{pow-add}
 use borrow.Author.Tests.{ltb-true, ltb-false, eqb-true, eqb-false, eq-eqb, ne-eqb}
 use Rattle.theory.specs.Lists.{filter, any, has, least, fresh, upto}
-use Rattle.theory.specs.Hash.{hash, numbers-of}
+use Rattle.theory.specs.Hash.{hash, hashes, numbers-of}
 use Rattle.theory.specs.Settings.{Card}
 use Rattle.theory.specs.Placing.{least-count, chosen}
 use Rattle.theory.proofs.ListLaws.{by-test, All, least-le}
 use Rattle.theory.proofs.SettingsLaws.{numbers-of-below}
 
 -- ---- hashes from j up to k
-abbrev pub hashes : ℕ → ℕ → ℕ → ℕ → List ℕ
-hashes m h j k = map (λ i. hash m h i) (upto j (k - j))
-
 pub hashes-next : (m h j k : ℕ) → j < k → hashes m h j k ≡ hash m h j ∷ hashes m h (j + 1) k
 hashes-next m h j k lt = let e : k - j ≡ suc (k - (j + 1)) = omega arith in rw (e, add-one)
 

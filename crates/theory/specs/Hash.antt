@@ -1,6 +1,6 @@
 -- Document 01, 'Hash': xorshift64 (Marsaglia, 2003), its rows without end, H of a key of any length, hash j, and a key's bucket numbers. Assumes nothing.
 use mathlib.Core.List.{List, [], _∷_, map}
-use Prim.Native.Nat.{ℕ, zero, suc, _+_, _*_, _/_, _%_, _^_}
+use Prim.Native.Nat.{ℕ, zero, suc, _+_, _-_, _*_, _/_, _%_, _^_}
 use lib.Bits.{bitXor}
 use Rattle.theory.specs.Lists.{upto, fresh}
 
@@ -46,6 +46,10 @@ H key = H-from 0 key
 -- hash j of a key whose H is h, for m buckets: (h / 2^(16j), rounded down) mod m
 unfoldable pub hash : ℕ → ℕ → ℕ → ℕ
 hash m h j = h / 2 ^ (16 * j) % m
+
+-- its hashes from j up to k
+abbrev pub hashes : ℕ → ℕ → ℕ → ℕ → List ℕ
+hashes m h j k = map (λ i. hash m h i) (upto j (k - j))
 
 -- the bucket numbers of a key whose H is h: its first k hashes, repeats dropped
 unfoldable pub numbers-of : ℕ → ℕ → ℕ → List ℕ

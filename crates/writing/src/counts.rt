@@ -1,4 +1,5 @@
 // The counts of the layout: true counts as numbers, clipped counts two to a byte.
+use settings::counts::ClippedCount;
 use settings::counts::TrueCount;
 ghost use mathlib.Core.Path.{_≡_};
 ghost use Prim.Native.Nat.{_*_, _≤_};
@@ -28,7 +29,7 @@ pub fn write_clipped(top: usize, clipped: &mut [u8], counts: &[u16])
         let odd = even + 1;
         let low = TrueCount(counts[even]).clip(top);
         let high = TrueCount(counts[odd]).clip(top);
-        clipped[i] = low.0 + 16 * high.0;
+        clipped[i] = ClippedCount::byte_of(low, high);
         i += 1;
     }
 }

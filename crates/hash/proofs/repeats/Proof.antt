@@ -4,8 +4,9 @@ use mathlib.Core.Bool.{Bool, _||_}
 use Prim.Native.Nat.{ℕ, _-_, _*_, _/_, _^_, _≤_}
 use native.Mathlib.Omega.{arith}
 use lib.Dec.{eqb}
+use Rattle.theory.specs.Hash.{hashes}
 use Rattle.theory.specs.Lists.{has}
-use Rattle.theory.proofs.RankLaws.{hashes, any-again, any-end, rest-start, rest-next, rest-hash}
+use Rattle.theory.proofs.RankLaws.{any-again, any-end, rest-start, rest-next, rest-hash}
 use Rattle.hash.proofs.repeats.Statement.{statement}
 use Rattle.hash.proofs.repeats.Tie as tie
 

@@ -7,7 +7,7 @@ use Rattle.placing.proofs.choose.Tie as tie
 returns : tie.Need-returns
 returns c =
     let start = c .before .before .before .before .before in
-    c .choose-at .ensures _ (c .before .h-lent .ensures (right-for _ _ (start .pre .0) (start .args .key .now) (start .pre .2)))
+    c .choose-at .ensures _ (c .before .h-lent .ensures .1 (right-for _ _ (start .pre .0) (start .args .key .now) (start .pre .2)))
 
 pub choose-spec : {M : Type 1} → statement M
 choose-spec = tie.close (tie.spec (λ c κs. search needs) (λ c κs. search needs) returns)

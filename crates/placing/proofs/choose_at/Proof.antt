@@ -6,10 +6,10 @@ use native.Mathlib.Nat.{mod-lt}
 use native.Mathlib.Omega.{arith}
 use borrow.Author.Needs.{needs}
 use Rattle.theory.specs.Lists.{least}
-use Rattle.theory.specs.Hash.{hash}
+use Rattle.theory.specs.Hash.{hash, hashes}
 use Rattle.theory.specs.Settings as plain
 use Rattle.theory.proofs.SettingsLaws.{ranges}
-use Rattle.theory.proofs.RankLaws.{hashes, rank, rest-start, rest-next, rest-hash, best-again, best-end}
+use Rattle.theory.proofs.RankLaws.{rank, rest-start, rest-next, rest-hash, best-again, best-end}
 use Rattle.settings.specs.Checked.{paper}
 use Rattle.settings.proofs.Laws.{bounds}
 use Rattle.placing.specs.Worked.{nth}

@@ -97,7 +97,7 @@ loop-again c =
     let loop = at .before .loop in
     let raised = c .before .before .raise-at in
     let old = start whole .args .counts .now in
-    let by-key = raised .ensures (key at) (hashed .h-lent .ensures (right-for _ _ (start whole .pre .0) (key at) (key-long at))) in
+    let by-key = raised .ensures (key at) (hashed .h-lent .ensures .1 (right-for _ _ (start whole .pre .0) (key at) (key-long at))) in
     record {
       within = omega (arith, at .loop-test .taken);
       here = next-at (s whole) _ _ _ _ (width-is whole) (whole .record-size .ensures) (loop .inv .here);

@@ -8,9 +8,9 @@ use native.Mathlib.Omega.{arith}
 use borrow.Author.Needs.{needs}
 use lib.ListN.{length, length-set}
 use Rattle.theory.specs.Lists.{has}
-use Rattle.theory.specs.Hash.{hash}
+use Rattle.theory.specs.Hash.{hash, hashes}
 use Rattle.theory.specs.Settings as plain
-use Rattle.theory.proofs.RankLaws.{hashes, rest-start, rest-next, rest-hash}
+use Rattle.theory.proofs.RankLaws.{rest-start, rest-next, rest-hash}
 use Rattle.settings.specs.Checked.{paper}
 use Rattle.settings.proofs.Laws.{bounds}
 use Rattle.placing.proofs.CountingLaws.{zero-bound, Raised, raised-few, raise-next}

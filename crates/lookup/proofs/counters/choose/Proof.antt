@@ -9,11 +9,11 @@ use borrow.Author.Needs.{needs}
 use borrow.Author.Tests.{le-ltb}
 use lib.Dec.{ltb}
 use Rattle.theory.specs.Lists.{any, least}
-use Rattle.theory.specs.Hash.{hash}
+use Rattle.theory.specs.Hash.{hash, hashes}
 use Rattle.theory.specs.Settings as plain
 use Rattle.theory.specs.Lookup.{counter}
 use Rattle.theory.proofs.SettingsLaws.{ranges}
-use Rattle.theory.proofs.RankLaws.{hashes, rank, rest-start, rest-next, rest-hash, any-again, any-end, best-again, best-end}
+use Rattle.theory.proofs.RankLaws.{rank, rest-start, rest-next, rest-hash, any-again, any-end, best-again, best-end}
 use Rattle.settings.specs.Checked.{paper}
 use Rattle.settings.proofs.Laws.{buckets-are, bounds}
 use Rattle.lookup.proofs.CounterLaws.{above-higher, counter-there, choice-of}
