@@ -36,7 +36,7 @@ pub upto-end : (a n : ℕ) → upto a (suc n) ≡ upto a n ++ ((a + n) ∷ [])
 upto-end a zero = rw add-zero
 upto-end a (suc n) = rw (add-suc, ← suc-add) (ap (λ (r : List ℕ). a ∷ r) (upto-end (suc a) n))
 
-upto-more : (j : ℕ) → upto 0 (j + 1) ≡ upto 0 j ++ (j ∷ [])
+pub upto-more : (j : ℕ) → upto 0 (j + 1) ≡ upto 0 j ++ (j ∷ [])
 upto-more j = rw (add-one j) (upto-end 0 j ∙ rw (zero-add j))
 
 module _ (f : ℕ → ℕ) (at : List ℕ) (n j x : ℕ) (e : take n at ≡ fresh [] (map f (upto 0 j))) (q : x ≡ f j) where

@@ -1,21 +1,30 @@
--- What the loop over a key's bucket numbers asks: a count raised, with one number more.
--- By the last number of a list that grows at its end. Assumes nothing.
-use mathlib.Core.Path.{_≡_, refl, ap}
-use mathlib.Core.Bool.{Bool, true, false, cond, not}
-use mathlib.Core.List.{List, [], _∷_, _++_}
-use Prim.Native.Nat.{ℕ, suc, _+_, _<_, _≤_}
+-- What the loops that count ask: what passes a test, with one element more, and a count raised once for each bucket number of a key.
+-- By the last element of a list that grows at its end. Assumes nothing.
+use mathlib.Core.Path.{_≡_, refl, sym}
+use mathlib.Core.Bool.{Bool, true, false, cond, _||_, or-assoc, or-false}
+use mathlib.Core.List.{List, [], _∷_, _++_, map, map-append}
+use Prim.Native.Nat.{ℕ, _+_, _-_, _<_, _≤_}
 use native.Mathlib.Nat.{add-zero}
 use native.Mathlib.Numerals.{add-one}
 use native.Mathlib.Omega.{arith}
 use lib.Dec.{eqb}
-use borrow.Author.Tests.{eqb-true, eqb-false, not-true}
+use borrow.Author.Tests.{eqb-true, eqb-false}
 use lib.ListN.{length, take, getD, set, length-append}
-use lib.Seq.{length-take-le, getD-take, take-suc, getD-set-same, getD-set-other}
-use Rattle.theory.specs.Lists.{filter, has}
-use Rattle.theory.proofs.ListLaws.{and-left, and-right, or-left, or-right, by-test, All, all-at, filter-len}
-use Rattle.theory.proofs.NumberLaws.{distinct}
-use Rattle.placing.specs.Counting.{times}
+use lib.Seq.{take-suc, getD-set-same, getD-set-other}
+use Rattle.theory.specs.Lists.{filter, any, has, upto}
+use Rattle.theory.specs.Hash.{hash}
+use Rattle.theory.proofs.ListLaws.{by-test}
+use Rattle.theory.proofs.RankLaws.{hashes}
+use Rattle.hash.proofs.NumberingLaws.{upto-more}
 use Rattle.placing.specs.Worked.{nth}
+
+pub one-bound : (t : Bool) → cond {A = ℕ} t 1 0 ≤ 1
+one-bound true = omega arith
+one-bound false = omega arith
+
+pub zero-bound : (t : Bool) → cond {A = ℕ} t 0 1 ≤ 1
+zero-bound true = omega arith
+zero-bound false = omega arith
 
 -- ---- what passes a test, of two lists and of one element more
 module _ {A : Type 0} (p : A → Bool) where
@@ -29,7 +38,6 @@ module _ {A : Type 0} (p : A → Bool) where
   pub count-end : (l : List A) (x : A) → length (filter p (l ++ (x ∷ []))) ≡ length (filter p l) + cond (p x) 1 0
   count-end l x = rw (count-append l (x ∷ [])) (by-test (p x) (λ e. rw e) (λ e. rw e))
 
--- ---- the numbers of a key
 take-more : (l : List ℕ) (i : ℕ) → i < length l → take (i + 1) l ≡ take i l ++ (getD l i 0 ∷ [])
 take-more l i h = rw (add-one i) (take-suc l i 0 h)
 
@@ -37,31 +45,35 @@ pub count-take : (p : ℕ → Bool) (l : List ℕ) (i : ℕ) → i < length l
     → length (filter p (take (i + 1) l)) ≡ length (filter p (take i l)) + cond (p (getD l i 0)) 1 0
 count-take p l i h = rw (take-more l i h) (count-end p (take i l) (getD l i 0))
 
-pub all-in : (P : ℕ → Type 0) (l : List ℕ) (n i : ℕ) → All P (take n l) → i < n → n ≤ length l → P (getD l i 0)
-all-in P l n i a h e = rw (getD-take n l i 0 h) at (all-at P (take n l) i 0 (rw (length-take-le n l e) h) a)
+-- ---- a count raised
+pub raise : (c : List ℕ) (x v : ℕ) → x < length c → (b : ℕ) → nth (set c x (nth c x + v)) b ≡ nth c b + cond (eqb b x) v 0
+raise c x v h b =
+    by-test (eqb b x) (λ q. let bx : b ≡ x = eqb-true b x q in rw (q, bx, getD-set-same c x (getD c x 0 + v) 0 h))
+    (λ q. rw (q, getD-set-other c x b (getD c x 0 + v) 0 (eqb-false b x q), add-zero))
 
--- ---- counts raised
-pub times-le : (b : ℕ) (l : List ℕ) → times b l ≤ length l
-times-le b l = filter-len (λ x. eqb b x) l
+-- ---- the counts of the first j hashes, each raised once
+any-last : (p : ℕ → Bool) (l : List ℕ) (x : ℕ) → any p (l ++ (x ∷ [])) ≡ (any p l || p x)
+any-last p [] x = or-false (p x)
+any-last p (y ∷ ys) x = rw (any-last p ys x) (sym (or-assoc (p y) (any p ys) (p x)))
 
-times-none : (b : ℕ) (l : List ℕ) → has b l ≡ false → times b l ≡ 0
-times-none b [] h = refl
-times-none b (x ∷ xs) h = rw (or-left (eqb b x) _ h) (times-none b xs (or-right (eqb b x) _ h))
+has-next : (b m h j : ℕ) → has b (hashes m h 0 (j + 1)) ≡ (has b (hashes m h 0 j) || eqb b (hash m h j))
+has-next b m h j =
+    let now : j - 0 ≡ j = omega arith in
+    let next : j + 1 - 0 ≡ j + 1 = omega arith in
+    rw (now, next, upto-more j, map-append) (any-last (eqb b) (map (λ i. hash m h i) (upto 0 j)) (hash m h j))
 
--- where no number stands twice, each counts once
-pub times-has : (b : ℕ) (l : List ℕ) → distinct l ≡ true → times b l ≡ cond (has b l) 1 0
-times-has b [] d = refl
-times-has b (x ∷ xs) d =
-    by-test (eqb b x)
-    (λ e. let n : has b xs ≡ false = rw (eqb-true b x e) (not-true (has x xs) (and-left (not (has x xs)) _ d)) in rw e (ap suc (times-none b xs n)))
-    (λ e. rw e (times-has b xs (and-right (not (has x xs)) _ d)))
+pub record Raised (m h j : ℕ) (old c : List ℕ) : Type 0 where
+  pub each : (b : ℕ) → nth c b ≡ nth old b + cond (has b (hashes m h 0 j)) 1 0
 
-pub raise-one : (c : List ℕ) (x : ℕ) → x < length c → (b : ℕ) → nth (set c x (nth c x + 1)) b ≡ nth c b + cond (eqb b x) 1 0
-raise-one c x h b =
-    by-test (eqb b x) (λ q. let bx : b ≡ x = eqb-true b x q in rw (q, bx, getD-set-same c x (getD c x 0 + 1) 0 h))
-    (λ q. rw (q, getD-set-other c x b (getD c x 0 + 1) 0 (eqb-false b x q), add-zero))
+module _ {m h j : ℕ} {old c : List ℕ} (so-far : Raised m h j old c) where
+  pub raised-few : (b : ℕ) → nth c b ≤ nth old b + 1
+  raised-few b = omega (arith, so-far .each b, one-bound (has b (hashes m h 0 j)))
 
-pub raise-more : (old c at : List ℕ) (i : ℕ) → i < length at → getD at i 0 < length c → ((b : ℕ) → nth c b ≡ nth old b + times b (take i at))
-    → (b : ℕ) → nth (set c (getD at i 0) (nth c (getD at i 0) + 1)) b ≡ nth old b + times b (take (i + 1) at)
-raise-more old c at i h lx each b =
-    rw (take-more at i h, count-end (λ y. eqb b y) (take i at) (getD at i 0)) (omega (arith, each b, raise-one c (getD at i 0) lx b))
+  -- hash j, x, adds v: 0 where it repeats an earlier one
+  pub raise-next : (x v w : ℕ) → x ≡ hash m h j → v ≡ cond (has x (hashes m h 0 j)) 0 1 → w ≡ nth c x + v → x < length c
+      → Raised m h (j + 1) old (set c x w)
+  raise-next x v w is-hash v-is w-is there = record {
+    each = λ b. rw (w-is, has-next b m h j, ← is-hash, raise c x v there b, so-far .each b, v-is)
+        (by-test (eqb b x) (λ q. rw (q, eqb-true b x q) (by-test (has x (hashes m h 0 j)) (λ e. rw e (omega arith)) (λ e. rw e (omega arith))))
+        (λ q. rw (q, or-false, add-zero)));
+  }

@@ -1,38 +1,35 @@
--- What allowed settings and the right table give: the card is sound, and a key's bucket numbers are below the bucket count, none twice.
+-- What allowed settings and the right table give: the card is sound, and a key's bucket numbers and its choice are those of its hashes.
 -- From the laws of settings. Assumes nothing.
-use mathlib.Core.Path.{_≡_, refl, sym, _∙_}
+use mathlib.Core.Path.{_≡_, sym, _∙_}
 use mathlib.Core.Bool.{true, false}
 use mathlib.Core.List.{List, map}
-use Prim.Native.Nat.{ℕ, _+_, _*_, _/_, _%_, _^_, _<_}
+use Prim.Native.Nat.{ℕ, _+_, _*_, _/_, _%_, _<_}
 use native.Mathlib.Omega.{arith}
 use lib.Dec.{eqb}
 use lib.ListN.{length}
-use Rattle.theory.specs.Lists.{least}
+use Rattle.theory.specs.Lists.{has, least}
 use Rattle.theory.specs.Hash.{H, numbers-of}
 use Rattle.theory.specs.Settings as plain
 use Rattle.theory.specs.Settings.{allowed, card-of}
 use Rattle.theory.specs.Placing.{all-top, least-count, chosen}
 use Rattle.theory.proofs.ListLaws.{least-top}
-use Rattle.theory.proofs.NumberLaws.{distinct}
-use Rattle.theory.proofs.RankLaws.{hashes, rank, rank-least, rank-chosen}
-use Rattle.theory.proofs.SettingsLaws.{Sound, sound, numbers-of-distinct}
+use Rattle.theory.proofs.RankLaws.{hashes, any-numbers, rank, rank-least, rank-chosen}
+use Rattle.theory.proofs.SettingsLaws.{Sound, sound}
 use Rattle.theory.proofs.PlacingLaws.{chosen-below}
 use Rattle.settings.specs.declared.Settings.{Settings}
 use Rattle.settings.specs.Checked.{paper}
-use Rattle.settings.proofs.Laws.{width-is, buckets-are, top-is, bounds}
-use Rattle.hash.specs.declared.Numbers.{Numbers}
-use Rattle.hash.specs.Numbering.{Holds}
+use Rattle.settings.proofs.Laws.{width-is, top-is, bounds}
 use Rattle.hash.specs.Table.{TableRight}
 use Rattle.placing.specs.Ready.{Ready}
-use Rattle.placing.specs.Counting.{Within}
 
-module _ (t : plain.Settings) (k : List ℕ) where
-  pub numbers-are : card-of t .numbers k ≡ numbers-of (2 ^ t .p) (t .k) (H k)
+-- ---- a key's bucket numbers are its hashes, repeats dropped
+module _ (t : plain.Settings) (h : ℕ) (key : List ℕ) (e : h ≡ H key) where
+  numbers-by : card-of t .numbers key ≡ numbers-of (card-of t .buckets) (t .k) h
   unfolding card-of
-  numbers-are = refl
+  numbers-by = rw e
 
-  pub numbers-apart : distinct (card-of t .numbers k) ≡ true
-  numbers-apart = rw numbers-are (numbers-of-distinct (2 ^ t .p) (t .k) (H k))
+  pub has-hashes : (m : ℕ) → m ≡ card-of t .buckets → (b : ℕ) → has b (hashes m h 0 (t .k)) ≡ has b (card-of t .numbers key)
+  has-hashes m m-is b = rw (numbers-by, m-is) (sym (any-numbers (eqb b) (card-of t .buckets) (t .k) h))
 
 all-top-by : (t : plain.Settings) (c : ℕ → ℕ) (key : List ℕ) → eqb (least-count (card-of t) c key) (t .top) ≡ all-top (card-of t) c key
 unfolding all-top least-count card-of
@@ -46,9 +43,8 @@ choice-by-rank t ok c m h best m-is is-least key e =
     let s = card-of t in
     let b = bounds t ok in
     let least-is : best ≡ least (s .top * 65536 + s .buckets) (map (rank c) (hashes (s .buckets) h 0 (t .k))) = is-least ∙ rw (m-is, top-is t) in
-    let by-hash : s .numbers key ≡ numbers-of (s .buckets) (t .k) h = numbers-are t key ∙ rw (e, buckets-are t) in
-    let low = rank-least s c (t .k) h best (omega arith) (omega arith) least-is key by-hash in
-    (rw low (all-top-by t c key), rank-chosen s c (t .k) h best (omega arith) (omega arith) least-is key by-hash)
+    let low = rank-least s c (t .k) h best (omega arith) (omega arith) least-is key (numbers-by t h key e) in
+    (rw low (all-top-by t c key), rank-chosen s c (t .k) h best (omega arith) (omega arith) least-is key (numbers-by t h key e))
 
 module _ (s : Settings) (t : List ℕ) (ready : Ready s t) where
   pub sound-card : Sound (card-of (paper s))
@@ -56,9 +52,6 @@ module _ (s : Settings) (t : List ℕ) (ready : Ready s t) where
 
   pub right-for : (k : List ℕ) → length k ≡ card-of (paper s) .width → TableRight (length k) t
   right-for k e = rw e (ready .right)
-
-  pub within : (r : Numbers) (k : List ℕ) (m : ℕ) → Holds r (card-of (paper s) .numbers k) → m ≡ card-of (paper s) .buckets → Within r m
-  within r k m h e = record { below = rw (h .is, e) (sound-card .numbers-below k); few = h .few; long = h .long }
 
   pub chosen-within : (c : ℕ → ℕ) (k : List ℕ) → all-top (card-of (paper s)) c k ≡ false → chosen (card-of (paper s)) c k < card-of (paper s) .buckets
   chosen-within c k e = chosen-below (card-of (paper s)) sound-card c k e

@@ -1,7 +1,7 @@
 -- What the loops over the records of an area ask: the next record and its key, and what is counted of the records, with one record more.
 -- By the last record of a list that grows at its end. Assumes nothing.
 use mathlib.Core.Path.{_≡_, refl, sym, ap, _∙_}
-use mathlib.Core.Bool.{Bool, true, false, cond, not, _&&_}
+use mathlib.Core.Bool.{Bool, cond, not, _&&_}
 use mathlib.Core.List.{List, [], _∷_, _++_, map-append}
 use Prim.Native.Nat.{ℕ, zero, suc, _+_, _-_, _*_, _<_, _≤_}
 use native.Mathlib.Nat.{add-zero, add-sub-cancel-left, add-comm, suc-mul, zero-mul, mul-le-mul-right}
@@ -15,11 +15,9 @@ use Rattle.theory.specs.Records.{Record, entries, record-at, records}
 use Rattle.theory.specs.Settings.{Card, record-size}
 use Rattle.theory.specs.Placing.{true-count, all-top, chosen, chooses, choosers}
 use Rattle.theory.proofs.ListLaws.{filter-len}
-use Rattle.theory.proofs.NumberLaws.{distinct}
 use Rattle.theory.proofs.ByteLaws.{length-records}
-use Rattle.placing.specs.Counting.{times}
 use Rattle.placing.specs.Worked.{nth, choice-by, choices-by, Chose}
-use Rattle.placing.proofs.CountingLaws.{count-append, count-end, times-has}
+use Rattle.placing.proofs.CountingLaws.{count-append, count-end}
 
 -- ---- the place of record i, where width and size are the card's
 module _ (s : Card) (width size at i : ℕ) (wide : width ≡ s .width) (sized : size ≡ record-size s) (here : at ≡ i * (s .width + 4)) where
@@ -87,12 +85,11 @@ module _ (s : Card) where
   true-count-append l m b = kept-append (λ k. has b (s .numbers k)) l m
 
   -- one record counted
-  pub count-more : ((k : List ℕ) → distinct (s .numbers k) ≡ true) → (w i at : ℕ) (a old c d : List ℕ) → at ≡ i * (w + 4)
-      → ((b : ℕ) → nth c b ≡ nth old b + true-count s (records w i a) b) → ((b : ℕ) → nth d b ≡ nth c b + times b (s .numbers (take w (drop at a))))
+  pub count-more : (w i at : ℕ) (a old c d : List ℕ) → at ≡ i * (w + 4) → ((b : ℕ) → nth c b ≡ nth old b + true-count s (records w i a) b)
+      → ((b : ℕ) → nth d b ≡ nth c b + cond (has b (s .numbers (take w (drop at a)))) 1 0)
       → (b : ℕ) → nth d b ≡ nth old b + true-count s (records w (i + 1) a) b
   unfolding true-count
-  count-more apart w i at a old c d e f g b =
-      rw (kept-more (λ k. has b (s .numbers k)) w i at a e) (omega (arith, f b, g b, times-has b (s .numbers (take w (drop at a))) (apart (take w (drop at a)))))
+  count-more w i at a old c d e f g b = rw (kept-more (λ k. has b (s .numbers k)) w i at a e) (omega (arith, f b, g b))
 
   -- ---- choosers, by counts c
   module _ (c : ℕ → ℕ) where
@@ -149,7 +146,3 @@ module _ (s : Card) where
           more = λ b. rw (kept-more (chooses s c b) w i at a here, ← top-is, ← choice-is) (omega (arith, so-far .more b, more b));
           choices = rw (stored, v-is, choices-more c w i at a here, so-far .choices, ← top-is, ← choice-is);
         }
-
-pub one-bound : (t : Bool) → cond {A = ℕ} t 1 0 ≤ 1
-one-bound true = omega arith
-one-bound false = omega arith

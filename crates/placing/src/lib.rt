@@ -1,5 +1,4 @@
 // Document 01, 'Placing': how many keys have a bucket among theirs, which bucket a key chooses, and which keys belong to the side.
-use hash::Numbers;
 use settings::Settings;
 use settings::counts::TrueCount;
 ghost use mathlib.Core.Path.{_≡_};
@@ -8,25 +7,15 @@ ghost use mathlib.Core.List.{List};
 ghost use Prim.Native.Nat.{ℕ, _+_, _*_, _<_, _≤_, min};
 ghost use lib.Dec.{eqb};
 ghost use lib.ListN.{length, drop, replicate};
+ghost use Rattle.theory.specs.Lists.{has};
 ghost use Rattle.theory.specs.Records.{Record, records};
 ghost use Rattle.theory.specs.Hash.{H as H-of};
 ghost use Rattle.theory.specs.Settings.{allowed, card-of};
-ghost use Rattle.theory.specs.Placing.{true-count, all-top, chosen, choosers};
+ghost use Rattle.theory.specs.Placing.{true-count, all-top, chosen};
 ghost use Rattle.theory.specs.Ledger.{side-need-of};
 ghost use Rattle.settings.specs.Checked.{paper};
-ghost use Rattle.hash.specs.Numbering.{list-of, Holds};
 ghost use Rattle.placing.specs.Ready.{Ready, Choosing, Placing};
-ghost use Rattle.placing.specs.Counting.{Within, times};
 ghost use Rattle.placing.specs.Worked.{nth, Placed, Chose, side-by-choice, parts};
-
-// "A key's bucket numbers are its first k hashes, repeats dropped."
-pub fn numbers(s: Settings, t: &[u64], key: &[u8]) -> Numbers
-    requires { ⌜ Ready s (now t) × (length (now key) ≡ card-of (paper s) .width) ⌝ }
-    ensures { λ r. ⌜ Holds r (card-of (paper s) .numbers (now (key .entry))) ⌝ }
-{
-    let h = hash::h_lent(t, key);
-    hash::numbers_of(h, s.p, s.k)
-}
 
 pub fn zero_counts(c: &mut [u16])
     ensures { λ _. ⌜ now (c .exit) ≡ replicate (length (now (c .entry))) 0 ⌝ }
@@ -38,18 +27,31 @@ pub fn zero_counts(c: &mut [u16])
     }
 }
 
-// One more for each of a key's bucket numbers.
-fn raise_all(counts: &mut [u16], ns: Numbers)
-    requires { ⌜ Within ns (length (now counts)) × ((b : ℕ) → nth (now counts) b ≤ 60000) ⌝ }
-    ensures { λ _. ⌜ ((b : ℕ) → nth (now (counts .exit)) b ≡ nth (now (counts .entry)) b + times b (list-of ns)) ⌝ }
+fn pick(test: bool, a: usize, b: usize) -> usize
+    ensures { λ r. ⌜ r ≡ cond test a b ⌝ }
 {
-    let at = ns.at;
-    let n = ns.count;
-    let mut i: usize = 0;
-    while i < n {
-        let b = at[i] as usize;
-        counts[b] = counts[b] + 1;
-        i += 1;
+    if test { a } else { b }
+}
+
+// One more for each of a key's bucket numbers, where its H is h: "its first k hashes, repeats dropped". No branch: a repeated hash adds 0.
+fn raise_at(s: Settings, h: u64, counts: &mut [u16])
+    requires { ⌜ (allowed (paper s) ≡ true) × (length (now counts) ≡ card-of (paper s) .buckets) × ((b : ℕ) → nth (now counts) b ≤ 60000) ⌝ }
+    ensures { λ _. ⌜ ((key : List ℕ) → h ≡ H-of key
+        → (b : ℕ) → nth (now (counts .exit)) b ≡ nth (now (counts .entry)) b + cond (has b (card-of (paper s) .numbers key)) 1 0) ⌝ }
+{
+    let k = s.k;
+    let m = s.buckets() as u64;
+    // H from hash j on
+    let mut rest = h;
+    let mut j: usize = 0;
+    while j < k {
+        let b = rest % m;
+        let at = b as usize;
+        let more = pick(hash::repeats(h, j, m, b), 0, 1) as u16;
+        let count = TrueCount(counts[at]).raised(more);
+        counts[at] = count.0;
+        rest = rest / 65536;
+        j += 1;
     }
 }
 
@@ -64,8 +66,8 @@ pub fn count_more(s: Settings, t: &[u64], counts: &mut [u16], area: &[u8], n: us
     let mut at: usize = 0;
     while i < n {
         let end = at + width;
-        let ns = numbers(s, t, &area[at..end]);
-        raise_all(&mut counts[..], ns);
+        let h = hash::h_lent(t, &area[at..end]);
+        raise_at(s, h, counts);
         at = at + size;
         i += 1;
     }
@@ -133,12 +135,6 @@ fn add_choice(choosers: &mut [u16], choice: Choice)
     choosers[b] = choosers[b] + 1;
 }
 
-fn pick(test: bool, a: usize, b: usize) -> usize
-    ensures { λ r. ⌜ r ≡ cond test a b ⌝ }
-{
-    if test { a } else { b }
-}
-
 // How many of n records choose each bucket, on top of what is in the second half of work; the true counts are in the first.
 // Each record's choice is kept as one number: m where its counts are all top or more.
 fn choose_more(
@@ -186,12 +182,6 @@ pub fn aside(s: Settings, m: usize, work: &[u16], choice: u16) -> bool
     let at = m + bucket;
     let choosers = wide(work[at]);
     s.room < choosers
-}
-
-fn one(b: bool) -> usize
-    ensures { λ r. ⌜ r ≡ cond b 1 0 ⌝ }
-{
-    if b { 1 } else { 0 }
 }
 
 // The true counts of three areas' records, from zeros.
@@ -270,7 +260,7 @@ pub fn side_need(s: Settings, m: usize, work: &[u16], kept: &[u16]) -> usize
     let mut need: usize = 0;
     let mut i: usize = 0;
     while i < kept.len() {
-        need = need + one(aside(s, m, work, kept[i]));
+        need = need + pick(aside(s, m, work, kept[i]), 1, 0);
         i += 1;
     }
     need

@@ -64,4 +64,11 @@ impl TrueCount {
     {
         (self.0 as u64) * 65536 + bucket
     }
+
+    pub fn raised(self, more: u16) -> TrueCount
+        requires { ⌜ self .0 + more < 65536 ⌝ }
+        ensures { λ r. ⌜ r .0 ≡ self .0 + more ⌝ }
+    {
+        TrueCount(self.0 + more)
+    }
 }

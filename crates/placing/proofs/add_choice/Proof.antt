@@ -2,7 +2,7 @@
 use native.Mathlib.Nat.{add-zero}
 use native.Mathlib.Omega.{arith}
 use borrow.Author.Needs.{needs}
-use Rattle.placing.proofs.CountingLaws.{raise-one}
+use Rattle.placing.proofs.CountingLaws.{raise}
 use Rattle.placing.proofs.add_choice.Statement.{statement}
 use Rattle.placing.proofs.add_choice.Tie as tie
 
@@ -30,7 +30,7 @@ same-length c = search needs
 returns-2 : tie.Need-returns-2
 returns-2 c =
     let args = c .before .before .args in
-    λ b. rw (c .before .if1 .left) (raise-one (args .choosers .now) (args .choice .bucket) (c .before .before .pre .0 (c .before .if1 .left)) b)
+    λ b. rw (c .before .if1 .left) (raise (args .choosers .now) (args .choice .bucket) 1 (c .before .before .pre .0 (c .before .if1 .left)) b)
 
 pub add-choice-spec : {M : Type 1} → statement M
 add-choice-spec =

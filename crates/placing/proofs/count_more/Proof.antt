@@ -1,122 +1,117 @@
--- `placing::count_more` meets its contract: after i records each count is what it was and the true count of these. Assumes nothing.
+-- `placing::count_more` meets its contract: after i records each count is what it was and the true count of these.
 use mathlib.Core.Path.{_≡_, refl, sym, ap, _∙_}
+use mathlib.Core.Bool.{cond}
 use mathlib.Core.List.{List}
-use Prim.Native.Nat.{ℕ, _≤_, _-_, _+_, _*_}
+use Prim.Native.Nat.{ℕ, _+_, _-_, _*_, _≤_}
 use native.Mathlib.Nat.{add-zero}
 use native.Mathlib.Omega.{arith}
 use borrow.Author.Needs.{needs}
-use lib.ListN.{length}
+use lib.ListN.{length, take, drop}
+use Rattle.theory.specs.Lists.{has}
 use Rattle.theory.specs.Records.{records}
-use Rattle.theory.specs.Settings.{card-of}
+use Rattle.theory.specs.Settings.{Card, card-of}
 use Rattle.theory.specs.Placing.{true-count}
 use Rattle.settings.specs.Checked.{paper}
-use Rattle.placing.specs.Counting.{times}
+use Rattle.settings.specs.declared.Settings.{Settings}
 use Rattle.placing.specs.Worked.{nth}
 use Rattle.placing.proofs.RecordLaws.{record-within, next-at, key-lent, key-length, count-none, count-bound, count-more}
-use Rattle.placing.proofs.ReadyLaws.{numbers-apart, within}
+use Rattle.placing.proofs.ReadyLaws.{right-for}
 use Rattle.placing.proofs.count_more.Statement.{statement}
 use Rattle.placing.proofs.count_more.Tie as tie
 
+-- after i records
+record Passed (s : Settings) (counts₀ area : List ℕ) (n : ℕ) (counts : List ℕ) (i at : ℕ) : Type 0 where
+  within : i ≤ n
+  here : at ≡ i * (card-of (paper s) .width + 4)
+  same : length counts ≡ length counts₀
+  counted : (b : ℕ) → nth counts b ≡ nth counts₀ b + true-count (card-of (paper s)) (records (card-of (paper s) .width) i area) b
+
 abbrev Inv-loop : tie.InvT-loop
-Inv-loop s t counts₀ area n width size i₀ at₀ counts i at =
-    (i ≤ n) × (at ≡ i * (card-of (paper s) .width + 4)) × (length counts ≡ length counts₀)
-    × ((b : ℕ) → nth counts b ≡ nth counts₀ b + true-count (card-of (paper s)) (records (card-of (paper s) .width) i area) b)
+Inv-loop s t counts₀ area n width size i₀ at₀ counts i at = Passed s counts₀ area n counts i at
 
 abbrev μ-loop : tie.MeasureT-loop
 μ-loop s t counts₀ area n width size i₀ at₀ counts i at = n - i
 
--- the record at hand lies within the area
-room : (c : tie.In-loop Inv-loop μ-loop) → (c .before .loop .at + c .before .before .before .width .result ≤ length (c .before .before .before .before .before .before .before .args .area .now)) × (c .before .loop .at + c .before .before .record-size .result ≤ length (c .before .before .before .before .before .before .before .args .area .now))
-room c =
-    let start = c .before .before .before .before .before .before .before in
-    let width = c .before .before .before .width in
-    let record-size = c .before .before .record-size in
-    let loop = c .before .loop in
-    let args = start .args in
-    let s = card-of (paper (args .s)) in
-    record-within s (width .result) (record-size .result) (loop .at) (loop .i) (width .ensures) (record-size .ensures) (loop .inv .1) (args .n)
-    (length (args .area .now)) (start .pre .2) (c .loop-test .taken)
+-- ---- the sizes are known
+module _ (c : tie.After-record-size Inv-loop μ-loop) where
+  abbrev start : tie.Start Inv-loop μ-loop
+  start = c .before .before .before .before .before
 
-width-requires : tie.Need-width-requires Inv-loop μ-loop
-width-requires c κs = search needs
+  abbrev s : Card
+  s = card-of (paper (start .args .s))
 
-record-size-requires : tie.Need-record-size-requires Inv-loop μ-loop
-record-size-requires c κs = search needs
+  abbrev area : List ℕ
+  area = start .args .area .now
+
+  abbrev width : ℕ
+  width = c .before .width .result
+
+  width-is : width ≡ s .width
+  width-is = c .before .width .ensures
+
+-- ---- in the loop: record i lies within the area
+module _ (c : tie.In-loop Inv-loop μ-loop) where
+  abbrev sized : tie.After-record-size Inv-loop μ-loop
+  sized = c .before .before
+
+  room : (c .before .loop .at + width sized ≤ length (area sized)) × (c .before .loop .at + sized .record-size .result ≤ length (area sized))
+  room =
+      record-within (s sized) _ _ _ _ (width-is sized) (sized .record-size .ensures) (c .before .loop .inv .here) _ (length (area sized))
+      (start sized .pre .2) (c .loop-test .taken)
+
+  -- its key, as it is lent
+  abbrev key : List ℕ
+  key = take (c .before .loop .at + width sized - c .before .loop .at) (drop (c .before .loop .at) (area sized))
+
+  key-long : length key ≡ s sized .width
+  key-long = key-length (c .before .loop .at) (width sized) _ (area sized) (width-is sized) (room .0)
+
+  key-is : key ≡ take (s sized .width) (drop (c .before .loop .at) (area sized))
+  key-is = key-lent (c .before .loop .at) (width sized) _ (area sized) (width-is sized)
 
 loop-holds : tie.Need-loop-holds Inv-loop μ-loop
 loop-holds c =
-    let args = c .before .before .before .before .before .args in
-    let s = card-of (paper (args .s)) in
-    (omega arith, omega arith, refl, λ b. sym (rw (count-none s (s .width) (args .area .now) b) (add-zero _)))
+    record {
+      within = omega arith;
+      here = omega arith;
+      same = refl;
+      counted = λ b. sym (rw (count-none (s c) (s c .width) (area c) b) (add-zero _));
+    }
 
-add-end : tie.Need-add-end Inv-loop μ-loop
-add-end c = omega (arith, room c .0)
-
-sub-numbers : tie.Need-sub-numbers Inv-loop μ-loop
-sub-numbers c = omega (arith, room c .0)
-
-part-numbers-start : tie.Need-part-numbers-start Inv-loop μ-loop
-part-numbers-start c = omega (arith, room c .0)
-
-part-numbers-end : tie.Need-part-numbers-end Inv-loop μ-loop
-part-numbers-end c = omega (arith, room c .0)
-
-numbers-requires : tie.Need-numbers-requires Inv-loop μ-loop
-numbers-requires c κs =
-    let start = c .before .before .before .before .before .before .before .before in
-    let width = c .before .before .before .before .width in
-    let loop = c .before .before .loop in
-    let args = start .args in
-    let w = card-of (paper (args .s)) .width in
-    (start .pre .0, key-length (loop .at) (width .result) w (args .area .now) (width .ensures) (omega (arith, room (c .before) .0)))
-
-raise-all-requires : tie.Need-raise-all-requires Inv-loop μ-loop
-raise-all-requires c κs =
-    let args = c .before .before .before .before .before .before .before .before .before .before .args in
-    let pre = c .before .before .before .before .before .before .before .before .before .before .pre in
-    let loop = c .before .before .before .before .loop in
-    let s = card-of (paper (args .s)) in
-    let counts = loop .counts in (
-      within (args .s) (args .t .now) (pre .0) (c .before .numbers .result) _ (length counts) (c .before .numbers .ensures) (loop .inv .2 ∙ pre .1),
-      λ b. omega (arith, loop .inv .3 b, pre .3 b, count-bound s (s .width) (loop .i) (args .area .now) b),
+raise-at-requires : tie.Need-raise-at-requires Inv-loop μ-loop
+raise-at-requires c κs =
+    let at = c .before .before .before in
+    let whole = sized at in
+    let loop = at .before .loop in
+    let pre = start whole .pre in (
+      pre .0 .ok,
+      loop .inv .same ∙ pre .1,
+      λ b. omega (arith, loop .inv .counted b, loop .inv .within, pre .3 b, count-bound (s whole) (s whole .width) (loop .i) (area whole) b),
     )
-
-add-at : tie.Need-add-at Inv-loop μ-loop
-add-at c = omega (arith, room (c .before .before .before .before .before .before) .1)
-
-add-i : tie.Need-add-i Inv-loop μ-loop
-add-i c = omega arith
-
-loop-less : tie.Need-loop-less Inv-loop μ-loop
-loop-less c = omega arith
 
 loop-again : tie.Need-loop-again Inv-loop μ-loop
 loop-again c =
-    let start = c .before .before .before .before .before .before .before .before .before .before .before .before .before in
-    let width = c .before .before .before .before .before .before .before .before .before .width in
-    let record-size = c .before .before .before .before .before .before .before .before .record-size in
-    let numbers = c .before .before .before .before .numbers in
-    let raise-all = c .before .before .raise-all in
-    let args = start .args in
-    let loop = c .before .before .before .before .before .before .before .loop in
-    let s = card-of (paper (args .s)) in
-    let area = args .area .now in
-    let at = loop .at in
-    let key = numbers .ensures .is ∙ ap (s .numbers) (key-lent at (width .result) (s .width) area (width .ensures)) in (
-      omega arith,
-      next-at s (width .result) (record-size .result) (loop .at) (loop .i) (width .ensures) (record-size .ensures) (loop .inv .1),
-      raise-all .kept .0 ∙ loop .inv .2,
-      count-more s (numbers-apart (paper (args .s))) (s .width) (loop .i) at area (args .counts .now) (loop .counts) (raise-all .last .0) (loop .inv .1) (loop .inv .3)
-          (λ b. raise-all .ensures b ∙ ap (λ (k : List ℕ). nth (loop .counts) b + times b k) key),
-    )
-
-same-length : tie.Need-same-length Inv-loop μ-loop
-same-length c = omega arith
+    let hashed = c .before .before .before .before in
+    let at = hashed .before .before in
+    let whole = sized at in
+    let loop = at .before .loop in
+    let raised = c .before .before .raise-at in
+    let old = start whole .args .counts .now in
+    let by-key = raised .ensures (key at) (hashed .h-lent .ensures (right-for _ _ (start whole .pre .0) (key at) (key-long at))) in
+    record {
+      within = omega (arith, at .loop-test .taken);
+      here = next-at (s whole) _ _ _ _ (width-is whole) (whole .record-size .ensures) (loop .inv .here);
+      same = raised .kept .1 .1 .0 ∙ loop .inv .same;
+      counted =
+          count-more (s whole) _ (loop .i) _ (area whole) old (loop .counts) (raised .last .1 .1 .0) (loop .inv .here) (loop .inv .counted)
+          (λ b. by-key b ∙ ap (λ (k : List ℕ). nth (loop .counts) b + cond {A = ℕ} (has b (s whole .numbers k)) 1 0) (key-is at));
+    }
 
 returns : tie.Need-returns Inv-loop μ-loop
 returns c =
     let loop = c .before .loop in
-    let e : loop .i ≡ c .before .before .before .before .before .before .before .args .n = omega arith in λ b. loop .inv .3 b ∙ rw e
+    let e : loop .i ≡ start (c .before .before) .args .n = omega (arith, loop .inv .within) in
+    λ b. loop .inv .counted b ∙ rw e
 
 pub count-more-spec : {M : Type 1} → statement M
 count-more-spec =
@@ -124,18 +119,18 @@ count-more-spec =
     (tie.spec
     Inv-loop
     μ-loop
-    width-requires
-    record-size-requires
+    (λ c κs. search needs)
+    (λ c κs. search needs)
     loop-holds
-    add-end
-    sub-numbers
-    part-numbers-start
-    part-numbers-end
-    numbers-requires
-    raise-all-requires
-    add-at
-    add-i
-    loop-less
+    (λ c. omega (arith, room c .0))
+    (λ c. omega arith)
+    (λ c. omega arith)
+    (λ c. omega (arith, room c .0))
+    (λ c κs. omega (arith, key-long (c .before), start (sized (c .before)) .pre .0 .long))
+    raise-at-requires
+    (λ c. omega (arith, room (c .before .before .before .before .before .before) .1))
+    (λ c. omega arith)
+    (λ c. omega arith)
     loop-again
-    same-length
+    (λ c. c .before .loop .inv .same)
     returns)

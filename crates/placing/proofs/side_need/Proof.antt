@@ -13,8 +13,7 @@ use Rattle.theory.proofs.SettingsLaws.{sound}
 use Rattle.settings.specs.Checked.{paper}
 use Rattle.settings.specs.declared.Settings.{Settings}
 use Rattle.placing.specs.Worked.{nth, side-by-choice}
-use Rattle.placing.proofs.CountingLaws.{count-take}
-use Rattle.placing.proofs.RecordLaws.{one-bound}
+use Rattle.placing.proofs.CountingLaws.{one-bound, count-take}
 use Rattle.placing.proofs.WorkLaws.{need-kept}
 use Rattle.placing.proofs.side_need.Statement.{statement}
 use Rattle.placing.proofs.side_need.Tie as tie
@@ -40,10 +39,10 @@ loop-again c =
     let args = start .args in
     let loop = c .before .before .before .before .loop in
     let bound = one-bound (c .before .aside .result) in
-    let one : c .one .result ≡ cond {A = ℕ} (aside (args .s) (args .m) (args .work .now) (nth (args .kept .now) (loop .i))) 1 0
-    = c .one .ensures ∙ ap (λ (t : Bool). cond {A = ℕ} t 1 0) (c .before .aside .ensures) in
+    let one : c .pick .result ≡ cond {A = ℕ} (aside (args .s) (args .m) (args .work .now) (nth (args .kept .now) (loop .i))) 1 0
+    = c .pick .ensures ∙ ap (λ (t : Bool). cond {A = ℕ} t 1 0) (c .before .aside .ensures) in
     let more = count-take (aside (args .s) (args .m) (args .work .now)) (args .kept .now) (loop .i) (c .before .before .before .loop-test .taken) in
-    record { within = omega arith; few = omega (arith, c .one .ensures, bound); counted = omega (arith, one, more, loop .inv .counted) }
+    record { within = omega arith; few = omega (arith, c .pick .ensures, bound); counted = omega (arith, one, more, loop .inv .counted) }
 
 returns : tie.Need-returns Inv-loop μ-loop
 returns c =
@@ -64,7 +63,7 @@ side-need-spec =
     (λ c. omega arith)
     (λ c κs. let p = c .before .before .before .before .before .pre in (p .1, p .2, p .3 (c .before .before .loop .i)))
     (λ c κs. tt)
-    (λ c. omega (arith, c .one .ensures, one-bound (c .before .aside .result), c .before .before .before .before .loop .inv .few))
+    (λ c. omega (arith, c .pick .ensures, one-bound (c .before .aside .result), c .before .before .before .before .loop .inv .few))
     (λ c. omega arith)
     (λ c. omega arith)
     loop-again
