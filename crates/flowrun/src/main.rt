@@ -1,6 +1,6 @@
 // Program flowrun: reads calls of 18 bytes from standard input and prints a line for each. It only reads and writes, in blocks of 512 calls;
 // crate lines runs the calls and makes their lines.
-ghost use Prim.Native.Nat.{_≤_, _<_};
+ghost use Prim.Native.Nat.{_<_};
 
 // The next block of calls, numbered from a first number on; whether more may follow.
 fn run_block(

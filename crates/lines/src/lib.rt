@@ -8,7 +8,6 @@ ghost use mathlib.Core.Path.{_≡_};
 ghost use mathlib.Core.List.{List};
 ghost use Prim.Native.Nat.{ℕ, _+_, _-_, _*_, _≤_, _<_, min};
 ghost use lib.ListN.{length};
-ghost use Rattle.theory.specs.Layout.{Areas};
 ghost use Rattle.theory.specs.Flowrun as flowrun;
 ghost use Rattle.theory.specs.Lookup.{bare};
 ghost use Rattle.theory.specs.Flowrun.{letter-call, line-text, Printed, print-bytes, print-lines, call-count};

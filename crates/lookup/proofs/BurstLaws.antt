@@ -1,16 +1,16 @@
 -- Laws of a burst: a pass that stores a number for each key, the key that it is handed, and what the counters say, kept as one number.
 use mathlib.Core.Path.{_≡_, refl, sym, ap, _∙_}
-use mathlib.Core.Bool.{Bool, true, false, cond, not, _&&_}
+use mathlib.Core.Bool.{Bool, true, false, cond, _&&_}
 use mathlib.Core.List.{List, [], map}
-use Prim.Native.Nat.{ℕ, suc, _+_, _-_, _*_, _/_, _%_, _^_, _≤_, _<_}
+use Prim.Native.Nat.{ℕ, _+_, _-_, _*_, _/_, _%_, _^_, _≤_, _<_}
 use native.Mathlib.Nat.{zero-add, zero-mul, add-sub-cancel-left, suc-mul, mul-le-mul-right, div-add-mod', mul-div-left, mul-mod-left}
 use native.Mathlib.Numerals.{add-one}
 use native.Mathlib.Omega.{arith}
 use lib.Dec.{eqb, ltb}
-use borrow.Author.Tests.{eqb-true, eqb-false, eq-eqb, ne-eqb, lt-ltb, le-ltb}
+use borrow.Author.Tests.{eqb-true, eqb-false, eq-eqb, ne-eqb, ltb-true, ltb-false, lt-ltb, le-ltb}
 use lib.Pow.{pow-mono}
-use lib.ListN.{length, take, drop, getD, set, length-drop, length-set, length-map}
-use lib.Seq.{getD-set-same, getD-set-other, ext-getD, length-take-le, take-all}
+use lib.ListN.{length, take, drop, getD, set, length-drop, length-set, length-map, List·getD-eq-default}
+use lib.Seq.{getD-take, getD-drop, getD-set-same, getD-set-other, ext-getD, length-take-le, take-all}
 use Rattle.theory.specs.Lists.{filter, least, upto}
 use Rattle.theory.specs.Hash.{H, numbers-of}
 use Rattle.theory.specs.Settings as plain
@@ -19,19 +19,20 @@ use Rattle.theory.specs.Placing.{least-count, chosen}
 use Rattle.theory.specs.Lookup.{Answer, bare, counter, answer-at, search-areas, driver-number}
 use Rattle.theory.specs.Layout.{Areas}
 use Rattle.theory.specs.Ledger.{Step}
-use Rattle.theory.proofs.ListLaws.{by-test, length-upto, getD-map-upto, all-upto, map-cong, least-le}
+use Rattle.theory.proofs.ListLaws.{and-right, by-test, length-upto, getD-map-upto, all-upto, map-cong, least-le}
 use Rattle.theory.proofs.SettingsLaws.{ranges}
-use Rattle.hash.specs.Table.{H-by}
+use Rattle.hash.specs.Table.{TableRight, H-by}
+use Rattle.hash.proofs.KeyLaws.{by-right}
 use Rattle.settings.specs.declared.Settings.{Settings}
 use Rattle.settings.specs.Checked.{paper}
 use Rattle.lookup.specs.declared.counters.Choice.{Choice}
 use Rattle.lookup.specs.Choosing.{card-at, ChoiceOf}
 use Rattle.lookup.specs.Places.{ChoiceFits, place-by}
 use Rattle.lookup.specs.declared.judging.Judged.the-variants.{Ready, Refused}
-use Rattle.lookup.specs.Bursts.{key-at, each, judged-burst, packed-of, unpacked-of, choice-at, number-by, number-at, Burst, burst-of}
+use Rattle.lookup.specs.Bursts.{key-at, each, judged-burst, packed-of, unpacked-of, choice-at, number-by, number-at, burst-of}
 use Rattle.lookup.specs.Answers.{driver-of, search-of, judged-of}
 use Rattle.lookup.proofs.PlaceLaws.{choice-fits, place-by-is, search-is, hashed}
-use Rattle.lookup.proofs.JudgeLaws.{refused-or, refused-is, fine, passes, search-performs}
+use Rattle.lookup.proofs.JudgeLaws.{lengths-right, burst-lengths, fine-burst, refused-or, refused-is, fine, passes, search-performs}
 
 -- ---- a number for each key: one of them, how many, and two alike
 pub each-at : (f : ℕ → ℕ) (n j : ℕ) → j < n → getD (each f n) j 0 ≡ f j
@@ -221,3 +222,55 @@ module _ (t : plain.Settings) (clipped buckets side key : List ℕ) where
       ∙ ap (λ (u : plain.Settings). driver-number (search-areas (card-of u) clipped buckets side key)) (right .same)
       ∙ searched (search-areas (card-of t) clipped buckets side key)
       (passes t clipped buckets side key c e bare (search-areas (card-of t) clipped buckets side key))
+
+-- ---- with the right table each answer of an accepted burst is the search door's number of its key
+module _ (table clipped buckets side keys before : List ℕ) (t : plain.Settings) (c : Settings)
+    (ready : judged-burst table t clipped buckets side keys (length before) ≡ Ready c) where
+  abbrev key : ℕ → List ℕ
+  key j = key-at (card-of t .width) keys j
+
+  right-length : (j : ℕ) → j < length before → length (key j) ≡ card-of t .width
+  right-length j lt =
+      let good = fine-burst table clipped buckets side keys (length before) t c ready in
+      let w = card-of t .width in
+      let size : length keys ≡ length before * w = good .keys-size ∙ ap (λ (u : plain.Settings). length before * card-of u .width) (good .same) in
+      length-take-le w (drop (j * w) keys) (rw length-drop (omega (arith, size, suc-mul j w, mul-le-mul-right w lt)))
+
+  judged-alone : (j : ℕ) → j < length before → judged-of t clipped buckets side (key j) ≡ Ready c
+  unfolding judged-of judged-burst
+  judged-alone j lt =
+      let wide = eq-eqb (length (key j)) (card-of t .width) (right-length j lt) in
+      by-test (plain.allowed t)
+      (λ a. by-test (burst-lengths table clipped buckets side keys (length before) t)
+      (λ l. let l′ = and-right (eqb (length table) (256 * card-of t .width)) (lengths-right t clipped buckets side) l in
+      rw (a, l′, wide) (by-test (eqb (length keys) (length before * card-of t .width)) (λ w. rw (a, l, w) at ready)
+      (λ w. let e′ = rw (a, l, w) at ready in let z : _≡_ {A = ℕ} 0 1 = cc in absurd (omega arith))))
+      (λ l. let e′ = rw (a, l) at ready in let z : _≡_ {A = ℕ} 0 1 = cc in absurd (omega arith)))
+      (λ a. let e′ = rw a at ready in let z : _≡_ {A = ℕ} 0 1 = cc in absurd (omega arith))
+
+  module _ (right : TableRight (card-of t .width) table) (bytes : (i : ℕ) → getD keys i 0 < 256) where
+    key-bytes : (j : ℕ) → j < length before → (i : ℕ) → getD (key j) i 0 < 256
+    key-bytes j lt i =
+        let w = card-of t .width in
+        by-test (ltb i w)
+        (λ e. rw (getD-take w (drop (j * w) keys) i 0 (ltb-true i w e), getD-drop (j * w) keys i 0) (bytes (j * w + i)))
+        (λ e. let long = right-length j lt in
+        rw (List·getD-eq-default (key j) 0 {n = i} (omega (arith, long, ltb-false i w e))) (omega arith))
+
+    by-key : (j : ℕ) → j < length before → number-at t clipped buckets side (key j) (H-by table (key j)) ≡ search-of t clipped buckets side (key j)
+    unfolding number-at
+    by-key j lt =
+        let w = card-of t .width in
+        let h = by-right w table right (key j) (omega (arith, right-length j lt)) (key-bytes j lt) in
+        ap driver-number (hashed t clipped buckets side (key j) (H-by table (key j)) h)
+        ∙ searched t clipped buckets side (key j) (search-areas (card-of t) clipped buckets side (key j))
+        (passes t clipped buckets side (key j) c (judged-alone j lt) bare (search-areas (card-of t) clipped buckets side (key j)))
+
+    pub burst-searches : burst-of table t clipped buckets side keys before
+        ≡ record { number = 0; answers = each (λ j. search-of t clipped buckets side (key j)) (length before) }
+    burst-searches =
+        let same = fine-burst table clipped buckets side keys (length before) t c ready .same in
+        let of : plain.Settings → ℕ → ℕ = λ u j. number-at u clipped buckets side (key-at (card-of u .width) keys j) (H-by table (key-at (card-of u .width) keys j)) in
+        sym (burst-answered table clipped buckets side keys before t c ready same (each (λ j. search-of t clipped buckets side (key j)) (length before))
+        (each-same (λ j. search-of t clipped buckets side (key j)) (of t) (length before)
+        (λ j lt. sym (by-key j lt)) ∙ ap (λ (u : plain.Settings). each (of u) (length before)) (sym same)))

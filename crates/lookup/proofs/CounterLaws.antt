@@ -10,7 +10,7 @@ use lib.Dec.{ltb}
 use lib.Pow.{pow-pos, pow-mono}
 use borrow.Author.Tests.{ltb-true, ltb-false, lt-ltb, le-ltb}
 use Rattle.theory.specs.Lists.{any, least}
-use Rattle.theory.specs.Hash.{hash, numbers-of, hashes}
+use Rattle.theory.specs.Hash.{hash, hashes}
 use Rattle.theory.specs.Settings.{Settings, allowed, card-of, clipped-length}
 use Rattle.theory.specs.Lookup.{counter}
 use Rattle.theory.proofs.SettingsLaws.{ranges, sound}

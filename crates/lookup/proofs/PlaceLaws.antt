@@ -9,7 +9,7 @@ use lib.Dec.{eqb, ltb, leb}
 use borrow.Author.Tests.{lt-ltb, le-ltb, ltb-false, eq-eqb, ne-eqb, leb-true, leb-false}
 use lib.ListN.{length, take, drop, getD, length-take, length-drop}
 use lib.Seq.{take-all, getD-take, getD-drop, drop-drop}
-use Rattle.theory.specs.Lists.{any, all, least}
+use Rattle.theory.specs.Lists.{any, least}
 use Rattle.theory.specs.Hash.{H, numbers-of}
 use Rattle.theory.specs.Records.{count-of}
 use Rattle.theory.specs.Settings.{Settings, allowed, card-of, record-size, bucket-size, side-length}

@@ -1,9 +1,9 @@
 -- A burst of searches: many keys, one after the other in a lent part, each with a number for its answer.
-use mathlib.Core.Bool.{Bool, cond, not, _&&_}
+use mathlib.Core.Bool.{cond, not, _&&_}
 use mathlib.Core.List.{List, [], map}
-use Prim.Native.Nat.{ℕ, _+_, _*_, _/_, _%_, _<_}
+use Prim.Native.Nat.{ℕ, _+_, _*_, _/_, _%_}
 use lib.Dec.{eqb, ltb}
-use lib.ListN.{length, take, drop, getD}
+use lib.ListN.{length, take, drop}
 use Rattle.theory.specs.Lists.{all, any, upto}
 use Rattle.theory.specs.Hash.{numbers-of}
 use Rattle.theory.specs.Settings as plain
@@ -16,7 +16,7 @@ use Rattle.lookup.specs.declared.counters.Choice.{Choice}
 use Rattle.lookup.specs.declared.judging.Judged.{Judged}
 use Rattle.lookup.specs.declared.judging.Judged.the-variants.{Ready, Refused}
 use Rattle.lookup.specs.Choosing.{card-at}
-use Rattle.lookup.specs.Places.{place-by, ChoiceFits}
+use Rattle.lookup.specs.Places.{place-by}
 use Rattle.lookup.specs.Answers.{lookup-areas}
 
 -- key j of a burst, of keys of w bytes

@@ -1,9 +1,10 @@
 // The counters of a key: what they say of where it is looked for.
 use settings::Settings;
 use settings::counts::ClippedCount;
+use settings::counts::lower;
 ghost use mathlib.Core.Path.{_≡_};
 ghost use mathlib.Core.Bool.{true};
-ghost use Prim.Native.Nat.{_/_, _<_, min};
+ghost use Prim.Native.Nat.{_/_, _<_};
 ghost use lib.ListN.{length};
 ghost use Rattle.theory.specs.Settings.{allowed, card-of, clipped-length};
 ghost use Rattle.theory.specs.Lookup as plain;
@@ -23,12 +24,6 @@ pub fn counter(clipped: &[u8], b: usize) -> ClippedCount
     ensures { λ r. ⌜ (r .0 ≡ plain.counter (now (clipped .entry)) b) × (r .0 < 16) ⌝ }
 {
     ClippedCount::of_byte(clipped[b / 2], b)
-}
-
-fn lower(a: u64, b: u64) -> u64
-    ensures { λ r. ⌜ r ≡ min a b ⌝ }
-{
-    if a < b { a } else { b }
 }
 
 // The least rank of the counters has the least counter and the lowest bucket with it: no branch. Repeated hashes are read again and alter nothing.

@@ -1,10 +1,11 @@
 // Document 01, 'Placing': how many keys have a bucket among theirs, which bucket a key chooses, and which keys belong to the side.
 use settings::Settings;
 use settings::counts::TrueCount;
+use settings::counts::lower;
 ghost use mathlib.Core.Path.{_≡_};
 ghost use mathlib.Core.Bool.{true, false, not, cond, _&&_};
 ghost use mathlib.Core.List.{List};
-ghost use Prim.Native.Nat.{ℕ, _+_, _*_, _<_, _≤_, min};
+ghost use Prim.Native.Nat.{ℕ, _+_, _*_, _<_, _≤_};
 ghost use lib.Dec.{eqb};
 ghost use lib.ListN.{length, drop, replicate};
 ghost use Rattle.theory.specs.Lists.{has};
@@ -77,12 +78,6 @@ pub fn count_more(s: Settings, t: &[u64], counts: &mut [u16], area: &[u8], n: us
 struct Choice {
     all_top: bool,
     bucket: usize,
-}
-
-fn lower(a: u64, b: u64) -> u64
-    ensures { λ r. ⌜ r ≡ min a b ⌝ }
-{
-    if a < b { a } else { b }
 }
 
 // The choice of a key whose H is h: the least rank has the least count, or top where all are top or more, and the lowest bucket with it.

@@ -22,6 +22,13 @@ fn pick(test: bool, a: u64, b: u64) -> u64
     if test { a } else { b }
 }
 
+// The lower of two ranks (below): no branch.
+pub fn lower(a: u64, b: u64) -> u64
+    ensures { λ r. ⌜ r ≡ min a b ⌝ }
+{
+    if a < b { a } else { b }
+}
+
 impl ClippedCount {
     // "bucket b in byte b / 2, an even b in the low four bits". Both halves are made and one is picked, so that no branch depends on the bucket.
     pub fn of_byte(byte: u8, b: usize) -> ClippedCount

@@ -11,7 +11,7 @@ use borrow.Author.Tests.{ltb-false, le-ltb, eqb-true, leb-false, not-false}
 use lib.ListN.{length, take, drop, replicate, length-append, length-drop, length-map}
 use lib.Seq.{drop-at}
 use Rattle.theory.specs.Lists.{any, upto, flat}
-use Rattle.theory.specs.Records.{Record, to-bytes, of-bytes, count-of, record-bytes, records, rising, same-key, find}
+use Rattle.theory.specs.Records.{Record, to-bytes, of-bytes, count-of, record-bytes, rising, same-key, find}
 use Rattle.theory.specs.Settings.{Card, record-size, ledger-length, true-length, clipped-length, buckets-length, side-length}
 use Rattle.theory.specs.Placing.{true-count, side-need, mark, side-records, clip, crowded, choosers}
 use Rattle.theory.specs.Layout.{Areas, layout, layout-by, places, counted-places, counter-bytes, bucket-bytes, buckets-bytes, side-bytes}

@@ -1,6 +1,6 @@
 -- Document 01, 'Hash': xorshift64 (Marsaglia, 2003), its rows without end, H of a key of any length, hash j, and a key's bucket numbers. Assumes nothing.
 use mathlib.Core.List.{List, [], _∷_, map}
-use Prim.Native.Nat.{ℕ, zero, suc, _+_, _-_, _*_, _/_, _%_, _^_}
+use Prim.Native.Nat.{ℕ, zero, suc, _-_, _*_, _/_, _%_, _^_}
 use lib.Bits.{bitXor}
 use Rattle.theory.specs.Lists.{upto, fresh}
 

@@ -7,11 +7,6 @@ use Rattle.calls.proofs.DataLaws.{performed, cleared, searched, tallied
 use borrow.Author.Needs.{needs}
 use Rattle.calls.proofs.perform.Statement.{statement}
 use Rattle.calls.proofs.perform.Tie as tie
-use Rattle.calls.proofs.answer_only.Reads as answer-only-reads
-use Rattle.lookup.proofs.searching.search.Reads as search-reads
-use Rattle.lookup.proofs.tallying.tally.Reads as tally-reads
-use Rattle.update.proofs.clear.Reads as clear-reads
-use Rattle.update.proofs.update.Reads as update-reads
 
 enum-told : tie.Need-enum-told
 enum-told c = search needs

@@ -4,9 +4,6 @@ use Rattle.ledger.proofs.NumberLaws.{low-half-is}
 use borrow.Author.Needs.{needs}
 use Rattle.ledger.proofs.bytes.low_half_at.Statement.{statement}
 use Rattle.ledger.proofs.bytes.low_half_at.Tie as tie
-use Rattle.ledger.proofs.bytes.low_half_at.Reads as reads
-use Rattle.ledger.proofs.bytes.low_half_at.Lts as lts
-use Rattle.ledger.proofs.bytes.wide32.Reads as wide32-reads
 
 -- src/bytes.rt:52:28
 add-wide32 : tie.Need-add-wide32

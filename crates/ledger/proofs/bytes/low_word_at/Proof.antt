@@ -4,10 +4,6 @@ use Rattle.ledger.proofs.NumberLaws.{low-word-is}
 use borrow.Author.Needs.{needs}
 use Rattle.ledger.proofs.bytes.low_word_at.Statement.{statement}
 use Rattle.ledger.proofs.bytes.low_word_at.Tie as tie
-use Rattle.ledger.proofs.bytes.low_word_at.Reads as reads
-use Rattle.ledger.proofs.bytes.low_word_at.Lts as lts
-use Rattle.ledger.proofs.bytes.low_half_at.Reads as low-half-at-reads
-use Rattle.ledger.proofs.bytes.wide64.Reads as wide64-reads
 
 -- src/bytes.rt:61:12
 low-half-at-requires : tie.Need-low-half-at-requires

@@ -3,9 +3,6 @@ use Rattle.ledger.proofs.KeyLaws.{bytes-of, same-by-word}
 use borrow.Author.Needs.{needs}
 use Rattle.ledger.proofs.keys.same_word.Statement.{statement}
 use Rattle.ledger.proofs.keys.same_word.Tie as tie
-use Rattle.ledger.proofs.keys.same_word.Reads as reads
-use Rattle.ledger.proofs.keys.same_word.Lts as lts
-use Rattle.ledger.proofs.bytes.low_word_at.Reads as low-word-at-reads
 
 -- src/keys.rt:28:5
 low-word-at-requires : tie.Need-low-word-at-requires

@@ -1,6 +1,6 @@
 -- `ledger::keys::same_words` meets its contract: the loop keeps that the test is that of the first i bytes and of the last eight. Assumes nothing.
-use mathlib.Core.Path.{_≡_, refl, sym, ap, _∙_}
-use mathlib.Core.Bool.{Bool, _&&_}
+use mathlib.Core.Path.{_≡_, _∙_}
+use mathlib.Core.Bool.{_&&_}
 use Prim.Native.Nat.{_≤_, _+_, _-_}
 use native.Mathlib.Omega.{arith}
 use lib.ListN.{length, take, drop}
@@ -8,9 +8,6 @@ use Rattle.theory.specs.Records.{same-key}
 use Rattle.ledger.proofs.KeyLaws.{same-word-more, same-all}
 use Rattle.ledger.proofs.keys.same_words.Statement.{statement}
 use Rattle.ledger.proofs.keys.same_words.Tie as tie
-use Rattle.ledger.proofs.keys.same_words.Reads as reads
-use Rattle.ledger.proofs.keys.same_words.Lts as lts
-use Rattle.ledger.proofs.keys.same_word.Reads as same-word-reads
 
 abbrev Inv-loop : tie.InvT-loop
 Inv-loop a b last same₀ i₀ same i = (i ≤ last + 7)

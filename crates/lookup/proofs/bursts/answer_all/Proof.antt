@@ -9,8 +9,7 @@ use Rattle.theory.specs.Settings as plain
 use Rattle.theory.specs.Settings.{card-of}
 use Rattle.theory.specs.Lookup.{driver-number}
 use Rattle.settings.specs.Checked.{paper}
-use Rattle.lookup.specs.declared.counters.Choice.{Choice}
-use Rattle.lookup.specs.Places.{ChoiceFits, place-by}
+use Rattle.lookup.specs.Places.{ChoiceFits}
 use Rattle.lookup.specs.Bursts.{key-at, each, unpacked-of, number-by}
 use Rattle.lookup.proofs.BurstLaws.{Passed, passed-none, passed-more, passed-all, key-within, key-lent, key-size, next-key, number-from}
 use Rattle.lookup.proofs.bursts.answer_all.Statement.{statement}

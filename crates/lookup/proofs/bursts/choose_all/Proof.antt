@@ -1,9 +1,9 @@
 -- `lookup::bursts::choose_all` meets its contract: the first i numbers are what the counters say by the H that stood there.
-use mathlib.Core.Path.{_≡_, refl, sym, ap, _∙_}
-use Prim.Native.Nat.{ℕ, _+_, _-_, _<_}
+use mathlib.Core.Path.{_≡_, ap, _∙_}
+use Prim.Native.Nat.{_-_, _<_}
 use native.Mathlib.Omega.{arith}
 use borrow.Author.Needs.{needs}
-use lib.ListN.{length, getD}
+use lib.ListN.{getD}
 use Rattle.settings.specs.Checked.{paper}
 use Rattle.lookup.specs.Bursts.{packed-of, choice-at}
 use Rattle.lookup.proofs.BurstLaws.{Passed, passed-none, passed-more, passed-all, choice-is, at-small}

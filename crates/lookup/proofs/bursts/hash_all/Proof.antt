@@ -1,5 +1,5 @@
 -- `lookup::bursts::hash_all` meets its contract: the first i numbers are those of their keys, and key i starts at byte i times the width.
-use mathlib.Core.Path.{_≡_, refl, sym, ap, _∙_}
+use mathlib.Core.Path.{_≡_, ap, _∙_}
 use mathlib.Core.List.{List}
 use Prim.Native.Nat.{ℕ, _+_, _-_, _*_, _≤_}
 use native.Mathlib.Omega.{arith}
@@ -8,7 +8,6 @@ use lib.ListN.{length}
 use Rattle.theory.specs.Settings.{card-of}
 use Rattle.hash.specs.Table.{H-by}
 use Rattle.settings.specs.Checked.{paper}
-use Rattle.settings.proofs.Laws.{width-is}
 use Rattle.lookup.specs.Bursts.{key-at, each}
 use Rattle.lookup.proofs.BurstLaws.{Passed, passed-none, passed-more, passed-all, key-within, key-lent, key-size, next-key}
 use Rattle.lookup.proofs.bursts.hash_all.Statement.{statement}

@@ -1,5 +1,5 @@
 -- `lookup::bursts::packed` meets its contract: the sum is below 2^33.
-use mathlib.Core.Bool.{true, false, cond}
+use mathlib.Core.Bool.{cond}
 use Prim.Native.Nat.{ℕ, _≤_}
 use native.Mathlib.Omega.{arith}
 use borrow.Author.Needs.{needs}

@@ -1,8 +1,7 @@
 -- `lookup::bursts::search_burst` meets its contract: judged first, then the three passes.
-use mathlib.Core.Path.{_≡_, refl, sym, ap, _∙_}
+use mathlib.Core.Path.{_≡_, sym, ap, _∙_}
 use mathlib.Core.List.{List}
 use Prim.Native.Nat.{ℕ, _*_}
-use native.Mathlib.Omega.{arith}
 use borrow.Author.Needs.{needs}
 use lib.ListN.{length}
 use Rattle.theory.specs.Settings as plain
@@ -12,7 +11,7 @@ use Rattle.settings.specs.Checked.{paper}
 use Rattle.settings.specs.declared.Settings.{Settings}
 use Rattle.lookup.specs.Bursts.{key-at, judged-burst}
 use Rattle.lookup.specs.declared.judging.Judged.the-variants.{Ready}
-use Rattle.lookup.proofs.BurstLaws.{each-length, packed-length, packed-fits, numbered, burst-refused, burst-answered}
+use Rattle.lookup.proofs.BurstLaws.{packed-length, packed-fits, numbered, burst-refused, burst-answered}
 use Rattle.lookup.proofs.JudgeLaws.{FineBurst, fine-burst}
 use Rattle.lookup.proofs.bursts.search_burst.Statement.{statement}
 use Rattle.lookup.proofs.bursts.search_burst.Tie as tie

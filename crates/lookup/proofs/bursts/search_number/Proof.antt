@@ -1,10 +1,10 @@
 -- `lookup::bursts::search_number` meets its contract: a burst of one key, whose H is by the rows.
 use mathlib.Core.Path.{_≡_, refl, sym, ap, _∙_}
-use mathlib.Core.List.{List, [], _∷_}
+use mathlib.Core.List.{List}
 use Prim.Native.Nat.{ℕ}
 use native.Mathlib.Omega.{arith}
 use borrow.Author.Needs.{needs}
-use lib.ListN.{length, getD}
+use lib.ListN.{getD}
 use Rattle.theory.specs.Settings as plain
 use Rattle.theory.specs.Settings.{card-of}
 use Rattle.settings.specs.Checked.{paper}

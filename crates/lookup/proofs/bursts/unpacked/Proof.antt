@@ -1,5 +1,4 @@
 -- `lookup::bursts::unpacked` meets its contract, part by part.
-use mathlib.Core.Path.{refl}
 use borrow.Author.Needs.{needs}
 use Rattle.lookup.proofs.bursts.unpacked.Statement.{statement}
 use Rattle.lookup.proofs.bursts.unpacked.Tie as tie

@@ -1,5 +1,4 @@
 -- `lookup::judging::areas_right` meets its contract: each length is the definition's.
-use mathlib.Core.Path.{sym}
 use mathlib.Core.Bool.{and-true}
 use borrow.Author.Needs.{needs}
 use Rattle.theory.specs.Calls.{lookup-lengths}

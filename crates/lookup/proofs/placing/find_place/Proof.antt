@@ -1,5 +1,5 @@
 -- `lookup::placing::find_place` meets its contract: what the counters say is where the definition looks.
-use mathlib.Core.Path.{sym, _∙_, subst}
+use mathlib.Core.Path.{_∙_, subst}
 use mathlib.Core.Bool.{Bool}
 use borrow.Author.Needs.{needs}
 use Rattle.settings.specs.Checked.{paper}

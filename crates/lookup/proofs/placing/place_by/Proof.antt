@@ -1,15 +1,11 @@
 -- `lookup::placing::place_by` meets its contract: each test is the definition's.
-use mathlib.Core.Path.{_≡_, sym, ap, _∙_, subst}
-use mathlib.Core.Bool.{Bool, true, false}
-use Prim.Native.Nat.{ℕ}
+use mathlib.Core.Path.{sym, ap, _∙_}
 use borrow.Author.Needs.{needs}
-use borrow.Author.Tests.{eqb-true, eqb-false, eq-eqb, ne-eqb}
+use borrow.Author.Tests.{eqb-false}
 use lib.Dec.{eqb}
-use Rattle.theory.specs.Settings as plain
-use Rattle.theory.specs.Settings.{card-of}
 use Rattle.settings.specs.Checked.{paper}
 use Rattle.settings.proofs.Laws.{top-is}
-use Rattle.lookup.specs.Places.{place-by, goes-by, Goes}
+use Rattle.lookup.specs.Places.{place-by, goes-by}
 use Rattle.lookup.proofs.placing.place_by.Statement.{statement}
 use Rattle.lookup.proofs.placing.place_by.Tie as tie
 

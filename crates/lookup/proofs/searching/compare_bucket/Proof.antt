@@ -1,9 +1,9 @@
 -- `lookup::searching::compare_bucket` meets its contract: the part that is lent on is the bucket after its mark, and the key as wide as the settings say is the key. Assumes nothing.
-use mathlib.Core.Path.{_≡_, sym, _∙_}
-use Prim.Native.Nat.{_+_, _-_, _≤_}
+use mathlib.Core.Path.{sym, _∙_}
+use Prim.Native.Nat.{_-_}
 use native.Mathlib.Nat.{add-sub-cancel-left}
 use native.Mathlib.Omega.{arith}
-use lib.ListN.{length, take}
+use lib.ListN.{length}
 use lib.Seq.{take-all}
 use Rattle.theory.specs.Lookup.{answer-at}
 use Rattle.theory.proofs.SettingsLaws.{ranges}
