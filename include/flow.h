@@ -15,7 +15,7 @@
  * answers 100. A refused call alters no area but work, and flow_load sets its settings to zeros.
  *   1  a setting is out of range
  *   2  a lent area is not of its length
- *   3  a key, or a buffer for a packet's key, is not of 13 bytes
+ *   3  a key, or a buffer for a packet's key, is not of 13 bytes; or the keys of a burst are not of 13 bytes for each answer
  *   4  the ledger is damaged: its count is above the capacity, its keys do not rise, or a byte after its last record is not zero
  *   5  what is read of the lookup areas is damaged: a clipped count is above the top count, a mark is above the room and not 255, or the
  *      side count is above the side places
@@ -36,6 +36,8 @@
  *   side store      2 + 17 * side_places bytes, shaped as the ledger
  * The last three are the lookup areas. The layout of a list of flows is these five areas, filled from the list alone. Beside them:
  *   work            2 * m 16-bit numbers, its contents after a call free
+ * flow_add, flow_change, flow_remove, flow_save and flow_load need about 36 KB of the stack: a hash table of 26 KB, and 8 KB for the choices
+ * of up to 4096 records.
  */
 #ifndef FLOW_H
 #define FLOW_H
@@ -57,7 +59,7 @@ uint32_t flow_settings_check(uint64_t p, uint64_t k, uint64_t room, uint64_t top
 uint32_t flow_area_lengths(uint64_t p, uint64_t k, uint64_t room, uint64_t top, uint64_t capacity, uint64_t side_places,
                            uint64_t *lengths, size_t lengths_length);
 
-/* Fills a table that flow_hash_lent and flow_search_lent read. Lent: table, of 3328 numbers.
+/* Fills a table that flow_hash_lent, flow_search_lent and flow_search_burst read. Lent: table, of 3328 numbers.
  * 0: number 256 * a + v of the table is what byte value v at key byte a adds to H.
  * 2: table is not of 3328 numbers. */
 uint32_t flow_hash_table(uint64_t *table, size_t table_length);
@@ -94,12 +96,25 @@ uint64_t flow_search(uint64_t p, uint64_t k, uint64_t room, uint64_t top, uint64
                      const uint8_t *side, size_t side_length, const uint8_t *key, size_t key_length);
 
 /* flow_search with a lent table: faster, for a driver that keeps one. Lent: table, of 3328 numbers, which flow_hash_table filled; the rest
- * as for flow_search. On another table the answer is 0, 100 or 5, and the call is safe.
+ * as for flow_search. On another table of 3328 numbers the call is safe, and an accepted call answers 0, 100 or 5.
  * 2 also: table is not of 3328 numbers. */
 uint64_t flow_search_lent(const uint64_t *table, size_t table_length, uint64_t p, uint64_t k, uint64_t room, uint64_t top,
                           uint64_t capacity, uint64_t side_places, const uint8_t *clipped, size_t clipped_length,
                           const uint8_t *buckets, size_t buckets_length, const uint8_t *side, size_t side_length,
                           const uint8_t *key, size_t key_length);
+
+/* flow_search_lent for many keys at once: as many as answers has numbers, here n, which may be 0. Drivers take packets in bursts of 32. Lent:
+ * table, of 3328 numbers, which flow_hash_table filled, the lookup areas, of their lengths under the settings, with any contents, and keys, of
+ * 13 * n bytes, one key after the other, which are only read; answers, of n numbers, with any contents.
+ * 0: answers[i] is what flow_search_lent returns for key i: answer * 2^32 + class, where the answer is 0, 100 or, for this key alone, 5. On
+ *    another table of 3328 numbers each is that of the search by the xor of the entries that are read, and the call is safe.
+ * 1: a setting is out of range. 2: table is not of 3328 numbers, or clipped, buckets or side is not of its length. 3: keys is not of 13 * n
+ *    bytes. These are judged also where n is 0.
+ * Refused, answers is as it was. */
+uint32_t flow_search_burst(const uint64_t *table, size_t table_length, uint64_t p, uint64_t k, uint64_t room, uint64_t top,
+                           uint64_t capacity, uint64_t side_places, const uint8_t *clipped, size_t clipped_length,
+                           const uint8_t *buckets, size_t buckets_length, const uint8_t *side, size_t side_length,
+                           const uint8_t *keys, size_t keys_length, uint64_t *answers, size_t answers_length);
 
 /* Counts what a table holds. Lent: ledger and the lookup areas, of their lengths under the settings, which are only read; totals, of 4
  * numbers.

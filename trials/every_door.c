@@ -8,7 +8,7 @@
 #include <stdlib.h>
 #include <string.h>
 
-enum { TABLES = 2000, CALLS = 60, PACKETS = 20000, MOST_ANSWER = 100 };
+enum { TABLES = 2000, CALLS = 60, PACKETS = 20000, MOST_KEYS = 40, MOST_ANSWER = 100 };
 
 /* splitmix64 */
 static uint64_t state = 91;
@@ -98,6 +98,8 @@ static void look_at(const void *at, size_t bytes)
 static uint64_t settings[6];
 static struct area areas[6];
 static uint64_t table[3328];
+/* the table in malloc's memory, and one of random numbers */
+static struct area tables[2];
 static const size_t sizes[6] = {1, 2, 1, 1, 1, 2};
 
 #define SETTINGS settings[0], settings[1], settings[2], settings[3], settings[4], settings[5]
@@ -182,6 +184,50 @@ static void search(void)
     }
     note((uint32_t)(found >> 32));
     free(key.at);
+}
+
+/* So many keys, one after the other, or some other number of bytes. */
+static struct area some_keys(size_t n)
+{
+    size_t right = 13 * n, other[] = {0, n == 0 ? 0 : right - 1, right + 1, right + 13, between(0, 2 * right + 2)};
+    struct area keys = random_area(between(0, 6) == 0 ? other[between(0, 4)] : right, 1);
+    for (size_t at = 0; at + 13 <= keys.length; at += 13) {
+        if (between(0, 9) > 0) {
+            memset((uint8_t *)keys.at + at, (int)between(1, 30), 13);
+        }
+    }
+    return keys;
+}
+
+/* As many answers as keys, or some other number of them; the answers as malloc leaves them, or a byte everywhere. */
+static void burst(void)
+{
+    size_t n = between(0, 4) == 0 ? between(0, MOST_KEYS) : between(0, 4);
+    struct area keys = some_keys(n), lent = tables[between(0, 9) == 0], shorter = lend(0, 8);
+    struct area found = lend(between(0, 19) == 0 ? between(0, MOST_KEYS) : n, 8);
+    int marked = between(0, 1) == 0;
+    if (between(0, 49) == 0) {
+        resize(&shorter, between(0, 1) == 0 ? 3327 : between(0, 3327));
+        memcpy(shorter.at, lent.at, shorter.length * 8);
+        lent = shorter;
+    }
+    if (marked) {
+        memset(found.at, 0xa5, found.length * 8);
+    }
+    uint32_t answer = note(flow_search_burst(LENT(lent), SETTINGS, LOOKUP, LENT(keys), LENT(found)));
+    for (size_t i = 0; i < found.length && (answer == 0 || marked); i++) {
+        const uint8_t *key = (const uint8_t *)keys.at + 13 * i;
+        uint64_t expected = answer == 0 ? flow_search_lent(LENT(lent), SETTINGS, LOOKUP, key, 13) : 0xa5a5a5a5a5a5a5a5;
+        if (((uint64_t *)found.at)[i] != expected) {
+            fail(answer == 0 ? "a burst and a search differ" : "a refused burst alters an answer");
+        }
+        if (answer == 0) {
+            note((uint32_t)(expected >> 32));
+        }
+    }
+    free(keys.at);
+    free(found.at);
+    free(shorter.at);
 }
 
 static void tally(void)
@@ -280,7 +326,7 @@ static void calls_on_a_table(void)
     }
     look_at_areas();
     for (int i = 0; i < CALLS; i++) {
-        switch (between(0, 9)) {
+        switch (between(0, 10)) {
         case 0:
             search();
             break;
@@ -292,6 +338,9 @@ static void calls_on_a_table(void)
             break;
         case 3:
             key_buckets();
+            break;
+        case 4:
+            burst();
             break;
         default:
             if (update() == 0) {
@@ -348,6 +397,7 @@ static void calls_on_any_areas(void)
     for (int i = 0; i < CALLS / 4; i++) {
         update();
         search();
+        burst();
         tally();
         key_buckets();
         any_file();
@@ -382,6 +432,9 @@ int main(void)
     if (flow_hash_table(table, 3328) != 0 || flow_hash_table(table, 3327) != 2) {
         fail("the hash table");
     }
+    tables[0] = lend(3328, 8);
+    memcpy(tables[0].at, table, sizeof table);
+    tables[1] = random_area(3328, 8);
     for (int i = 0; i < TABLES; i++) {
         for (int j = 0; j < 6; j++) {
             settings[j] = between(least[j], most[j]);
@@ -396,6 +449,8 @@ int main(void)
         }
     }
     packets();
+    free(tables[0].at);
+    free(tables[1].at);
     for (int i = 0; i <= MOST_ANSWER; i++) {
         if (answers[i] > 0) {
             printf("answer %d: %" PRIu64 "\n", i, answers[i]);

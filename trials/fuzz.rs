@@ -179,7 +179,8 @@ impl Trial {
                 let call = Call::Remove(bytes.key());
                 self.update(bytes, &call);
             }
-            15..=18 => self.search(bytes),
+            15 | 16 => self.search(bytes),
+            17 | 18 => self.burst(bytes),
             19 => self.tally(bytes),
             20 | 21 => self.save(bytes),
             22..=24 => self.load(bytes),
@@ -231,6 +232,59 @@ impl Trial {
         let lent = doors::search_lent(table, numbers, clipped, buckets, side, &key);
         assert_eq!((whole, lent), (by_paper, by_paper), "{numbers:?}, {key:?}");
         note("search", (whole >> 32) as u32);
+    }
+
+    // Keys for as many answers, or for some other number of them, with the right hash table, one with another entry, or one of another length.
+    fn burst(&mut self, bytes: &mut Bytes) {
+        let count = match bytes.next() {
+            255 => bytes.number(70),
+            byte => usize::from(byte % 9),
+        };
+        let keys: Vec<u8> = (0..count).flat_map(|_| bytes.key()).collect();
+        let count = match bytes.next() {
+            255 => bytes.number(70),
+            _ => count,
+        };
+        let settings = self.card.settings;
+        let mut table = self.hash_table.entries().to_vec();
+        let card = match bytes.next() {
+            255 => {
+                table.resize(bytes.number(2 * table.len()), 0);
+                Card::new(settings)
+            }
+            254 => {
+                let at = bytes.number(table.len() - 1);
+                table[at] = u64::from(bytes.next()) * 0x0101_0101_0101_0101;
+                Card::with_table(settings, table.clone())
+            }
+            _ => Card::new(settings),
+        };
+        let numbers = settings.numbers();
+        let paper::Lookup {
+            clipped,
+            buckets,
+            side,
+        } = self.areas.lookup();
+        // what no door answers
+        let mut answers = vec![u64::MAX; count];
+        let mut expected = answers.clone();
+        let lookup = self.areas.lookup();
+        let by_paper = paper::burst(&card, table.len(), lookup, &keys, &mut expected);
+        let answer =
+            doors::search_burst(&table, numbers, clipped, buckets, side, &keys, &mut answers);
+        assert_eq!(
+            (answer, &answers),
+            (by_paper, &expected),
+            "{numbers:?}, {keys:?}"
+        );
+        note("burst", answer);
+        if answer == 0 {
+            for (key, found) in keys.chunks(13).zip(answers) {
+                let alone = doors::search_lent(&table, numbers, clipped, buckets, side, key);
+                assert_eq!(found, alone, "{numbers:?}, {key:?}");
+                note("key of a burst", (found >> 32) as u32);
+            }
+        }
     }
 
     fn tally(&mut self, bytes: &mut Bytes) {

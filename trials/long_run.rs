@@ -1,5 +1,5 @@
-//! Ten million calls through the doors, or as many as the first argument says: a random walk of adds, changes, removals and searches near
-//! what each table can hold. Every answer is compared with the model's, and after every 10,000 calls all areas with the model's layout.
+//! Ten million calls through the doors, or as many as the first argument says: a random walk of adds, changes, removals, searches and bursts of
+//! searches near what each table can hold. Every answer is compared with the model's, and after every 10,000 calls all areas with the model's layout.
 
 #[path = "../rust/tests/lending/mod.rs"]
 mod lending;
@@ -27,6 +27,7 @@ use std::time::Instant;
 
 const CALLS: u64 = 10_000_000;
 const CALLS_BETWEEN_COMPARISONS: u64 = 10_000;
+const MOST_KEYS_OF_A_BURST: u64 = 32;
 
 // Settings, and how many of a hundred calls go to them.
 const TABLES: [([u64; 6], u64); 5] = [
@@ -108,15 +109,44 @@ impl Walk {
         by_paper.number
     }
 
+    // Some keys at once: each is held, with its class, or absent, as the ledger has it.
+    fn burst(&self, random: &mut Random) -> u32 {
+        let count = random.between(0, MOST_KEYS_OF_A_BURST);
+        let keys: Vec<Vec<u8>> = (0..count).map(|_| self.key(random, 50)).collect();
+        let numbers = self.card.settings.numbers();
+        let Areas {
+            clipped,
+            buckets,
+            side,
+            ..
+        } = &self.areas;
+        let table = self.hash_table.entries();
+        // what no door answers
+        let mut answers = vec![u64::MAX; keys.len()];
+        let lent = &keys.concat();
+        let answer =
+            doors::search_burst(table, numbers, clipped, buckets, side, lent, &mut answers);
+        assert_eq!(answer, 0);
+        for (key, found) in keys.iter().zip(answers) {
+            let held = self.ledger.second_search(key);
+            let by_paper = held.map_or(100 << 32, |record| u64::from(record.class));
+            assert_eq!(found, by_paper, "search of {key:?} in a burst");
+        }
+        answer
+    }
+
     // One call. Adds mostly outnumber removals, and now and then their chances alter.
     fn step(&mut self, random: &mut Random) -> (&'static str, u32) {
         if self.adds == 0 || random.between(0, 499) == 0 {
             self.adds = [60, 70, 80][random.between(0, 2) as usize];
         }
         let way = random.between(0, 99);
+        if way < 10 {
+            return ("burst", self.burst(random));
+        }
         if way < 30 {
             let key = self.key(random, 50);
-            return ("search", self.search(&key, way < 15));
+            return ("search", self.search(&key, way < 20));
         }
         let call = if way < self.adds {
             Call::Add(self.key(random, 5), random_class(random))

@@ -80,7 +80,7 @@ doors! {
     /// The lengths of ledger, true counts, clipped counts, buckets, side store and work; 1; 2 if `lengths` is not of 6 numbers.
     fn area_lengths = flow_area_lengths(settings: [u64; 6], lengths: &mut [u64]) -> u32;
 
-    /// The table that [`hash_lent`] reads; 2 if it is not of 3,328 numbers.
+    /// The table that [`hash_lent`], [`search_lent`] and [`search_burst`] read; 2 if it is not of 3,328 numbers.
     fn hash_table = flow_hash_table(table: &mut [u64]) -> u32;
 
     /// H of a key in `h[0]`, with no table; 2 if `h` is not of 1 number; 3 if the key is not of 13 bytes.
@@ -100,6 +100,10 @@ doors! {
 
     /// [`search`] with the table of [`hash_table`]; 2 also if that is not of 3,328 numbers.
     fn search_lent = flow_search_lent(table: &[u64], settings: [u64; 6], clipped: &[u8], buckets: &[u8], side: &[u8], key: &[u8]) -> u64;
+
+    /// [`search_lent`] for as many keys as there are answers, one after the other in `keys`: each answer is the number of its key; 1; 2 if the
+    /// table is not of 3,328 numbers or an area not of its length; 3 if `keys` is not of 13 bytes for each answer.
+    fn search_burst = flow_search_burst(table: &[u64], settings: [u64; 6], clipped: &[u8], buckets: &[u8], side: &[u8], keys: &[u8], answers: &mut [u64]) -> u32;
 
     /// Records in buckets, records in the side store, buckets marked 255, and fill; 1; 2 if an area is not of its length, or `totals` not of
     /// 4 numbers; 4 if the ledger is damaged; 5 if a lookup area is.

@@ -1,8 +1,9 @@
 //! The flow card's pruned hash table, over the doors of its proved static library.
 //!
 //! [`doors`] has each door as it stands: numbers and slices in, the answer's number out. The rest of the crate is what a Rust user
-//! takes: [`Settings`] that are in range, a [`Table`] that owns its areas, a [`HashTable`] that is filled, [`LookupAreas`] to [`search`]
-//! and to [`tally`] where others own them, the key of a packet by [`packet_key`], and a [`Refusal`] in place of a number.
+//! takes: [`Settings`] that are in range, a [`Table`] that owns its areas, a [`HashTable`] that is filled, [`LookupAreas`] to [`search`],
+//! by one key or by a burst of keys ([`search_burst`]), and to [`tally`] where others own them, the key of a packet by [`packet_key`], and
+//! a [`Refusal`] in place of a number.
 
 #![deny(missing_docs)]
 
@@ -13,7 +14,7 @@ mod table;
 
 pub mod doors;
 
-pub use lookup::{search, search_lent, tally, LookupAreas, Tally};
+pub use lookup::{search, search_burst, search_lent, tally, Answers, LookupAreas, Tally};
 pub use packet::{packet_key, packet_key_into};
 pub use refusal::Refusal;
 pub use table::{Table, TableAreas};

@@ -104,6 +104,82 @@ pub fn search_lent(
     ))
 }
 
+/// The answers of a burst, in the order of its keys: for each the class of a held flow, None for an absent one, or
+/// [`Refusal::DamagedLookup`] where a counter, mark or side count that its search read is too high.
+#[derive(Clone, Debug)]
+pub struct Answers<'a>(std::slice::Iter<'a, u64>);
+
+impl Iterator for Answers<'_> {
+    type Item = Result<Option<u32>, Refusal>;
+
+    fn next(&mut self) -> Option<Self::Item> {
+        self.0.next().map(|&number| found(number))
+    }
+
+    fn size_hint(&self) -> (usize, Option<usize>) {
+        self.0.size_hint()
+    }
+}
+
+impl ExactSizeIterator for Answers<'_> {}
+
+/// [`search_lent`] for many keys at once, one after the other in `keys`. Drivers take packets in bursts of 32.
+///
+/// A number is lent for each answer, with any contents, so that nothing is allocated. The [`Answers`] that come back read these numbers, which
+/// are answer x 2^32 + class, as [`doors::search_burst`] leaves them.
+///
+/// [`Refusal::AreaLength`] where an area is not of its length, [`Refusal::KeyLength`] where the keys are not of 13 bytes for each number
+/// that is lent. Then the numbers stay. Damaged areas refuse only the keys whose searches read what is damaged.
+///
+/// ```
+/// use flow::{search_burst, HashTable, LookupAreas, Refusal, Settings};
+///
+/// // One flow of class 7, by hand. The zero key has bucket 0 alone: counter 1, mark 1 and the record.
+/// let settings = Settings::new(4, 1, 1, 2, 1, 0)?;
+/// let mut clipped_counts = [0; 8];
+/// clipped_counts[0] = 1;
+/// let mut buckets = [0; 16 * 18];
+/// buckets[0] = 1;
+/// buckets[17] = 7;
+/// let areas = LookupAreas {
+///     clipped_counts: &clipped_counts,
+///     buckets: &buckets,
+///     side_store: &[0; 2],
+/// };
+/// let table = HashTable::new();
+///
+/// // kept from burst to burst, with room for 32 packets, of which two came
+/// let mut keys = [0; 32 * 13];
+/// let mut numbers = [0; 32];
+/// keys[13..26].copy_from_slice(&[192, 0, 2, 1, 192, 0, 2, 2, 0x04, 0xd2, 0x00, 0x50, 6]);
+/// let mut answers = search_burst(&table, &settings, &areas, &keys[..26], &mut numbers[..2])?;
+/// assert_eq!(answers.next(), Some(Ok(Some(7))));
+/// assert_eq!(answers.next(), Some(Ok(None)));
+/// assert_eq!(answers.next(), None);
+///
+/// let refused = search_burst(&table, &settings, &areas, &keys[..25], &mut numbers[..2]);
+/// assert_eq!(refused.err(), Some(Refusal::KeyLength));
+/// # Ok::<(), Refusal>(())
+/// ```
+pub fn search_burst<'a>(
+    table: &HashTable,
+    settings: &Settings,
+    areas: &LookupAreas,
+    keys: &[u8],
+    numbers: &'a mut [u64],
+) -> Result<Answers<'a>, Refusal> {
+    accepted(doors::search_burst(
+        table.entries(),
+        settings.numbers(),
+        areas.clipped_counts,
+        areas.buckets,
+        areas.side_store,
+        keys,
+        numbers,
+    ))?;
+    Ok(Answers(numbers.iter()))
+}
+
 /// Counts what a table holds.
 ///
 /// [`Refusal::AreaLength`] where an area is not of its length, [`Refusal::DamagedLedger`] where the ledger's count, key order or unused
@@ -142,7 +218,7 @@ pub fn tally(settings: &Settings, ledger: &[u8], areas: &LookupAreas) -> Result<
     })
 }
 
-// A search door's answer: answer x 2^32 + class.
+// What a search door gives for a key: answer x 2^32 + class.
 fn found(door: u64) -> Result<Option<u32>, Refusal> {
     let number = (door >> 32) as u32;
     if number == ABSENT {

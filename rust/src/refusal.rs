@@ -9,7 +9,7 @@ pub enum Refusal {
     Setting = 1,
     /// 2: an area that the call is lent is not of its length.
     AreaLength = 2,
-    /// 3: a key, or a buffer for a packet's key, is not of 13 bytes.
+    /// 3: a key, or a buffer for a packet's key, is not of 13 bytes; or the keys of a burst are not of 13 bytes for each answer.
     KeyLength = 3,
     /// 4: the ledger's count is above the capacity, its keys do not rise, or a byte after its last record is not zero.
     DamagedLedger = 4,
@@ -69,7 +69,9 @@ impl Refusal {
         match self {
             Refusal::Setting => "a setting is out of range",
             Refusal::AreaLength => "a lent area is not of its length",
-            Refusal::KeyLength => "a key, or the buffer for one, is not of 13 bytes",
+            Refusal::KeyLength => {
+                "a key or the buffer for one is not of 13 bytes, or a burst has not 13 for each answer"
+            }
             Refusal::DamagedLedger => "the ledger's count, key order or unused bytes are wrong",
             Refusal::DamagedLookup => "a clipped count, a mark or the side count is too high",
             Refusal::Held => "the key to add is held",

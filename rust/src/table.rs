@@ -1,7 +1,7 @@
 //! A table that owns its areas.
 
 use crate::doors::{self, LentAreas};
-use crate::{accepted, lookup, HashTable, LookupAreas, Refusal, Settings, Tally};
+use crate::{accepted, lookup, Answers, HashTable, LookupAreas, Refusal, Settings, Tally};
 
 // A snapshot: a two-byte count of settings, six of them in two bytes each, a two-byte count of records, and these.
 const FILE_HEAD: usize = 16;
@@ -155,6 +155,31 @@ impl Table {
     /// [`Table::search`] with a hash table that is kept from call to call.
     pub fn search_lent(&self, table: &HashTable, key: &[u8]) -> Result<Option<u32>, Refusal> {
         lookup::search_lent(table, &self.settings, &self.areas().lookup(), key)
+    }
+
+    /// [`Table::search_lent`] for many keys at once, one after the other in `keys`, with a number lent for each answer: as
+    /// [`search_burst`](crate::search_burst). [`Refusal::KeyLength`] where the keys are not of 13 bytes for each number; then these stay.
+    ///
+    /// ```
+    /// use flow::{HashTable, Refusal, Settings, Table};
+    ///
+    /// let mut table = Table::new(Settings::new(6, 3, 2, 4, 128, 8)?);
+    /// table.add(&[1; 13], 7)?;
+    /// let hash_table = HashTable::new();
+    /// let keys = [[1; 13], [2; 13], [1; 13]].concat();
+    /// let mut numbers = [0; 3];
+    /// for (i, class) in table.search_burst(&hash_table, &keys, &mut numbers)?.enumerate() {
+    ///     assert_eq!(class, Ok(if i == 1 { None } else { Some(7) }));
+    /// }
+    /// # Ok::<(), Refusal>(())
+    /// ```
+    pub fn search_burst<'a>(
+        &self,
+        table: &HashTable,
+        keys: &[u8],
+        numbers: &'a mut [u64],
+    ) -> Result<Answers<'a>, Refusal> {
+        lookup::search_burst(table, &self.settings, &self.areas().lookup(), keys, numbers)
     }
 
     /// Counts what the table holds.

@@ -6,7 +6,10 @@ mod random;
 mod seen;
 
 use flow::{doors, HashTable, LookupAreas, Refusal, Settings, Tally};
-use made::{damage_ledger, filled, random_count, random_key, set_count, spoiled, wrong_length};
+use made::{
+    damage_ledger, damage_lookup, filled, random_card, random_key, random_table, set_count,
+    spoiled, wrong_length,
+};
 use model::card::Card;
 use model::layout::{layout, Areas};
 use model::ledger::Ledger;
@@ -98,36 +101,6 @@ impl Doors {
         self.seen.note("tally", answer);
         expected
     }
-}
-
-// Allowed settings: mostly small ones, so that clipped counts, crowded buckets and the side store all occur.
-fn random_card(random: &mut Random) -> Card {
-    let numbers = if random.between(0, 9) == 0 {
-        LIMITS.map(|(low, high)| random.between(low, high))
-    } else {
-        [
-            random.between(4, 6),
-            random.between(1, 4),
-            random.between(1, 2),
-            random.between(2, 4),
-            random.between(1, 80),
-            match random.between(0, 3) {
-                0 => random.between(0, 64),
-                _ => random.between(0, 4),
-            },
-        ]
-    };
-    Card::new(Model::of(numbers))
-}
-
-fn random_table(random: &mut Random, card: &Card) -> (Vec<Record>, Areas) {
-    let n = card.settings.n;
-    let count = match random.between(0, 3) {
-        0 => random.between(0, n),
-        1 => n.min(card.settings.m() * card.settings.b),
-        _ => n,
-    };
-    filled(random, card, count.min(300))
 }
 
 // Where the searches on layouts came.
@@ -244,107 +217,6 @@ fn searches_on_large_layouts() {
     assert_eq!(largest, 4000);
 }
 
-// One record place of the area gets the key, and some class.
-fn plant(random: &mut Random, area: &mut [u8], from: usize, key: &Key) {
-    let places = (area.len() - from) / 17;
-    if places > 0 {
-        let at = from + 17 * random.between(0, places as u64 - 1) as usize;
-        area[at..at + 13].copy_from_slice(key);
-    }
-}
-
-// A mark: mostly one that a search may go on with.
-fn random_mark(random: &mut Random, room: u64) -> u8 {
-    match random.between(0, 19) {
-        0 => random.between(room + 1, 254) as u8,
-        1 => room as u8 + 1,
-        2 => 254,
-        3..=6 => 255,
-        _ => random.between(0, room) as u8,
-    }
-}
-
-// Counters that are seldom zero or above T, or alike.
-fn random_counters(random: &mut Random, clipped: &mut [u8], top: u64) {
-    let way = random.between(0, 4);
-    let alike = random.between(0, 15) as u8;
-    for byte in clipped {
-        let mut half = || match way {
-            0 => random.between(0, 15) as u8,
-            1 => random.between(1, top) as u8,
-            2 => top as u8,
-            3 => alike,
-            _ => match random.between(0, 29) {
-                0 => 0,
-                1 => random.between(top, 15) as u8,
-                _ => random.between(1, top) as u8,
-            },
-        };
-        *byte = half() + 16 * half();
-    }
-}
-
-// Damage to lookup areas of a table, such that some searches still get far.
-fn damage(random: &mut Random, card: &Card, areas: &mut Areas, keys: &[Key]) {
-    let room = card.settings.b;
-    let bucket_bytes = card.bucket_bytes();
-    match random.between(0, 5) {
-        // single bytes
-        0 => {
-            for _ in 0..random.between(1, 8) {
-                for area in [&mut areas.clipped, &mut areas.buckets, &mut areas.side] {
-                    let at = random.between(0, area.len() as u64 - 1) as usize;
-                    area[at] = random.next() as u8;
-                }
-            }
-        }
-        // one kind of damage: counters, marks or the side count
-        1 => {
-            let at = random.between(0, areas.clipped.len() as u64 - 1) as usize;
-            areas.clipped[at] = random.next() as u8;
-        }
-        2 => {
-            for bucket in areas.buckets.chunks_mut(bucket_bytes) {
-                if random.between(0, 3) == 0 {
-                    bucket[0] = random_mark(random, room);
-                }
-            }
-        }
-        3 => {
-            let count = random_count(random, card.settings.s);
-            set_count(&mut areas.side, count);
-        }
-        // random bytes everywhere, with counters and marks that lead on
-        4 => {
-            for area in [&mut areas.buckets, &mut areas.side] {
-                for byte in area.iter_mut() {
-                    *byte = random.next() as u8;
-                }
-            }
-            random_counters(random, &mut areas.clipped, card.settings.t);
-            for bucket in areas.buckets.chunks_mut(bucket_bytes) {
-                bucket[0] = random_mark(random, room);
-                for key in keys {
-                    plant(random, bucket, 1, key);
-                }
-            }
-            let count = random_count(random, card.settings.s);
-            set_count(&mut areas.side, count);
-            for key in keys {
-                plant(random, &mut areas.side, 2, key);
-            }
-        }
-        // random bytes everywhere
-        _ => {
-            for area in [&mut areas.clipped, &mut areas.buckets, &mut areas.side] {
-                for byte in area.iter_mut() {
-                    *byte = random.next() as u8;
-                }
-            }
-        }
-    }
-}
-
 #[test]
 fn searches_on_damaged_areas() {
     let mut random = Random::new(13);
@@ -358,7 +230,7 @@ fn searches_on_damaged_areas() {
         for _ in 0..4 {
             let mut areas = areas.clone();
             let some = random.between(0, keys.len() as u64 - 4) as usize;
-            damage(&mut random, &card, &mut areas, &keys[some..some + 4]);
+            damage_lookup(&mut random, &card, &mut areas, &keys[some..some + 4]);
             for key in &keys {
                 doors.search(&card, areas.lookup(), key);
                 match paper::second_search(&card, areas.lookup(), key) {
@@ -394,7 +266,7 @@ fn searches_with_wrong_lengths_and_settings() {
             let mut key = key.to_vec();
             if random.between(0, 3) == 0 {
                 let keys = [random_key(&mut random)];
-                damage(&mut random, &card, &mut areas, &keys);
+                damage_lookup(&mut random, &card, &mut areas, &keys);
             }
             if random.between(0, 3) == 0 {
                 key.resize(wrong_length(&mut random, 13), 7);
@@ -501,7 +373,7 @@ fn lent_table_of_any_contents() {
     for _ in 0..200 {
         let card = random_card(&mut random);
         let (list, mut areas) = random_table(&mut random, &card);
-        damage(&mut random, &card, &mut areas, &[]);
+        damage_lookup(&mut random, &card, &mut areas, &[]);
         let table: Vec<u64> = (0..3328).map(|_| random.next()).collect();
         let numbers = card.settings.numbers();
         for record in &list {
@@ -531,7 +403,7 @@ fn other_buckets_do_not_count() {
         let mut keys: Vec<Key> = list.iter().take(10).map(|r| r.key).collect();
         keys.extend((0..10).map(|_| random_key(&mut random)));
         if random.between(0, 1) == 0 {
-            damage(&mut random, &card, &mut areas, &keys[..4]);
+            damage_lookup(&mut random, &card, &mut areas, &keys[..4]);
         }
         for key in &keys {
             let answer = doors.search(&card, areas.lookup(), key);
@@ -578,7 +450,7 @@ fn tallies() {
             let mut settings = card.settings;
             if random.between(0, 1) == 0 {
                 let keys = [random_key(&mut random)];
-                damage(&mut random, &card, &mut areas, &keys);
+                damage_lookup(&mut random, &card, &mut areas, &keys);
             }
             if random.between(0, 1) == 0 {
                 damage_ledger(&mut random, &card, &mut areas.ledger);
@@ -679,7 +551,7 @@ fn safe_wrappers() {
         let settings = Settings::new(p, k, room, top, capacity, side_places).unwrap();
         let (list, mut areas) = random_table(&mut random, &card);
         if random.between(0, 2) == 0 {
-            damage(&mut random, &card, &mut areas, &[]);
+            damage_lookup(&mut random, &card, &mut areas, &[]);
         }
         if random.between(0, 2) == 0 {
             damage_ledger(&mut random, &card, &mut areas.ledger);

@@ -59,6 +59,37 @@ pub fn filled(random: &mut Random, card: &Card, count: u64) -> (Vec<Record>, Are
     }
 }
 
+/// Allowed settings: mostly small ones, so that clipped counts, crowded buckets and the side store all occur.
+pub fn random_card(random: &mut Random) -> Card {
+    let numbers = if random.between(0, 9) == 0 {
+        LIMITS.map(|(low, high)| random.between(low, high))
+    } else {
+        [
+            random.between(4, 6),
+            random.between(1, 4),
+            random.between(1, 2),
+            random.between(2, 4),
+            random.between(1, 80),
+            match random.between(0, 3) {
+                0 => random.between(0, 64),
+                _ => random.between(0, 4),
+            },
+        ]
+    };
+    Card::new(Model::of(numbers))
+}
+
+/// A list, often as long as its card can take, with its layout.
+pub fn random_table(random: &mut Random, card: &Card) -> (Vec<Record>, Areas) {
+    let n = card.settings.n;
+    let count = match random.between(0, 3) {
+        0 => random.between(0, n),
+        1 => n.min(card.settings.m() * card.settings.b),
+        _ => n,
+    };
+    filled(random, card, count.min(300))
+}
+
 /// A count that is sometimes above the most.
 pub fn random_count(random: &mut Random, most: u64) -> u64 {
     match random.between(0, 19) {
@@ -139,6 +170,107 @@ pub fn damage_ledger(random: &mut Random, card: &Card, ledger: &mut [u8]) {
         _ => {
             for byte in ledger.iter_mut() {
                 *byte = random.next() as u8;
+            }
+        }
+    }
+}
+
+// One record place of the area gets the key, and some class.
+fn plant(random: &mut Random, area: &mut [u8], from: usize, key: &Key) {
+    let places = (area.len() - from) / 17;
+    if places > 0 {
+        let at = from + 17 * random.between(0, places as u64 - 1) as usize;
+        area[at..at + 13].copy_from_slice(key);
+    }
+}
+
+// A mark: mostly one that a search may go on with.
+fn random_mark(random: &mut Random, room: u64) -> u8 {
+    match random.between(0, 19) {
+        0 => random.between(room + 1, 254) as u8,
+        1 => room as u8 + 1,
+        2 => 254,
+        3..=6 => 255,
+        _ => random.between(0, room) as u8,
+    }
+}
+
+// Counters that are seldom zero or above T, or alike.
+fn random_counters(random: &mut Random, clipped: &mut [u8], top: u64) {
+    let way = random.between(0, 4);
+    let alike = random.between(0, 15) as u8;
+    for byte in clipped {
+        let mut half = || match way {
+            0 => random.between(0, 15) as u8,
+            1 => random.between(1, top) as u8,
+            2 => top as u8,
+            3 => alike,
+            _ => match random.between(0, 29) {
+                0 => 0,
+                1 => random.between(top, 15) as u8,
+                _ => random.between(1, top) as u8,
+            },
+        };
+        *byte = half() + 16 * half();
+    }
+}
+
+/// Damage to lookup areas of a table, such that some searches still get far.
+pub fn damage_lookup(random: &mut Random, card: &Card, areas: &mut Areas, keys: &[Key]) {
+    let room = card.settings.b;
+    let bucket_bytes = card.bucket_bytes();
+    match random.between(0, 5) {
+        // single bytes
+        0 => {
+            for _ in 0..random.between(1, 8) {
+                for area in [&mut areas.clipped, &mut areas.buckets, &mut areas.side] {
+                    let at = random.between(0, area.len() as u64 - 1) as usize;
+                    area[at] = random.next() as u8;
+                }
+            }
+        }
+        // one kind of damage: counters, marks or the side count
+        1 => {
+            let at = random.between(0, areas.clipped.len() as u64 - 1) as usize;
+            areas.clipped[at] = random.next() as u8;
+        }
+        2 => {
+            for bucket in areas.buckets.chunks_mut(bucket_bytes) {
+                if random.between(0, 3) == 0 {
+                    bucket[0] = random_mark(random, room);
+                }
+            }
+        }
+        3 => {
+            let count = random_count(random, card.settings.s);
+            set_count(&mut areas.side, count);
+        }
+        // random bytes everywhere, with counters and marks that lead on
+        4 => {
+            for area in [&mut areas.buckets, &mut areas.side] {
+                for byte in area.iter_mut() {
+                    *byte = random.next() as u8;
+                }
+            }
+            random_counters(random, &mut areas.clipped, card.settings.t);
+            for bucket in areas.buckets.chunks_mut(bucket_bytes) {
+                bucket[0] = random_mark(random, room);
+                for key in keys {
+                    plant(random, bucket, 1, key);
+                }
+            }
+            let count = random_count(random, card.settings.s);
+            set_count(&mut areas.side, count);
+            for key in keys {
+                plant(random, &mut areas.side, 2, key);
+            }
+        }
+        // random bytes everywhere
+        _ => {
+            for area in [&mut areas.clipped, &mut areas.buckets, &mut areas.side] {
+                for byte in area.iter_mut() {
+                    *byte = random.next() as u8;
+                }
             }
         }
     }

@@ -6,16 +6,33 @@ use super::settings::Settings;
 
 pub struct Card {
     pub settings: Settings,
+    /// What H is read from, if not from the paper's table.
+    other_table: Option<Vec<u64>>,
 }
 
 impl Card {
     pub fn new(settings: Settings) -> Card {
-        Card { settings }
+        Card {
+            settings,
+            other_table: None,
+        }
+    }
+
+    /// A card that reads what it takes for H from this table, one entry for each byte of a key.
+    pub fn with_table(settings: Settings, table: Vec<u64>) -> Card {
+        Card {
+            settings,
+            other_table: Some(table),
+        }
     }
 
     /// A key's bucket numbers.
     pub fn numbers(&self, key: &Key) -> Vec<u64> {
-        hash::bucket_numbers(&self.settings, hash::h_by_table(key))
+        let h = match &self.other_table {
+            None => hash::h_by_table(key),
+            Some(table) => hash::h_by(table, key),
+        };
+        hash::bucket_numbers(&self.settings, h)
     }
 
     /// The bytes of one bucket: a mark, then B places.

@@ -44,6 +44,11 @@ pub fn table_entry(rows: &[u64], a: usize, v: u8) -> u64 {
     h(rows, &key)
 }
 
+/// What a table gives for a key, whatever it holds: the xor of the entries of the key's bytes.
+pub fn h_by(table: &[u64], key: &[u8; KEY_BYTES]) -> u64 {
+    (0..KEY_BYTES).fold(0, |h, a| h ^ table[256 * a + usize::from(key[a])])
+}
+
 /// H with one read a byte.
 pub fn h_by_table(key: &[u8; KEY_BYTES]) -> u64 {
     thread_local! {
@@ -53,7 +58,7 @@ pub fn h_by_table(key: &[u8; KEY_BYTES]) -> u64 {
             entries.map(|(a, v)| table_entry(&rows, a, v)).collect()
         };
     }
-    TABLE.with(|table| (0..KEY_BYTES).fold(0, |h, a| h ^ table[256 * a + usize::from(key[a])]))
+    TABLE.with(|table| h_by(table, key))
 }
 
 /// Hash j of a key whose H is h.

@@ -1,4 +1,4 @@
-//! 'The calls' that only read, on areas with any contents and lengths: search, the second search call, tally.
+//! 'The calls' that only read, on areas with any contents and lengths: search, the second search call, a burst of searches, tally.
 
 use super::card::Card;
 use super::hash::KEY_BYTES;
@@ -6,6 +6,7 @@ use super::layout::Areas;
 use super::ledger;
 use super::placing::ClippedCount;
 use super::records::{count, first_records, Key, RECORD_BYTES};
+use super::settings::Settings;
 
 /// The three lookup areas.
 #[derive(Clone, Copy)]
@@ -13,6 +14,15 @@ pub struct Lookup<'a> {
     pub clipped: &'a [u8],
     pub buckets: &'a [u8],
     pub side: &'a [u8],
+}
+
+impl Lookup<'_> {
+    /// Each has its length under the settings.
+    fn fit(&self, settings: &Settings) -> bool {
+        let lengths = settings.area_lengths();
+        let lent = [self.clipped.len(), self.buckets.len(), self.side.len()];
+        (0..3).all(|i| lent[i] as u64 == lengths[2 + i])
+    }
 }
 
 impl Areas {
@@ -84,11 +94,7 @@ pub fn refused_at_once(card: &Card, areas: Lookup, key: &[u8]) -> Option<u32> {
     if !card.settings.allowed() {
         return Some(1);
     }
-    let lengths = card.settings.area_lengths();
-    if areas.clipped.len() as u64 != lengths[2]
-        || areas.buckets.len() as u64 != lengths[3]
-        || areas.side.len() as u64 != lengths[4]
-    {
+    if !areas.fit(&card.settings) {
         return Some(2);
     }
     if key.len() != KEY_BYTES {
@@ -221,6 +227,25 @@ pub fn second_search(card: &Card, areas: Lookup, key: &[u8]) -> Part {
     }
 }
 
+/// Many searches at once: a key of 13 bytes for each answer, and a lent hash table of so many entries. 0 with what the driver gets for each
+/// key, or the lowest of 1, 2 and 3 that applies and the answers as they were.
+pub fn burst(card: &Card, table: usize, areas: Lookup, keys: &[u8], answers: &mut [u64]) -> u32 {
+    if !card.settings.allowed() {
+        return 1;
+    }
+    if table != 256 * KEY_BYTES || !areas.fit(&card.settings) {
+        return 2;
+    }
+    if keys.len() != KEY_BYTES * answers.len() {
+        return 3;
+    }
+    for (i, answer) in answers.iter_mut().enumerate() {
+        let key = &keys[KEY_BYTES * i..KEY_BYTES * (i + 1)];
+        *answer = search(card, areas, key).door();
+    }
+    0
+}
+
 /// Tally's four numbers.
 #[derive(Clone, Copy, Debug, PartialEq, Eq)]
 pub struct Totals {
@@ -246,12 +271,7 @@ pub fn tally(card: &Card, ledger_area: &[u8], areas: Lookup) -> Result<Totals, u
     if !settings.allowed() {
         return Err(1);
     }
-    let lengths = settings.area_lengths();
-    if ledger_area.len() as u64 != lengths[0]
-        || areas.clipped.len() as u64 != lengths[2]
-        || areas.buckets.len() as u64 != lengths[3]
-        || areas.side.len() as u64 != lengths[4]
-    {
+    if ledger_area.len() as u64 != settings.area_lengths()[0] || !areas.fit(settings) {
         return Err(2);
     }
     if !ledger::valid(settings, ledger_area) {

@@ -1,4 +1,5 @@
-//! Document 01 in plain Rust, written from the paper alone. It shares no code with the doors or with the crate over them.
+//! Document 01 in plain Rust, and the burst of searches that was asked for later, written from their words alone. It shares no code with the
+//! doors or with the crate over them.
 //! Clear before fast: a layout takes time in proportion to records and buckets, all else is done as the paper says it.
 
 // each test takes the part of the model that it needs
