@@ -44,9 +44,6 @@ search_burst tuned_search_burst_ahead_by_gcc WHERE_LINKED, tuned_search_burst_ah
 search_lent before_flow_search_lent WHERE_LINKED;
 __typeof__(flow_search) before_flow_search WHERE_LINKED;
 
-/* Until include/flow.h declares it. */
-search_burst flow_search_burst WHERE_LINKED;
-
 /* Every way to look a key up: answer x 2^32 + class. */
 #define AREAS                                                                                                                            \
     set.p, set.k, set.room, set.top, set.capacity, set.side_places, at.clipped, at.clipped_length, at.buckets, at.buckets_length,        \

@@ -96,7 +96,7 @@ uint64_t flow_search(uint64_t p, uint64_t k, uint64_t room, uint64_t top, uint64
                      const uint8_t *side, size_t side_length, const uint8_t *key, size_t key_length);
 
 /* flow_search with a lent table: faster, for a driver that keeps one. Lent: table, of 3328 numbers, which flow_hash_table filled; the rest
- * as for flow_search. On another table of 3328 numbers the call is safe, and an accepted call answers 0, 100 or 5.
+ * as for flow_search. On another table of 3328 numbers the call is safe and alters nothing.
  * 2 also: table is not of 3328 numbers. */
 uint64_t flow_search_lent(const uint64_t *table, size_t table_length, uint64_t p, uint64_t k, uint64_t room, uint64_t top,
                           uint64_t capacity, uint64_t side_places, const uint8_t *clipped, size_t clipped_length,
