@@ -69,7 +69,8 @@ module _ (s : Card) where
         clear-after = or-right (many || not (rising (ledger-records s a))) after e;
       }
 
-  pub valid-has-layout : (a : List ℕ) → All Byte a → length a ≡ ledger-length s → ledger-invalid s a ≡ false → side-short s (ledger-records s a) ≡ false → HasLayout s (ledger-records s a)
+  pub valid-has-layout : (a : List ℕ) → All Byte a → length a ≡ ledger-length s → ledger-invalid s a ≡ false → side-short s (ledger-records s a) ≡ false
+      → HasLayout s (ledger-records s a)
   unfolding ledger-records ledger-length record-size
   valid-has-layout a bytes size e short =
       let v = valid a e in
@@ -178,7 +179,8 @@ module _ (s : Card) where
     stays tally l m g = g
 
     -- ---- one call
-    update-step : (k : List ℕ) (c : Call) (l : List Record) → HasLayout s l → (key-wrong s k ≡ true → refusal s c l ≡ 3) → update s k c (layout s l) ≡ shown s (updated s c l)
+    update-step : (k : List ℕ) (c : Call) (l : List Record) → HasLayout s l → (key-wrong s k ≡ true → refusal s c l ≡ 3)
+        → update s k c (layout s l) ≡ shown s (updated s c l)
     unfolding update updated
     update-step k c l g three =
         by-test (key-wrong s k) (λ e. rw (e, three e))

@@ -83,6 +83,11 @@ module _ {A : Type 0} where
   all-drop P (suc n) [] a = tt
   all-drop P (suc n) (x ∷ xs) a = all-drop P n xs (a .1)
 
+  pub all-take : (P : A → Type 0) (n : ℕ) (l : List A) → All P l → All P (take n l)
+  all-take P zero l a = tt
+  all-take P (suc n) [] a = tt
+  all-take P (suc n) (x ∷ xs) a = (a .0, all-take P n xs (a .1))
+
   pub any-cong : (p q : A → Bool) (l : List A) → All (λ x. p x ≡ q x) l → any p l ≡ any q l
   any-cong p q [] h = refl
   any-cong p q (x ∷ xs) h = rw (h .0, any-cong p q xs (h .1))
