@@ -17,7 +17,8 @@ use Rattle.theory.specs.Layout.{Areas, layout}
 use Rattle.theory.specs.Ledger.{Call, clear}
 use Rattle.theory.specs.Calls.{call, perform}
 use Rattle.theory.specs.Flowrun.{flowrun-settings, digits-of, decimal, header, Line, line-text, letter-call, call-in}
-use Rattle.theory.specs.Flowrun.{print-call, print-bytes, print-lines, call-count, output, print-blocks, plain-answer, plain-list, plain-letter, plain-lines, plain-output}
+use Rattle.theory.specs.Flowrun.{print-call, print-bytes, print-lines, call-count, output, print-blocks}
+use Rattle.theory.specs.Flowrun.{plain-answer, plain-list, plain-letter, plain-lines, plain-output}
 use Rattle.theory.specs.Demands.{Byte, Small, HasLayout, Sized}
 use Rattle.theory.proofs.ListLaws.{by-test, all-drop, all-take}
 use Rattle.theory.proofs.SettingsLaws.{sound}
