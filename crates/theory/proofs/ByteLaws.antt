@@ -9,15 +9,8 @@ use lib.Seq.{take-at, drop-at, take-suc, take-add, length-take-le}
 use Rattle.theory.specs.Lists.{flat}
 use Rattle.theory.specs.Records.{Record, to-bytes, number-after, of-bytes, record-bytes, entries, record-at, records, find, same-key, find-bytes}
 use Rattle.theory.specs.Lookup.{part}
+pub use Rattle.theory.specs.Demands.{Byte, Fit}
 use Rattle.theory.proofs.ListLaws.{by-test, All, all-map, all-at, all-drop}
-
-abbrev pub Byte : ℕ → Type 0
-Byte x = x < 256
-
--- a record whose key has w bytes and whose class has four
-pub record Fit (w : ℕ) (r : Record) : Type 0 where
-  pub wide : length (r .key) ≡ w
-  pub small : r .class < 2 ^ 32
 
 -- ---- numbers
 pub length-to-bytes : (k n : ℕ) → length (to-bytes k n) ≡ k

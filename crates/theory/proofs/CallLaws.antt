@@ -3,7 +3,7 @@ use mathlib.Core.Path.{_≡_, refl, ap, _∙_}
 use mathlib.Core.Bool.{Bool, true, false, cond, not, _&&_, _||_, and-false}
 use mathlib.Core.List.{List, [], _∷_, _++_, map, append-assoc}
 use mathlib.Core.Option.{some}
-use Prim.Native.Nat.{ℕ, zero, suc, _+_, _-_, _*_, _≤_, _<_, _^_, zero-le, min}
+use Prim.Native.Nat.{ℕ, zero, suc, _+_, _-_, _*_, _≤_, _<_, zero-le, min}
 use native.Mathlib.Nat.{le-refl, le-trans, mul-comm, mul-le-mul-right}
 use native.Mathlib.Omega.{arith}
 use lib.Dec.{eqb, ltb, leb}
@@ -12,12 +12,13 @@ use lib.ListN.{length, take, drop, replicate, length-append, length-drop, length
 use lib.Seq.{drop-at}
 use Rattle.theory.specs.Lists.{any, upto, flat}
 use Rattle.theory.specs.Records.{Record, to-bytes, of-bytes, count-of, record-bytes, rising, same-key, find}
-use Rattle.theory.specs.Settings.{Card, record-size, ledger-length, true-length, clipped-length, buckets-length, side-length}
+use Rattle.theory.specs.Settings.{Card, record-size, ledger-length, true-length, clipped-length, side-length}
 use Rattle.theory.specs.Placing.{true-count, side-need, mark, side-records, clip, crowded, choosers}
-use Rattle.theory.specs.Layout.{Areas, layout, layout-by, places, counted-places, counter-bytes, bucket-bytes, buckets-bytes, side-bytes}
+use Rattle.theory.specs.Layout.{layout, layout-by, places, counted-places, counter-bytes, bucket-bytes, buckets-bytes, side-bytes}
 use Rattle.theory.specs.Lookup.{part, counter, search-areas, fetch-areas}
 use Rattle.theory.specs.Ledger.{Call, clear, add, change, remove, search, fetch, tally, held, insert, replace, without, key-wrong, side-need-of, side-short, next, refusal, search-by, tally-of, updated, plain}
 use Rattle.theory.specs.Calls.{ledger-records, ledger-invalid, update, marks, lookup-invalid, tally-areas, call, shown}
+pub use Rattle.theory.specs.Demands.{Small, HasLayout, Sized}
 use Rattle.theory.proofs.ListLaws.{map-all, all-of-map, by-test, or-left, or-right, All, all-every, all-map, all-drop, all-upto, any-false, map-cong, filter-len, filter-all, length-flat, length-upto}
 use Rattle.theory.proofs.SettingsLaws.{Sound}
 use Rattle.theory.proofs.ByteLaws.{Byte, Fit, length-to-bytes, length-record, length-records, records-fit}
@@ -25,16 +26,6 @@ use Rattle.theory.proofs.LayoutLaws.{read-places, read-count, after-cou
 use Rattle.theory.proofs.PlacingLaws.{same-key-eq, mark-crowded}
 use Rattle.theory.proofs.LookupLaws.{central, central-bytes}
 use Rattle.theory.proofs.OrderLaws.{rising-insert, length-insert, insert-all, rising-filter, replace-key, rising-map}
-
--- a class is an unsigned 32-bit number
-abbrev pub Small : Call → Type 0
-Small clear = Unit {0}
-Small (add k x) = x < 2 ^ 32
-Small (change k x) = x < 2 ^ 32
-Small (remove k) = Unit {0}
-Small (search k) = Unit {0}
-Small (fetch k) = Unit {0}
-Small tally = Unit {0}
 
 -- a refusal that is 0: the test failed, and so did those after it
 not-refused : (t : Bool) (n m : ℕ) → cond t (suc n) m ≡ 0 → (t ≡ false) × (m ≡ 0)
@@ -51,21 +42,6 @@ module _ (s : Card) where
   found-width k r [] h e = let z : _≡_ {A = ℕ} 0 1 = cc in absurd (omega arith)
   found-width k r (x ∷ xs) h e =
       by-test (same-key k (x .key)) (λ q. ap length (same-key-eq k (x .key) q) ∙ h .0 .wide) (λ q. found-width k r xs (h .1) (rw q at e))
-
-  -- a list that has a layout: at most N records in rising key order, and a side need of at most S
-  pub record HasLayout (l : List Record) : Type 0 where
-    pub fit : All (Fit (s .width)) l
-    pub order : rising l ≡ true
-    pub few : length l ≤ s .capacity
-    pub need : side-need-of s l ≤ s .side-places
-
-  -- areas of the lengths that the settings give
-  pub record Sized (a : Areas) : Type 0 where
-    pub ledger : length (a .ledger) ≡ ledger-length s
-    pub true-counts : length (a .true-counts) ≡ true-length s
-    pub clipped-counts : length (a .clipped-counts) ≡ clipped-length s
-    pub buckets : length (a .buckets) ≡ buckets-length s
-    pub side-store : length (a .side-store) ≡ side-length s
 
   pub enough : (l : List Record) → side-short s l ≡ false → side-need-of s l ≤ s .side-places
   unfolding side-short
@@ -93,7 +69,8 @@ module _ (s : Card) where
         clear-after = or-right (many || not (rising (ledger-records s a))) after e;
       }
 
-  pub valid-has-layout : (a : List ℕ) → All Byte a → length a ≡ ledger-length s → ledger-invalid s a ≡ false → side-short s (ledger-records s a) ≡ false → HasLayout (ledger-records s a)
+  pub valid-has-layout : (a : List ℕ) → All Byte a → length a ≡ ledger-length s → ledger-invalid s a ≡ false → side-short s (ledger-records s a) ≡ false
+      → HasLayout s (ledger-records s a)
   unfolding ledger-records ledger-length record-size
   valid-has-layout a bytes size e short =
       let v = valid a e in
@@ -106,7 +83,7 @@ module _ (s : Card) where
       }
 
   module _ (ok : Sound s) where
-    pub sized : (l : List Record) → HasLayout l → Sized (layout s l)
+    pub sized : (l : List Record) → HasLayout s l → Sized s (layout s l)
     unfolding layout layout-by side-need-of side-need side-bytes ledger-length true-length clipped-length side-length
     sized l g =
         let c : ℕ → ℕ = true-count s l in
@@ -119,7 +96,7 @@ module _ (s : Card) where
         }
 
     -- ---- the ledger area of a layout is read back
-    module _ (l : List Record) (g : HasLayout l) where
+    module _ (l : List Record) (g : HasLayout s l) where
       count-back : of-bytes (take 2 (counted-places s (s .capacity) l)) ≡ length l
       count-back = read-count s (s .capacity) l (omega (arith, g .few, ok .capacity-small))
 
@@ -139,7 +116,7 @@ module _ (s : Card) where
       not-invalid = rw (ledger-back, count-back, tail-back, le-ltb (s .capacity) (length l) (g .few), g .order) (no-zeros (record-size s * (s .capacity - length l)))
 
     -- ---- an accepted update keeps a list good
-    pub has-layout-empty : HasLayout []
+    pub has-layout-empty : HasLayout s []
     unfolding side-need-of side-need side-records
     has-layout-empty = record { fit = tt; order = refl; few = zero-le; need = zero-le }
 
@@ -147,7 +124,7 @@ module _ (s : Card) where
     unfolding key-wrong
     width-of k e = eqb-true (length k) (s .width) (not-false (eqb (length k) (s .width)) e)
 
-    kept : (c : Call) (l : List Record) → Small c → HasLayout l → refusal s c l ≡ 0 → HasLayout (next s c l)
+    kept : (c : Call) (l : List Record) → Small c → HasLayout s l → refusal s c l ≡ 0 → HasLayout s (next s c l)
     unfolding next refusal replace without
     kept clear l m g e = has-layout-empty
     kept (add k x) l m g e =
@@ -187,11 +164,11 @@ module _ (s : Card) where
     kept (fetch k) l m g e = g
     kept tally l m g e = g
 
-    updated-stays : (c : Call) (l : List Record) → Small c → HasLayout l → HasLayout (updated s c l .state)
+    updated-stays : (c : Call) (l : List Record) → Small c → HasLayout s l → HasLayout s (updated s c l .state)
     unfolding updated
     updated-stays c l m g = by-test (eqb (refusal s c l) 0) (λ e. rw e (kept c l m g (eqb-true (refusal s c l) 0 e))) (λ e. rw e g)
 
-    pub stays : (c : Call) (l : List Record) → Small c → HasLayout l → HasLayout (plain s c l .state)
+    pub stays : (c : Call) (l : List Record) → Small c → HasLayout s l → HasLayout s (plain s c l .state)
     unfolding plain
     stays clear l m g = has-layout-empty
     stays (add k x) l m g = updated-stays (add k x) l m g
@@ -202,7 +179,8 @@ module _ (s : Card) where
     stays tally l m g = g
 
     -- ---- one call
-    update-step : (k : List ℕ) (c : Call) (l : List Record) → HasLayout l → (key-wrong s k ≡ true → refusal s c l ≡ 3) → update s k c (layout s l) ≡ shown s (updated s c l)
+    update-step : (k : List ℕ) (c : Call) (l : List Record) → HasLayout s l → (key-wrong s k ≡ true → refusal s c l ≡ 3)
+        → update s k c (layout s l) ≡ shown s (updated s c l)
     unfolding update updated
     update-step k c l g three =
         by-test (key-wrong s k) (λ e. rw (e, three e))
@@ -229,7 +207,7 @@ module _ (s : Card) where
       unfolding clip
       counter-range b h = rw (read-counter s ok c b h) (le-ltb (s .top) (min (c b) (s .top)) (omega arith))
 
-    tallied : (l : List Record) → HasLayout l → tally-areas s (layout s l) ≡ tally-of s l
+    tallied : (l : List Record) → HasLayout s l → tally-areas s (layout s l) ≡ tally-of s l
     unfolding tally-areas tally-of lookup-invalid layout layout-by side-need-of side-need side-bytes
     tallied l g =
         let c : ℕ → ℕ = true-count s l in
@@ -243,7 +221,7 @@ module _ (s : Card) where
           count-back l g,
         )
 
-    module _ (k : List ℕ) (l : List Record) (g : HasLayout l) where
+    module _ (k : List ℕ) (l : List Record) (g : HasLayout s l) where
       pub searched : search-areas s (layout s l .clipped-counts) (layout s l .buckets) (layout s l .side-store) k ≡ search-by s (true-count s l) l k
       unfolding layout layout-by side-need-of
       searched = central s ok (true-count s l) l (g .fit) (g .need) (λ b. le-refl (true-count s l b)) k
@@ -252,7 +230,7 @@ module _ (s : Card) where
       unfolding layout layout-by side-need-of
       fetched = central-bytes s ok (true-count s l) l (g .fit) (g .need) (λ b. le-refl (true-count s l b)) k
 
-    pub step : (c : Call) (l : List Record) → HasLayout l → call s c (layout s l) ≡ shown s (plain s c l)
+    pub step : (c : Call) (l : List Record) → HasLayout s l → call s c (layout s l) ≡ shown s (plain s c l)
     unfolding call plain
     step clear l g = refl
     step (add k x) l g = update-step k (add k x) l g (λ e. unfold refusal in rw e)

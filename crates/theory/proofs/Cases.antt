@@ -4,8 +4,8 @@ use mathlib.Core.Path.{_≡_, refl}
 use mathlib.Core.Bool.{Bool, true}
 use mathlib.Core.List.{List, [], _∷_, map}
 use Prim.Native.Nat.{ℕ}
-use lib.ListN.{getD, replicate}
-use Rattle.theory.specs.Lists.{all, fresh}
+use lib.ListN.{length, getD, replicate}
+use Rattle.theory.specs.Lists.{all, All, flat, upto, fresh}
 use Rattle.theory.specs.Hash.{if-set, rows-of, H-from, H, hash, numbers-of}
 use Rattle.theory.specs.Settings.{Settings, Card, card-of}
 use Rattle.theory.specs.Records.{Record, to-bytes, record-bytes, same-key}
@@ -13,7 +13,7 @@ use Rattle.theory.specs.Placing.{true-count, clip, all-top, least-count,
 use Rattle.theory.specs.Layout.{counter-bytes}
 use Rattle.theory.specs.Ledger.{remove, held, without, fill-of, key-wrong, side-need-of, side-short, next, refusal}
 use Rattle.theory.specs.Snapshot.{section, snapshot}
-use Rattle.theory.proofs.ListLaws.{All, all-each, all-map}
+use Rattle.theory.proofs.ListLaws.{all-each, all-map}
 use Rattle.theory.proofs.PlacingLaws.{same-key-eq}
 
 -- ---- keys of one byte, by the hashes that the paper gives them
@@ -76,10 +76,12 @@ need room top ks = side-need-of (card-with room top 8) (flows ks)
 zero-key : List ℕ
 zero-key = replicate 13 0
 
--- the settings of flowrun; and those of the snapshot case
-flowrun : Settings
-flowrun = record { p = 6; k = 3; room = 2; top = 4; capacity = 128; side-places = 8 }
+-- how many bucket numbers the zero key has under p and k, and which
+zero-key-numbers : ℕ → ℕ → List ℕ
+zero-key-numbers p k =
+    let l = card-of (record { p = p; k = k; room = 2; top = 4; capacity = 128; side-places = 8 }) .numbers zero-key in length l ∷ l
 
+-- the settings of the snapshot case
 smallest : Settings
 smallest = record { p = 4; k = 1; room = 1; top = 2; capacity = 1; side-places = 0 }
 
@@ -95,14 +97,16 @@ pub cases : List Case
 cases =
     -- the zero key: H 0, bucket 0 alone
     ((H zero-key ∷ []) gives (0 ∷ []))
-    ∷ ((card-of flowrun .numbers zero-key) gives (0 ∷ []))
+    -- for each p from 4 to 12 and each k from 1 to 4
+    ∷ (flat (λ p. flat (λ k. zero-key-numbers p k) (upto 1 4)) (upto 4 9) gives flat (λ i. 1 ∷ 0 ∷ []) (upto 0 36))
     -- buckets a {1,5}, b {1,6}, T 15: a in 5, b in 6; a by itself: in 1
     ∷ ((choice a (a ∷ b ∷ []) ∷ choice b (a ∷ b ∷ []) ∷ choice a (a ∷ []) ∷ []) gives (5 ∷ 6 ∷ 1 ∷ []))
     -- add c {5,8}, d {6,9}, w {1,7}: with B 1 side need 0
     ∷ ((need 1 15 (a ∷ b ∷ c ∷ d ∷ w ∷ []) ∷ []) gives (0 ∷ []))
-    -- without w: a and b both choose 1, side need 2; so with S 1 removing w is refused 9; with B 2 need 0
+    -- without w: a and b both choose 1, side need 2; so with S 1 removing w is refused 9, and with S 2 it is accepted; with B 2 need 0
     ∷ ((choice a (a ∷ b ∷ c ∷ d ∷ []) ∷ choice b (a ∷ b ∷ c ∷ d ∷ []) ∷ need 1 15 (a ∷ b ∷ c ∷ d ∷ []) ∷ []) gives (1 ∷ 1 ∷ 2 ∷ []))
     ∷ ((refusal (card-with 1 15 1) (remove (w ∷ [])) (flows (a ∷ b ∷ c ∷ d ∷ w ∷ [])) ∷ []) gives (9 ∷ []))
+    ∷ ((refusal (card-with 1 15 2) (remove (w ∷ [])) (flows (a ∷ b ∷ c ∷ d ∷ w ∷ [])) ∷ []) gives (0 ∷ []))
     ∷ ((need 2 15 (a ∷ b ∷ c ∷ d ∷ []) ∷ []) gives (0 ∷ []))
     -- three keys on {1,5}: T 3, need 3, whatever B is; T 4 and B 3, need 0
     ∷ (map (λ room. need room 3 (a ∷ a₂ ∷ a₃ ∷ [])) (1 ∷ 2 ∷ 3 ∷ 4 ∷ []) gives (3 ∷ 3 ∷ 3 ∷ 3 ∷ []))
@@ -123,7 +127,7 @@ agrees : Case → Bool
 agrees x = same-key (x .computed) (x .stated)
 
 tested : all agrees cases ≡ true
-unfolding agrees cases choice need flows card-with hashes zero-key flowrun smallest if-set rows-of H-from H hash numbers-of card-of to-bytes record-bytes true-count clip all-top least-count chosen chooses choosers crowded belongs-to-side side-records side-need counter-bytes held without fill-of key-wrong side-need-of side-short next refusal section snapshot
+unfolding agrees cases choice need flows card-with hashes zero-key zero-key-numbers smallest if-set rows-of H-from H hash numbers-of card-of to-bytes record-bytes true-count clip all-top least-count chosen chooses choosers crowded belongs-to-side side-records side-need counter-bytes held without fill-of key-wrong side-need-of side-short next refusal section snapshot
 tested = refl
 
 pub cases-hold : All (λ x. x .computed ≡ x .stated) cases

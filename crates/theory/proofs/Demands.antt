@@ -1,26 +1,32 @@
--- The demands on lists of calls and on search, over `perform` and under every allowed setting. Assumes nothing.
+-- The demands of specs/Demands.antt, but for the two on snapshots, which SnapshotLaws proves. Assumes nothing.
 use mathlib.Core.Path.{_≡_, refl, sym, ap, _∙_}
 use mathlib.Core.Logic.{_≢_}
-use mathlib.Core.Bool.{true, false, cond, not}
+use mathlib.Core.Bool.{Bool, true, false, cond, not, _||_, false≢true}
 use mathlib.Core.List.{List, [], _∷_}
 use mathlib.Core.Option.{none, some}
-use Prim.Native.Nat.{ℕ, _≤_, zero-le}
-use lib.Dec.{eqb}
+use Prim.Native.Nat.{ℕ, _+_, _*_, zero-le}
+use lib.Dec.{ltb, eqb}
 use borrow.Author.Tests.{eq-eqb}
 use lib.ListN.{length}
-use Rattle.theory.specs.Lists.{all}
-use Rattle.theory.specs.Records.{Record, record-bytes, find}
-use Rattle.theory.specs.Settings.{Settings, allowed, Card, card-of, work-length}
-use Rattle.theory.specs.Placing.{true-count, chosen}
+use Rattle.theory.specs.Lists.{all, All}
+use Rattle.theory.specs.Records.{Record, count-of, rising}
+use Rattle.theory.specs.Settings.{Settings, allowed, Card, key-width, card-of, record-size, ledger-length, work-length}
+use Rattle.theory.specs.Placing.{true-count}
 use Rattle.theory.specs.Layout.{Areas, layout}
-use Rattle.theory.specs.Lookup.{bare, counter, bucket-part, reads-bucket, search-areas, fetch-areas}
-use Rattle.theory.specs.Ledger.{Call, clear, add, change, remove, search, fetch, tally, answered, handed, Seen, unseen, seen, answer-seen, key-wrong, refusal, search-by, seen-by, plain}
-use Rattle.theory.specs.Calls.{reply-number, reply-class, reply-buckets-read, ledger-records, ledger-invalid, update, call, lookup-lengths, all-lengths, lent-lengths, perform, run, areas-after, run-plain, list-after}
-use Rattle.theory.proofs.ListLaws.{by-test, All}
+use Rattle.theory.specs.Lookup.{bare, place, search-areas, fetch-areas}
+use Rattle.theory.specs.Ledger.{Call, clear, add, change, remove, search, fetch, tally, answered, handed, Seen, unseen, seen, answer-seen, key-wrong}
+use Rattle.theory.specs.Ledger.{side-short, refusal, search-by, seen-by, plain}
+use Rattle.theory.specs.Calls.{reply-number, ledger-records, ledger-invalid, update, call, lookup-lengths, all-lengths, lent-lengths, only-reads, perform}
+use Rattle.theory.specs.Calls.{run, areas-after, run-plain, list-after}
+use Rattle.theory.specs.Snapshot.{save, file-settings, file-count, file-records, load}
+use Rattle.theory.specs.Packet.{header-wrong, ports-cut, read-packet}
+use Rattle.theory.specs.Demands.{Small, HasLayout, Sized, RefusedUnchanged, ReadsKeep, RefusedLoad, RefusedSave, RefusedPacket, HeldFound, AbsentNotFound}
+use Rattle.theory.specs.Demands.{Demand3, SameFlowsSameBytes, AreasAfterRun, ListAfterRun, ReadsAtMostOne, OneBucket}
+use Rattle.theory.proofs.ListLaws.{by-test}
 use Rattle.theory.proofs.SettingsLaws.{sound}
 use Rattle.theory.proofs.LookupLaws.{local-place, search-reads}
 use Rattle.theory.proofs.OrderLaws.{rising-answers}
-use Rattle.theory.proofs.CallLaws.{found-width, Small, HasLayout, Sized, sized, has-layout-empty, stays, step}
+use Rattle.theory.proofs.CallLaws.{found-width, sized, has-layout-empty, stays, step}
 
 -- ---- what a found record, and none, make of an answer
 held-answer : (r : Record) (k : List ℕ) (v : Seen) → (answer-seen (some r) k v .number ≡ 0) × (answer-seen (some r) k v .class ≡ r .class)
@@ -72,15 +78,11 @@ module _ (t : Settings) (ok : allowed t ≡ true) where
   pub performed-step : (c : Call) (l : List Record) → HasLayout s l → perform t w c (layout s l) ≡ record { reply = plain s c l .reply; state = layout s (plain s c l .state) }
   performed-step c l g = performed c (layout s l) (sized s (sound t ok) l g) ∙ step s (sound t ok) c l g
 
-  -- ---- DEMAND 3: from areas of the right lengths with any contents, a clear and then any calls come back, and leave the areas, as the plain ledger says
+  -- ---- from the layout of a list, any calls come back, and leave the areas, as the plain ledger says
   runs : (cs : List Call) (l : List Record) → All Small cs → HasLayout s l → run t w cs (layout s l) ≡ run-plain s cs l
   unfolding run run-plain
   runs [] l m g = refl
   runs (c ∷ cs) l m g = rw (performed-step c l g, runs cs (plain s c l .state) (m .1) (stays s (sound t ok) c l (m .0) g))
-
-  pub demand-3 : (a : Areas) → Sized s a → (cs : List Call) → All Small cs → run t w (clear ∷ cs) a ≡ run-plain s (clear ∷ cs) []
-  unfolding run run-plain call plain
-  demand-3 a z cs m = rw (performed clear a z, runs cs [] m (has-layout-empty s (sound t ok)))
 
   -- ---- the areas and the list after the calls
   after : (cs : List Call) (l : List Record) → All Small cs → HasLayout s l
@@ -94,35 +96,60 @@ module _ (t : Settings) (ok : allowed t ≡ true) where
   unfolding areas-after list-after call plain
   ends a z cs m = rw (performed clear a z) (after cs [] m (has-layout-empty s (sound t ok)))
 
-  -- two lists of calls, from any areas, whose plain ledgers answer alike for every key leave the same bytes
-  pub same-flows-same-bytes : (a b : Areas) → Sized s a → Sized s b → (cs ds : List Call) → All Small cs → All Small ds
-      → ((k : List ℕ) → find k (list-after s (clear ∷ cs) []) ≡ find k (list-after s (clear ∷ ds) []))
-      → areas-after t w (clear ∷ cs) a ≡ areas-after t w (clear ∷ ds) b
-  same-flows-same-bytes a b za zb cs ds mc md alike =
-      let c = ends a za cs mc in
-      let d = ends b zb ds md in
-      c .0 ∙ ap (layout s) (rising-answers (list-after s (clear ∷ cs) []) (list-after s (clear ∷ ds) []) (c .1 .order) (d .1 .order) alike) ∙ sym (d .0)
+-- ---- DEMAND 3
+pub demand-3 : Demand3
+unfolding run run-plain call plain
+demand-3 t ok a z cs m = rw (performed t ok clear a z, runs t ok cs [] m (has-layout-empty (card-of t) (sound t ok)))
 
-  -- ---- DEMAND 2: over the layout of a list, both searches give each held record's class and bytes, and absent for every other key
-  module _ (l : List Record) (g : HasLayout s l) (k : List ℕ) where
-    pub held-found : (r : Record) → find k l ≡ some r
-        → (reply-number (perform t w (search k) (layout s l) .reply) ≡ 0)
-        × (reply-class (perform t w (search k) (layout s l) .reply) ≡ r .class)
-        × (perform t w (fetch k) (layout s l) .reply ≡ handed (record-bytes r))
-    unfolding plain search-by
-    held-found r e =
-        let right : key-wrong s k ≡ false = right-width s k (found-width s k r l (g .fit) e) in
-        rw (performed-step (search k) l g, performed-step (fetch k) l g, right, e)
-        (held-answer r k (seen-by s (true-count s l) l k) .0, held-answer r k (seen-by s (true-count s l) l k) .1, refl)
+pub same-flows-same-bytes : SameFlowsSameBytes
+same-flows-same-bytes t ok a b za zb cs ds mc md alike =
+    let c = ends t ok a za cs mc in
+    let d = ends t ok b zb ds md in
+    let one = list-after (card-of t) (clear ∷ cs) [] in
+    let other = list-after (card-of t) (clear ∷ ds) [] in
+    c .0 ∙ ap (layout (card-of t)) (rising-answers one other (c .1 .order) (d .1 .order) alike) ∙ sym (d .0)
 
-    pub absent-not-found : find k l ≡ none → length k ≡ s .width
-        → (reply-number (perform t w (search k) (layout s l) .reply) ≡ 100)
-        × (reply-class (perform t w (search k) (layout s l) .reply) ≡ 0)
-        × (perform t w (fetch k) (layout s l) .reply ≡ handed [])
-    unfolding plain search-by
-    absent-not-found e wide =
-        rw (performed-step (search k) l g, performed-step (fetch k) l g, right-width s k wide, e)
-        (absent-answer k (seen-by s (true-count s l) l k) .0, absent-answer k (seen-by s (true-count s l) l k) .1, refl)
+pub areas-after-run : AreasAfterRun
+unfolding areas-after run
+areas-after-run t w [] a = refl
+areas-after-run t w (c ∷ cs) a = areas-after-run t w cs (perform t w c a .state)
+
+pub list-after-run : ListAfterRun
+unfolding list-after run-plain
+list-after-run s [] l = refl
+list-after-run s (c ∷ cs) l = list-after-run s cs (plain s c l .state)
+
+-- ---- DEMAND 2
+-- what a search gives takes no work area
+any-work-search : (t : Settings) (w v : ℕ) (k : List ℕ) (a : Areas) → perform t w (search k) a ≡ perform t v (search k) a
+unfolding perform lent-lengths
+any-work-search t w v k a = refl
+
+any-work-fetch : (t : Settings) (w v : ℕ) (k : List ℕ) (a : Areas) → perform t w (fetch k) a ≡ perform t v (fetch k) a
+unfolding perform lent-lengths
+any-work-fetch t w v k a = refl
+
+module _ (t : Settings) (ok : allowed t ≡ true) (w : ℕ) (l : List Record) (g : HasLayout (card-of t) l) (k : List ℕ) where
+  searched-step : perform t w (search k) (layout (card-of t) l) .reply ≡ plain (card-of t) (search k) l .reply
+  searched-step = rw (any-work-search t w (work-length (card-of t)) k (layout (card-of t) l), performed-step t ok (search k) l g)
+
+  fetched-step : perform t w (fetch k) (layout (card-of t) l) .reply ≡ plain (card-of t) (fetch k) l .reply
+  fetched-step = rw (any-work-fetch t w (work-length (card-of t)) k (layout (card-of t) l), performed-step t ok (fetch k) l g)
+
+pub held-found : HeldFound
+unfolding plain search-by
+held-found t ok w l g k r e =
+    let s = card-of t in
+    let right : key-wrong s k ≡ false = right-width s k (found-width s k r l (g .fit) e) in
+    let found = held-answer r k (seen-by s (true-count s l) l k) in
+    rw (searched-step t ok w l g k, fetched-step t ok w l g k, right, e) (found .0, found .1, refl)
+
+pub absent-not-found : AbsentNotFound
+unfolding plain search-by
+absent-not-found t ok w l g k e wide =
+    let s = card-of t in
+    let absent = absent-answer k (seen-by s (true-count s l) l k) in
+    rw (searched-step t ok w l g k, fetched-step t ok w l g k, right-width s k wide, e) (absent .0, absent .1, refl)
 
 -- ---- on every input: any settings, any lengths, any contents
 module _ (t : Settings) (w : ℕ) where
@@ -145,55 +172,110 @@ module _ (t : Settings) (w : ℕ) where
   fetch-reply k a =
       by-test (allowed t) (λ e. rw e (by-test (all (λ x. x) (lookup-lengths (card-of t) a)) (λ f. rw f) (λ f. rw f))) (λ e. rw e)
 
-  -- a search reads at most one bucket: its answer says so, and bytes of other buckets do not reach it
-  pub reads-at-most-one : (k : List ℕ) (a : Areas) → reply-buckets-read (perform t w (search k) a .reply) ≤ 1
-  reads-at-most-one k a =
-      rw (search-reply k a)
-      (by-test (allowed t)
-      (λ e. rw e (by-test (all (λ x. x) (lookup-lengths (card-of t) a))
-      (λ f. rw f (by-test (key-wrong (card-of t) k) (λ q. rw q zero-le)
-      (λ q. rw q (search-reads (card-of t) (a .clipped-counts) (a .buckets) (a .side-store) k))))
-      (λ f. rw f zero-le)))
-      (λ e. rw e zero-le))
+-- ---- a search reads at most one bucket
+pub reads-at-most-one : ReadsAtMostOne
+reads-at-most-one t w k a =
+    rw (search-reply t w k a)
+    (by-test (allowed t)
+    (λ e. rw e (by-test (all (λ x. x) (lookup-lengths (card-of t) a))
+    (λ f. rw f (by-test (key-wrong (card-of t) k) (λ q. rw q zero-le)
+    (λ q. rw q (search-reads (card-of t) (a .clipped-counts) (a .buckets) (a .side-store) k))))
+    (λ f. rw f zero-le)))
+    (λ e. rw e zero-le))
 
-  -- on any other lookup areas of these lengths with the same clipped counts and side store, and alike in the chosen bucket if one is read, the whole answer is
-  -- the same
-  pub one-bucket : (k : List ℕ) (a b : Areas)
-      → b .clipped-counts ≡ a .clipped-counts
-      → b .side-store ≡ a .side-store
-      → length (b .buckets) ≡ length (a .buckets)
-      → (reads-bucket (card-of t) (a .clipped-counts) k ≡ true
-      → bucket-part (card-of t) (b .buckets) (chosen (card-of t) (counter (a .clipped-counts)) k)
-      ≡ bucket-part (card-of t) (a .buckets) (chosen (card-of t) (counter (a .clipped-counts)) k))
-      → (perform t w (search k) b .reply ≡ perform t w (search k) a .reply) × (perform t w (fetch k) b .reply ≡ perform t w (fetch k) a .reply)
-  unfolding lookup-lengths search-areas fetch-areas
-  one-bucket k a b same-clipped same-side same-length alike =
-      let p = local-place (card-of t) (a .clipped-counts) (a .side-store) (b .buckets) (a .buckets) k alike in (
-        rw (search-reply k b, search-reply k a, same-clipped, same-side, same-length, p),
-        rw (fetch-reply k b, fetch-reply k a, same-clipped, same-side, same-length, p),
-      )
+-- 1, 2 and 3 first: two searches that agree where none of them applies agree
+judged-alike : {X : Type 0} (refused : ℕ → X) (x y z : Bool) (p q : X) → (x ≡ true → y ≡ true → z ≡ false → p ≡ q)
+    → cond (not x) (refused 1) (cond (not y) (refused 2) (cond z (refused 3) p)) ≡ cond (not x) (refused 1) (cond (not y) (refused 2) (cond z (refused 3) q))
+judged-alike refused true true true p q h = refl
+judged-alike refused true true false p q h = h refl refl refl
+judged-alike refused true false z p q h = refl
+judged-alike refused false y z p q h = refl
 
-  -- a refused call, answered with a number other than 0 and 100, leaves the five areas as they were
-  pub refused-unchanged : (c : Call) (a : Areas)
-      → reply-number (perform t w c a .reply) ≢ 0 → reply-number (perform t w c a .reply) ≢ 100 → perform t w c a .state ≡ a
-  unfolding perform
-  refused-unchanged c a =
-      by-test (allowed t)
-      (λ e. rw e (by-test (all (λ x. x) (lent-lengths (card-of t) w c a)) (λ f. rw f (call-refused c)) (λ f. rw f (λ n m. refl))))
-      (λ e. rw e (λ n m. refl))
-    where
-      updating : (k : List ℕ) (c : Call) → reply-number (update (card-of t) k c a .reply) ≢ 0 → update (card-of t) k c a .state ≡ a
-      updating k c =
-          unfold update in
-          by-test (key-wrong (card-of t) k) (λ e. rw e (λ n. refl))
-          (λ e. rw e (by-test (ledger-invalid (card-of t) (a .ledger)) (λ f. rw f (λ n. refl))
-          (λ f. rw f (by-test (eqb (refusal (card-of t) c (ledger-records (card-of t) (a .ledger))) 0) (λ z. rw z (λ n. absurd (n refl))) (λ z. rw z (λ n. refl))))))
+pub one-bucket : OneBucket
+unfolding lookup-lengths search-areas fetch-areas
+one-bucket t w k a b same-clipped same-side same-length alike =
+    let s = card-of t in
+    let lengths = all (λ x. x) (lookup-lengths s a) in
+    let p : allowed t ≡ true → lengths ≡ true → key-wrong s k ≡ false
+    → place s (a .clipped-counts) (b .buckets) (a .side-store) k ≡ place s (a .clipped-counts) (a .buckets) (a .side-store) k =
+    λ x y z. local-place s (a .clipped-counts) (a .side-store) (b .buckets) (a .buckets) k (λ r. alike (rw (x, y, z, r))) in (
+      rw (search-reply t w k b, search-reply t w k a, same-clipped, same-side, same-length)
+          (ap answered (judged-alike bare (allowed t) lengths (key-wrong s k) _ _ (λ x y z. rw (p x y z)))),
+      rw (fetch-reply t w k b, fetch-reply t w k a, same-clipped, same-side, same-length)
+          (ap handed (judged-alike (λ n. []) (allowed t) lengths (key-wrong s k) _ _ (λ x y z. rw (p x y z)))),
+    )
 
-      call-refused : (c : Call) → reply-number (call (card-of t) c a .reply) ≢ 0 → reply-number (call (card-of t) c a .reply) ≢ 100 → call (card-of t) c a .state ≡ a
-      call-refused clear n m = absurd (n (unfold call in refl))
-      call-refused (add k x) n m = unfold call in updating k (add k x) (unfold call in n)
-      call-refused (change k x) n m = unfold call in updating k (change k x) (unfold call in n)
-      call-refused (remove k) n m = unfold call in updating k (remove k) (unfold call in n)
-      call-refused (search k) n m = unfold call in refl
-      call-refused (fetch k) n m = unfold call in refl
-      call-refused tally n m = unfold call in refl
+-- ---- DEMAND 1
+-- a call on areas of the right lengths
+module _ (s : Card) (a : Areas) where
+  updating : (k : List ℕ) (c : Call) → reply-number (update s k c a .reply) ≢ 0 → update s k c a .state ≡ a
+  unfolding update
+  updating k c =
+      by-test (key-wrong s k) (λ e. rw e (λ n. refl))
+      (λ e. rw e (by-test (ledger-invalid s (a .ledger)) (λ f. rw f (λ n. refl))
+      (λ f. rw f (by-test (eqb (refusal s c (ledger-records s (a .ledger))) 0) (λ z. rw z (λ n. absurd (n refl))) (λ z. rw z (λ n. refl))))))
+
+  call-refused : (c : Call) → reply-number (call s c a .reply) ≢ 0 → call s c a .state ≡ a
+  unfolding call
+  call-refused clear n = absurd (n refl)
+  call-refused (add k x) n = updating k (add k x) n
+  call-refused (change k x) n = updating k (change k x) n
+  call-refused (remove k) n = updating k (remove k) n
+  call-refused (search k) n = refl
+  call-refused (fetch k) n = refl
+  call-refused tally n = refl
+
+  call-keeps : (c : Call) → only-reads c ≡ true → call s c a .state ≡ a
+  unfolding call
+  call-keeps clear e = absurd (false≢true e)
+  call-keeps (add k x) e = absurd (false≢true e)
+  call-keeps (change k x) e = absurd (false≢true e)
+  call-keeps (remove k) e = absurd (false≢true e)
+  call-keeps (search k) e = refl
+  call-keeps (fetch k) e = refl
+  call-keeps tally e = refl
+
+pub refused-unchanged : RefusedUnchanged
+unfolding perform
+refused-unchanged t w c a =
+    by-test (allowed t)
+    (λ e. rw e (by-test (all (λ x. x) (lent-lengths (card-of t) w c a)) (λ f. rw f (λ n m. call-refused (card-of t) a c n)) (λ f. rw f (λ n m. refl))))
+    (λ e. rw e (λ n m. refl))
+
+pub reads-keep : ReadsKeep
+unfolding perform
+reads-keep t w c a r =
+    by-test (allowed t)
+    (λ e. rw e (by-test (all (λ x. x) (lent-lengths (card-of t) w c a)) (λ f. rw f (call-keeps (card-of t) a c r)) (λ f. rw f)))
+    (λ e. rw e)
+
+pub refused-load : RefusedLoad
+unfolding load
+refused-load f w a =
+    let t = file-settings f in
+    let s = card-of t in
+    by-test (ltb (length f) 16 || not (eqb (count-of f) 6)) (λ e. rw e (λ n. refl))
+    (λ e. rw e (by-test (not (allowed t)) (λ e. rw e (λ n. refl))
+    (λ e. rw e (by-test (not (all (λ x. x) (eqb w (work-length s) ∷ all-lengths s a))) (λ e. rw e (λ n. refl))
+    (λ e. rw e (by-test (ltb (t .capacity) (file-count f)) (λ e. rw e (λ n. refl))
+    (λ e. rw e (by-test (not (eqb (length f) (16 + record-size s * file-count f))) (λ e. rw e (λ n. refl))
+    (λ e. rw e (by-test (not (rising (file-records f))) (λ e. rw e (λ n. refl))
+    (λ e. rw e (by-test (side-short s (file-records f)) (λ e. rw e (λ n. refl)) (λ e. rw e (λ n. absurd (n refl)))))))))))))))
+
+pub refused-save : RefusedSave
+unfolding save
+refused-save t ledger w target =
+    let s = card-of t in
+    let l = ledger-records s ledger in
+    by-test (not (allowed t)) (λ e. rw e (λ n. refl))
+    (λ e. rw e (by-test (not (all (λ x. x) (eqb w (work-length s) ∷ eqb (length ledger) (ledger-length s) ∷ []))) (λ e. rw e (λ n. refl))
+    (λ e. rw e (by-test (ledger-invalid s ledger) (λ e. rw e (λ n. refl))
+    (λ e. rw e (by-test (side-short s l) (λ e. rw e (λ n. refl))
+    (λ e. rw e (by-test (not (eqb (length target) (16 + record-size s * length l))) (λ e. rw e (λ n. refl)) (λ e. rw e (λ n. absurd (n refl)))))))))))
+
+pub refused-packet : RefusedPacket
+unfolding read-packet
+refused-packet q buffer =
+    by-test (not (eqb (length buffer) key-width)) (λ e. rw e (λ n. refl))
+    (λ e. rw e (by-test (header-wrong q) (λ e. rw e (λ n. refl))
+    (λ e. rw e (by-test (ports-cut q) (λ e. rw e (λ n. refl)) (λ e. rw e (λ n. absurd (n refl)))))))

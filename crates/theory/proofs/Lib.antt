@@ -9,6 +9,7 @@ pub mod LookupLaws
 pub mod OrderLaws
 pub mod CallLaws
 pub mod Demands
+pub mod LentLaws
 pub mod SnapshotLaws
 pub mod FlowrunLaws
 pub mod Cases

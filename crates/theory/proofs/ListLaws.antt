@@ -11,6 +11,7 @@ use borrow.Author.Tests.{eqb-true, eqb-false, eq-eqb, ne-eqb, leb-true, leb-fals
 use lib.ListN.{length, take, drop, getD, length-append}
 use lib.Seq.{take-at, drop-append-add}
 use Rattle.theory.specs.Lists.{filter, any, all, flat, upto, has, least}
+pub use Rattle.theory.specs.Lists.{All}
 
 -- ---- tests
 pub and-left : (a b : Bool) → (a && b) ≡ true → a ≡ true
@@ -54,11 +55,6 @@ by-test false f g = g refl
 pub eqb-same : (a b c d : ℕ) → (a ≡ b → c ≡ d) → (c ≡ d → a ≡ b) → eqb a b ≡ eqb c d
 eqb-same a b c d f g = by-test (eqb a b) (λ e. rw e (sym (eq-eqb c d (f (eqb-true a b e))))) (λ e. rw e (sym (ne-eqb c d (λ q. eqb-false a b e (g q)))))
 
--- P holds of each element
-abbrev pub All : {A : Type 0} → (A → Type 0) → List A → Type 0
-All P [] = Unit {0}
-All P (x ∷ xs) = P x × All P xs
-
 module _ {A : Type 0} where
   pub all-every : {P : A → Type 0} → ((x : A) → P x) → (l : List A) → All P l
   all-every f [] = tt
@@ -86,6 +82,11 @@ module _ {A : Type 0} where
   all-drop P zero l a = a
   all-drop P (suc n) [] a = tt
   all-drop P (suc n) (x ∷ xs) a = all-drop P n xs (a .1)
+
+  pub all-take : (P : A → Type 0) (n : ℕ) (l : List A) → All P l → All P (take n l)
+  all-take P zero l a = tt
+  all-take P (suc n) [] a = tt
+  all-take P (suc n) (x ∷ xs) a = (a .0, all-take P n xs (a .1))
 
   pub any-cong : (p q : A → Bool) (l : List A) → All (λ x. p x ≡ q x) l → any p l ≡ any q l
   any-cong p q [] h = refl

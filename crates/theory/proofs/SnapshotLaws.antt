@@ -9,17 +9,19 @@ use lib.Dec.{ltb, eqb}
 use borrow.Author.Tests.{ltb-false, le-ltb, eqb-true, eq-eqb, not-false}
 use lib.ListN.{length, take, drop, getD, length-append, length-drop, take-append-drop}
 use lib.Seq.{take-at, drop-at, take-all, drop-drop}
-use Rattle.theory.specs.Lists.{all, flat}
+use Rattle.theory.specs.Lists.{all, All, flat}
 use Rattle.theory.specs.Records.{Record, to-bytes, of-bytes, count-of, record-bytes, entries, records, rising}
 use Rattle.theory.specs.Settings.{Settings, allowed, Card, card-of, record-size, ledger-length, work-length}
 use Rattle.theory.specs.Layout.{Areas, layout, layout-by, counted-places}
 use Rattle.theory.specs.Ledger.{side-short}
 use Rattle.theory.specs.Calls.{ledger-records, ledger-invalid, all-lengths}
 use Rattle.theory.specs.Snapshot.{section, snapshot, Saved, save, Loaded, setting, file-settings, file-count, file-records, load}
-use Rattle.theory.proofs.ListLaws.{All, all-every, all-each, all-map, all-drop, length-flat, or-left, or-right}
+use Rattle.theory.specs.Demands.{Byte, HasLayout, Sized, LoadSave, SaveLoad}
+use Rattle.theory.proofs.ListLaws.{all-every, all-each, all-map, all-drop, length-flat, or-left, or-right}
 use Rattle.theory.proofs.SettingsLaws.{ranges, sound}
-use Rattle.theory.proofs.ByteLaws.{Byte, length-to-bytes, of-to-bytes, to-of-bytes, length-record, read-entries, write-entries, length-records, read-records, records-fit, write-records}
-use Rattle.theory.proofs.CallLaws.{HasLayout, Sized, sized, enough, not-enough, valid-has-layout, ledger-back, not-invalid}
+use Rattle.theory.proofs.ByteLaws.{length-to-bytes, of-to-bytes, to-of-bytes, length-record, read-entries, write-entries, length-records, read-records}
+use Rattle.theory.proofs.ByteLaws.{records-fit, write-records}
+use Rattle.theory.proofs.CallLaws.{sized, enough, not-enough, valid-has-layout, ledger-back, not-invalid}
 use Rattle.theory.proofs.Demands.{all-lengths-right}
 
 -- a test that failed, since the answer's number is 0
@@ -168,12 +170,13 @@ module _ (t : Settings) (ledger : List ℕ) (w : ℕ) (target : List ℕ) (done 
         wrote = rw (a .0, b .0, c .0, d .0, e .0);
       }
 
-  pub load-save : All Byte ledger → (a : Areas) → Sized (card-of t) a
-      → load (save t ledger w target .target) (work-length (card-of t)) a ≡ record { number = 0; settings = t; areas = layout (card-of t) flows }
-  load-save bytes a z =
-      let g = saving in
-      let size : length ledger ≡ ledger-length (card-of t) = eqb-true _ _ (all-each (λ x. x) (eqb w (work-length (card-of t)) ∷ eqb (length ledger) (ledger-length (card-of t)) ∷ []) (g .lengths) .1 .0) in
-      rw (g .wrote) (load-snapshot t (g .ok) flows (valid-has-layout (card-of t) ledger bytes size (g .valid) (g .need)) a z)
+pub load-save : LoadSave
+load-save t ledger w target done bytes a z =
+    let s = card-of t in
+    let g = saving t ledger w target done in
+    let lengths = all-each (λ x. x) (eqb w (work-length s) ∷ eqb (length ledger) (ledger-length s) ∷ []) (g .lengths) in
+    let size : length ledger ≡ ledger-length s = eqb-true _ _ (lengths .1 .0) in
+    rw (g .wrote) (load-snapshot t (g .ok) (ledger-records s ledger) (valid-has-layout s ledger bytes size (g .valid) (g .need)) a z)
 
 -- ---- SAVE-LOAD: a file that loads is the one that saving then writes
 module _ (f : List ℕ) (w : ℕ) (a : Areas) (done : load f w a .number ≡ 0) where
@@ -252,10 +255,14 @@ module _ (f : List ℕ) (w : ℕ) (a : Areas) (done : load f w a .number ≡ 0) 
     snapshot-written : snapshot t (file-records f) ≡ f
     snapshot-written = rw (snapshot-is t (file-records f), head-written, records-written) (take-append-drop 16 f)
 
-    pub save-load : (target : List ℕ) → length target ≡ length f
-        → save (load f w a .settings) (load f w a .areas .ledger) (work-length (card-of (load f w a .settings))) target ≡ record { number = 0; target = f }
-    save-load target e =
-        rw (loading .wrote)
-        (save-layout t (loading .ok) (file-records f) has-layout target (e ∙ ap length (sym snapshot-written)) (layout s (file-records f) .ledger)
-        (unfold layout layout-by in refl) (sized s (sound t (loading .ok)) (file-records f) has-layout .ledger)
-        ∙ rw snapshot-written)
+pub save-load : SaveLoad
+unfolding layout layout-by
+save-load f w a done bytes target e =
+    let t = file-settings f in
+    let l = file-records f in
+    let g = loading f w a done in
+    let h = has-layout f w a done bytes in
+    let written : snapshot t l ≡ f = snapshot-written f w a done bytes in
+    rw (g .wrote)
+    (save-layout t (g .ok) l h target (e ∙ ap length (sym written)) (layout (card-of t) l .ledger) refl (sized (card-of t) (sound t (g .ok)) l h .ledger)
+    ∙ rw written)

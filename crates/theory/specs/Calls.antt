@@ -1,5 +1,5 @@
 -- Document 01, 'The calls' and 'Who brings on a refusal': the seven calls on areas with any contents and any lengths, and lists of calls. Assumes nothing.
-use mathlib.Core.Bool.{Bool, cond, not, _&&_, _||_}
+use mathlib.Core.Bool.{Bool, true, false, cond, not, _&&_, _||_}
 use mathlib.Core.List.{List, [], _∷_, map}
 use Prim.Native.Nat.{ℕ, _+_, _*_}
 use lib.Dec.{ltb, eqb}
@@ -102,6 +102,35 @@ module _ (s : Card) where
   lent-lengths w (fetch k) a = lookup-lengths a
   lent-lengths w tally a = eqb (length (a .ledger)) (ledger-length s) ∷ lookup-lengths a
 
+-- search and fetch are lent the lookup areas, tally the ledger besides; areas that a call is not lent stand empty, and a call that takes no work area has none
+abbrev pub lent-areas : Call → Areas → Areas
+lent-areas clear a = a
+lent-areas (add k x) a = a
+lent-areas (change k x) a = a
+lent-areas (remove k) a = a
+lent-areas (search k) a = record { ledger = []; true-counts = []; clipped-counts = a .clipped-counts; buckets = a .buckets; side-store = a .side-store }
+lent-areas (fetch k) a = record { ledger = []; true-counts = []; clipped-counts = a .clipped-counts; buckets = a .buckets; side-store = a .side-store }
+lent-areas tally a = record { ledger = a .ledger; true-counts = []; clipped-counts = a .clipped-counts; buckets = a .buckets; side-store = a .side-store }
+
+abbrev pub lent-work : Call → ℕ → ℕ
+lent-work clear w = 0
+lent-work (add k x) w = w
+lent-work (change k x) w = w
+lent-work (remove k) w = w
+lent-work (search k) w = 0
+lent-work (fetch k) w = 0
+lent-work tally w = 0
+
+-- the calls that only read
+abbrev pub only-reads : Call → Bool
+only-reads clear = false
+only-reads (add k x) = false
+only-reads (change k x) = false
+only-reads (remove k) = false
+only-reads (search k) = true
+only-reads (fetch k) = true
+only-reads tally = true
+
 -- a call under any settings, on areas of any lengths and contents, with a work area of w numbers of any contents: 1, then 2, then the call
 unfoldable pub perform : Settings → ℕ → Call → Areas → Step Areas
 perform t w c a =
@@ -115,6 +144,11 @@ run t w (c ∷ cs) a = perform t w c a ∷ run t w cs (perform t w c a .state)
 unfoldable pub areas-after : Settings → ℕ → List Call → Areas → Areas
 areas-after t w [] a = a
 areas-after t w (c ∷ cs) a = areas-after t w cs (perform t w c a .state)
+
+-- the state of the last of these steps, from state a
+abbrev pub last-state : {X : Type 0} → X → List (Step X) → X
+last-state a [] = a
+last-state a (x ∷ xs) = last-state (x .state) xs
 
 -- the plain ledger's, each list shown as its layout
 abbrev pub shown : Card → Step (List Record) → Step Areas

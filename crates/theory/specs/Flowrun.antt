@@ -5,11 +5,11 @@ use mathlib.Core.Option.{Option, none, some}
 use Prim.Native.Nat.{ℕ, zero, suc, _+_, _/_, _%_}
 use lib.Dec.{ltb, eqb}
 use lib.ListN.{length, take, drop, getD}
-use Rattle.theory.specs.Records.{of-bytes}
+use Rattle.theory.specs.Records.{Record, of-bytes}
 use Rattle.theory.specs.Settings.{Settings, card-of, work-length}
 use Rattle.theory.specs.Layout.{Areas, layout}
 use Rattle.theory.specs.Lookup.{Answer, bare}
-use Rattle.theory.specs.Ledger.{Call, clear, add, change, remove, search, fetch, tally, Reply, answered, handed, totalled}
+use Rattle.theory.specs.Ledger.{Call, clear, add, change, remove, search, fetch, tally, Reply, answered, handed, totalled, plain}
 use Rattle.theory.specs.Calls.{perform}
 
 -- "Settings 6, 3, 2, 4, 128, 8 in the order above"
@@ -117,3 +117,35 @@ unfoldable pub output : List ℕ → List ℕ
 output b =
     let s = card-of flowrun-settings in
     header ++ print-lines (work-length s) 1 (call-count b) b (layout s []) .text
+
+-- ---- the same in blocks, as the program reads its input: blocks of whole calls, then a last one; each is numbered on, over the areas that the one before left
+unfoldable pub print-blocks : ℕ → ℕ → List (List ℕ) → List ℕ → Areas → Printed
+print-blocks w n [] last a = print-lines w n (call-count last) last a
+print-blocks w n (x ∷ xs) last a =
+    let block = print-lines w n (call-count x) x a in
+    let rest = print-blocks w (n + call-count x) xs last (block .areas) in
+    record { text = block .text ++ rest .text; areas = rest .areas }
+
+-- ---- the same by the plain ledger: its answer to a call of the input, 14 where there is none, and its list after it
+abbrev pub plain-answer : Option Call → List Record → Answer
+plain-answer none l = bare 14
+plain-answer (some c) l = printed c (plain (card-of flowrun-settings) c l .reply)
+
+abbrev pub plain-list : Option Call → List Record → List Record
+plain-list none l = l
+plain-list (some c) l = plain (card-of flowrun-settings) c l .state
+
+-- the letter of a call, or ?
+abbrev pub plain-letter : ℕ → Option Call → ℕ
+plain-letter letter none = 63
+plain-letter letter (some c) = letter
+
+unfoldable pub plain-lines : ℕ → ℕ → List ℕ → List Record → List ℕ
+plain-lines n zero b l = []
+plain-lines n (suc k) b l =
+    let c = call-in (take 18 b) in
+    line-text (record { call = n; letter = plain-letter (getD (take 18 b) 0 0) c; answer = plain-answer c l })
+    ++ plain-lines (suc n) k (drop 18 b) (plain-list c l)
+
+unfoldable pub plain-output : List ℕ → List ℕ
+plain-output b = header ++ plain-lines 1 (call-count b) b []

@@ -10,3 +10,4 @@ pub mod Calls
 pub mod Snapshot
 pub mod Packet
 pub mod Flowrun
+pub mod Demands

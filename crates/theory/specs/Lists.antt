@@ -23,6 +23,11 @@ module _ {A : Type 0} where
   flat f [] = []
   flat f (x ∷ xs) = f x ++ flat f xs
 
+-- P holds of each element
+abbrev pub All : {A : Type 0} → (A → Type 0) → List A → Type 0
+All P [] = Unit {0}
+All P (x ∷ xs) = P x × All P xs
+
 -- n numbers from a up
 abbrev pub upto : ℕ → ℕ → List ℕ
 upto a zero = []
