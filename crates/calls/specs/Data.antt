@@ -4,17 +4,16 @@ use Prim.Native.Nat.{ℕ}
 use Rattle.theory.specs.Ledger as plain
 use Rattle.lookup.specs.Answers.{answer-of}
 use Rattle.lookup.specs.Tallies.{totals-of}
+use Rattle.update.specs.Editing as edits
 use Rattle.calls.specs.declared.Kind.{Kind}
-use Rattle.calls.specs.declared.Kind.the-variants.{Clear, Add, Change, Remove, Search, Tally}
+use Rattle.calls.specs.declared.Kind.the-variants.{Clear, Update, Search, Tally}
 use Rattle.calls.specs.declared.Reply.{Reply}
 use Rattle.calls.specs.declared.Reply.the-variants.{Answered, Totalled}
 
 -- the call of a kind, with a key and a class
 abbrev pub call-of : Kind → List ℕ → ℕ → plain.Call
 call-of Clear k x = plain.clear
-call-of Add k x = plain.add k x
-call-of Change k x = plain.change k x
-call-of Remove k x = plain.remove k
+call-of (Update edit) k x = edits.call-of edit k x
 call-of Search k x = plain.search k
 call-of Tally k x = plain.tally
 

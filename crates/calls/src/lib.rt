@@ -1,9 +1,11 @@
 // A call as data: programs that run lists of calls go through this one function.
 use lookup::searching::Answer;
 use lookup::tallying::Totals;
+use settings::Given;
 use update::Edit;
 ghost use mathlib.Core.Path.{_≡_};
 ghost use lib.ListN.{length};
+ghost use Rattle.settings.specs.Checked.{given-of};
 ghost use Rattle.theory.specs.Layout.{Areas};
 ghost use Rattle.theory.specs.Lookup.{bare};
 ghost use Rattle.theory.specs.Ledger.{Step, answered};
@@ -13,9 +15,7 @@ ghost use Rattle.calls.specs.Data.{call-of, reply-of};
 // The kinds of call; the second search call hands back a part of an area, and is lookup::fetching::fetch.
 pub enum Kind {
     Clear,
-    Add,
-    Change,
-    Remove,
+    Update(Edit),
     Search,
     Tally,
 }
@@ -34,12 +34,7 @@ fn answer_only(number: u32) -> Reply
 
 pub fn perform(
     kind: Kind,
-    p: u64,
-    k: u64,
-    room: u64,
-    top: u64,
-    capacity: u64,
-    side_places: u64,
+    given: Given,
     ledger: &mut [u8],
     true_counts: &mut [u16],
     clipped: &mut [u8],
@@ -50,93 +45,39 @@ pub fn perform(
     class: u32,
 ) -> Reply
     ensures { λ r. ⌜ _≡_ {A = Step Areas} (record { reply = reply-of r; state = record { ledger = now (ledger .exit); true-counts = now («true_counts» .exit); clipped-counts = now (clipped .exit); buckets = now (buckets .exit); side-store = now (side .exit) } })
-        (plain.perform (record { p = p; k = k; room = room; top = top; capacity = capacity; side-places = «side_places» }) (length (now (work .entry))) (call-of kind (now (key .entry)) class)
+        (plain.perform (given-of given) (length (now (work .entry))) (call-of kind (now (key .entry)) class)
         (record { ledger = now (ledger .entry); true-counts = now («true_counts» .entry); clipped-counts = now (clipped .entry); buckets = now (buckets .entry); side-store = now (side .entry) })) ⌝ }
 {
     match kind {
         Kind::Clear => answer_only(update::clear(
-            p,
-            k,
-            room,
-            top,
-            capacity,
-            side_places,
-            &mut ledger[..],
-            &mut true_counts[..],
-            &mut clipped[..],
-            &mut buckets[..],
-            &mut side[..],
+            given,
+            ledger,
+            true_counts,
+            clipped,
+            buckets,
+            side,
         )),
-        Kind::Add => answer_only(update::update(
-            Edit::Insert,
-            p,
-            k,
-            room,
-            top,
-            capacity,
-            side_places,
-            &mut ledger[..],
-            &mut true_counts[..],
-            &mut clipped[..],
-            &mut buckets[..],
-            &mut side[..],
-            &mut work[..],
-            key,
-            class,
-        )),
-        Kind::Change => answer_only(update::update(
-            Edit::Replace,
-            p,
-            k,
-            room,
-            top,
-            capacity,
-            side_places,
-            &mut ledger[..],
-            &mut true_counts[..],
-            &mut clipped[..],
-            &mut buckets[..],
-            &mut side[..],
-            &mut work[..],
-            key,
-            class,
-        )),
-        Kind::Remove => answer_only(update::update(
-            Edit::Remove,
-            p,
-            k,
-            room,
-            top,
-            capacity,
-            side_places,
-            &mut ledger[..],
-            &mut true_counts[..],
-            &mut clipped[..],
-            &mut buckets[..],
-            &mut side[..],
-            &mut work[..],
+        Kind::Update(edit) => answer_only(update::update(
+            edit,
+            given,
+            ledger,
+            true_counts,
+            clipped,
+            buckets,
+            side,
+            work,
             key,
             class,
         )),
         Kind::Search => Reply::Answered(lookup::searching::search(
-            p,
-            k,
-            room,
-            top,
-            capacity,
-            side_places,
+            given,
             clipped,
             buckets,
             side,
             key,
         )),
         Kind::Tally => Reply::Totalled(lookup::tallying::tally(
-            p,
-            k,
-            room,
-            top,
-            capacity,
-            side_places,
+            given,
             ledger,
             clipped,
             buckets,

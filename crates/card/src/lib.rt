@@ -2,6 +2,7 @@
 // its answer and of each lent area at exit are in specs/Doors.antt.
 use hash::Numbers;
 use settings::Checked;
+use settings::Given;
 use settings::Settings;
 ghost use mathlib.Core.Path.{_≡_};
 ghost use mathlib.Core.Bool.{true};
@@ -29,7 +30,15 @@ pub extern "C" fn flow_settings_check(
 ) -> u32
     ensures { λ r. ⌜ r ≡ settings-check-of (record { p = p; k = k; room = room; top = top; capacity = capacity; side-places = «side_places» }) ⌝ }
 {
-    let checked = Settings::new(p, k, room, top, capacity, side_places);
+    let given = Given {
+        p,
+        k,
+        room,
+        top,
+        capacity,
+        side_places,
+    };
+    let checked = Settings::new(given);
     match checked {
         Checked::Allowed(_) => 0,
         Checked::Refused => 1,
@@ -50,7 +59,15 @@ pub extern "C" fn flow_area_lengths(
     ensures { λ r. ⌜ _≡_ {A = Filled} (record { number = r; area = now (lengths .exit) })
         (area-lengths-of (record { p = p; k = k; room = room; top = top; capacity = capacity; side-places = «side_places» }) (now (lengths .entry))) ⌝ }
 {
-    let checked = Settings::new(p, k, room, top, capacity, side_places);
+    let given = Given {
+        p,
+        k,
+        room,
+        top,
+        capacity,
+        side_places,
+    };
+    let checked = Settings::new(given);
     let Checked::Allowed(s) = checked else {
         return 1;
     };
@@ -135,7 +152,15 @@ pub extern "C" fn flow_key_buckets(
     ensures { λ r. ⌜ _≡_ {A = Numbered} (record { number = r; hashes = now (hashes .exit); numbers = now (numbers .exit) })
         (key-buckets-of (record { p = p; k = k; room = room; top = top; capacity = capacity; side-places = «side_places» }) (now (key .entry)) (now (hashes .entry)) (now (numbers .entry))) ⌝ }
 {
-    let checked = Settings::new(p, k, room, top, capacity, side_places);
+    let given = Given {
+        p,
+        k,
+        room,
+        top,
+        capacity,
+        side_places,
+    };
+    let checked = Settings::new(given);
     let Checked::Allowed(s) = checked else {
         return 1;
     };

@@ -1,5 +1,6 @@
 // The doors that only read: search and tally.
 use lookup::tallying::Totals;
+use settings::Given;
 ghost use mathlib.Core.Path.{_≡_};
 ghost use mathlib.Core.List.{[], _∷_};
 ghost use lib.ListN.{length};
@@ -24,18 +25,15 @@ pub extern "C" fn flow_search(
 ) -> u64
     ensures { λ r. ⌜ r ≡ search-of (record { p = p; k = k; room = room; top = top; capacity = capacity; side-places = «side_places» }) (now (clipped .entry)) (now (buckets .entry)) (now (side .entry)) (now (key .entry)) ⌝ }
 {
-    lookup::bursts::search_number(
+    let given = Given {
         p,
         k,
         room,
         top,
         capacity,
         side_places,
-        clipped,
-        buckets,
-        side,
-        key,
-    )
+    };
+    lookup::bursts::search_number(given, clipped, buckets, side, key)
 }
 
 // The same with a table that the driver keeps: one read of it a byte.
@@ -55,14 +53,17 @@ pub extern "C" fn flow_search_lent(
 ) -> u64
     ensures { λ r. ⌜ SearchedLent (now (table .entry)) (record { p = p; k = k; room = room; top = top; capacity = capacity; side-places = «side_places» }) (now (clipped .entry)) (now (buckets .entry)) (now (side .entry)) (now (key .entry)) r ⌝ }
 {
-    lookup::searching::driver_number(lookup::searching::search_lent(
-        table,
+    let given = Given {
         p,
         k,
         room,
         top,
         capacity,
         side_places,
+    };
+    lookup::searching::driver_number(lookup::searching::search_lent(
+        table,
+        given,
         clipped,
         buckets,
         side,
@@ -90,20 +91,15 @@ pub extern "C" fn flow_search_burst(
         (burst-of (now (table .entry)) (record { p = p; k = k; room = room; top = top; capacity = capacity; side-places = «side_places» })
         (now (clipped .entry)) (now (buckets .entry)) (now (side .entry)) (now (keys .entry)) (now (answers .entry))) ⌝ }
 {
-    lookup::bursts::search_burst(
-        table,
+    let given = Given {
         p,
         k,
         room,
         top,
         capacity,
         side_places,
-        clipped,
-        buckets,
-        side,
-        keys,
-        answers,
-    )
+    };
+    lookup::bursts::search_burst(table, given, clipped, buckets, side, keys, answers)
 }
 
 // Records in buckets, records in the side store, buckets marked 255, fill.
@@ -135,18 +131,15 @@ pub extern "C" fn flow_tally(
     ensures { λ r. ⌜ _≡_ {A = Filled} (record { number = r; area = now (totals .exit) })
         (tally-of (record { p = p; k = k; room = room; top = top; capacity = capacity; side-places = «side_places» }) (now (ledger .entry)) (now (clipped .entry)) (now (buckets .entry)) (now (side .entry)) (now (totals .entry))) ⌝ }
 {
-    let x = lookup::tallying::tally(
+    let given = Given {
         p,
         k,
         room,
         top,
         capacity,
         side_places,
-        ledger,
-        clipped,
-        buckets,
-        side,
-    );
+    };
+    let x = lookup::tallying::tally(given, ledger, clipped, buckets, side);
     let number = x.number;
     if number == 1 {
         return 1;

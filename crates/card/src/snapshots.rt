@@ -1,4 +1,5 @@
 // The doors of snapshots: save and load.
+use settings::Given;
 use settings::Settings;
 ghost use mathlib.Core.Path.{_≡_};
 ghost use mathlib.Core.Bool.{cond};
@@ -26,17 +27,15 @@ pub extern "C" fn flow_save(
     ensures { λ r. ⌜ _≡_ {A = Saved} (record { number = r; target = now (target .exit) })
         (save (record { p = p; k = k; room = room; top = top; capacity = capacity; side-places = «side_places» }) (now (ledger .entry)) (length (now (work .entry))) (now (target .entry))) ⌝ }
 {
-    snapshot::saving::save(
+    let given = Given {
         p,
         k,
         room,
         top,
         capacity,
         side_places,
-        ledger,
-        &mut work[..],
-        &mut target[..],
-    )
+    };
+    snapshot::saving::save(given, ledger, &mut work[..], &mut target[..])
 }
 
 // 1 where loading would answer it, else 2.

@@ -1,4 +1,5 @@
 // The doors that write: clear, add, change and remove. Each answers the number of the call, and writes every area or none.
+use settings::Given;
 use update::Edit;
 ghost use mathlib.Core.Path.{_≡_};
 ghost use lib.ListN.{length};
@@ -27,13 +28,16 @@ pub extern "C" fn flow_clear(
         (perform (record { p = p; k = k; room = room; top = top; capacity = capacity; side-places = «side_places» }) 0 calls.clear
         (record { ledger = now (ledger .entry); true-counts = now («true_counts» .entry); clipped-counts = now (clipped .entry); buckets = now (buckets .entry); side-store = now (side .entry) })) ⌝ }
 {
-    update::clear(
+    let given = Given {
         p,
         k,
         room,
         top,
         capacity,
         side_places,
+    };
+    update::clear(
+        given,
         &mut ledger[..],
         &mut true_counts[..],
         &mut clipped[..],
@@ -64,14 +68,17 @@ pub extern "C" fn flow_add(
         (perform (record { p = p; k = k; room = room; top = top; capacity = capacity; side-places = «side_places» }) (length (now (work .entry))) (calls.add (now (key .entry)) class)
         (record { ledger = now (ledger .entry); true-counts = now («true_counts» .entry); clipped-counts = now (clipped .entry); buckets = now (buckets .entry); side-store = now (side .entry) })) ⌝ }
 {
-    update::update(
-        Edit::Insert,
+    let given = Given {
         p,
         k,
         room,
         top,
         capacity,
         side_places,
+    };
+    update::update(
+        Edit::Insert,
+        given,
         &mut ledger[..],
         &mut true_counts[..],
         &mut clipped[..],
@@ -105,14 +112,17 @@ pub extern "C" fn flow_change(
         (perform (record { p = p; k = k; room = room; top = top; capacity = capacity; side-places = «side_places» }) (length (now (work .entry))) (calls.change (now (key .entry)) class)
         (record { ledger = now (ledger .entry); true-counts = now («true_counts» .entry); clipped-counts = now (clipped .entry); buckets = now (buckets .entry); side-store = now (side .entry) })) ⌝ }
 {
-    update::update(
-        Edit::Replace,
+    let given = Given {
         p,
         k,
         room,
         top,
         capacity,
         side_places,
+    };
+    update::update(
+        Edit::Replace,
+        given,
         &mut ledger[..],
         &mut true_counts[..],
         &mut clipped[..],
@@ -145,14 +155,17 @@ pub extern "C" fn flow_remove(
         (perform (record { p = p; k = k; room = room; top = top; capacity = capacity; side-places = «side_places» }) (length (now (work .entry))) (calls.remove (now (key .entry)))
         (record { ledger = now (ledger .entry); true-counts = now («true_counts» .entry); clipped-counts = now (clipped .entry); buckets = now (buckets .entry); side-store = now (side .entry) })) ⌝ }
 {
-    update::update(
-        Edit::Remove,
+    let given = Given {
         p,
         k,
         room,
         top,
         capacity,
         side_places,
+    };
+    update::update(
+        Edit::Remove,
+        given,
         &mut ledger[..],
         &mut true_counts[..],
         &mut clipped[..],

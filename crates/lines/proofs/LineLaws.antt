@@ -18,7 +18,8 @@ use Rattle.lookup.specs.declared.searching.Answer.{Answer}
 use Rattle.lookup.specs.declared.tallying.Totals.{Totals}
 use Rattle.lookup.specs.Answers.{answer-of}
 use Rattle.calls.specs.declared.Kind.{Kind}
-use Rattle.calls.specs.declared.Kind.the-variants.{Clear, Add, Change, Remove, Search, Tally}
+use Rattle.calls.specs.declared.Kind.the-variants.{Clear, Update, Search, Tally}
+use Rattle.update.specs.declared.Edit.the-variants.{Insert, Replace, Remove}
 use Rattle.calls.specs.declared.Reply.{Reply}
 use Rattle.calls.specs.declared.Reply.the-variants.{Answered, Totalled}
 use Rattle.calls.specs.Data.{call-of, reply-of}
@@ -56,9 +57,9 @@ module _ (call letter number class read compared : ℕ) where
 pub printed-other : (kind : Kind) (class : ℕ) (key : List ℕ) (r : Reply) (x : Totals) (y : Answer) → r ≡ Totalled x → answer-of y ≡ bare 0
     → answer-of y ≡ flowrun.printed (call-of kind key class) (reply-of r)
 printed-other Clear class key r x y e f = rw (e, f)
-printed-other Add class key r x y e f = rw (e, f)
-printed-other Change class key r x y e f = rw (e, f)
-printed-other Remove class key r x y e f = rw (e, f)
+printed-other (Update Insert) class key r x y e f = rw (e, f)
+printed-other (Update Replace) class key r x y e f = rw (e, f)
+printed-other (Update Remove) class key r x y e f = rw (e, f)
 printed-other Search class key r x y e f = rw (e, f)
 printed-other Tally class key r x y e f = rw (e, f)
 

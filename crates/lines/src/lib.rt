@@ -2,16 +2,20 @@
 use calls::Kind;
 use calls::Reply;
 use lookup::searching::Answer;
+use settings::Given;
 use text::append_decimal;
 use text::append_letter;
+use update::Edit;
 ghost use mathlib.Core.Path.{_≡_};
 ghost use mathlib.Core.List.{List};
 ghost use Prim.Native.Nat.{ℕ, _+_, _-_, _*_, _≤_, _<_, min};
 ghost use lib.ListN.{length};
 ghost use Rattle.theory.specs.Flowrun as flowrun;
 ghost use Rattle.theory.specs.Lookup.{bare};
+ghost use Rattle.theory.specs.Ledger.{answered};
 ghost use Rattle.theory.specs.Flowrun.{letter-call, line-text, Printed, print-bytes, print-lines, call-count};
 ghost use Rattle.lookup.specs.Answers.{answer-of};
+ghost use Rattle.update.specs.Editing as edits;
 ghost use Rattle.calls.specs.Data.{call-of, reply-of};
 ghost use Rattle.io.specs.Counts.{Counts};
 ghost use Rattle.text.specs.Writing.{Appends};
@@ -42,9 +46,9 @@ fn read_letter(letter: u8) -> Asked
     ensures { λ r. ⌜ ((key : List ℕ) (class : ℕ) → call-asked r key class ≡ letter-call letter key class) ⌝ }
 {
     match letter {
-        b'I' => Asked::Known(Kind::Add),
-        b'C' => Asked::Known(Kind::Change),
-        b'D' => Asked::Known(Kind::Remove),
+        b'I' => Asked::Known(Kind::Update(Edit::Insert)),
+        b'C' => Asked::Known(Kind::Update(Edit::Replace)),
+        b'D' => Asked::Known(Kind::Update(Edit::Remove)),
         b'S' => Asked::Known(Kind::Search),
         b'X' => Asked::Known(Kind::Clear),
         _ => Asked::Unknown,
@@ -63,6 +67,17 @@ fn written(class: u32, x: Answer) -> Answer
     }
 }
 
+// Of an update: the class that an add or a change has written.
+fn updated(edit: Edit, class: u32, x: Answer) -> Answer
+    ensures { λ r. ⌜ ((key : List ℕ) → answer-of r ≡ flowrun.printed (edits.call-of edit key class) (answered (answer-of x))) ⌝ }
+{
+    match edit {
+        Edit::Insert => written(class, x),
+        Edit::Replace => written(class, x),
+        Edit::Remove => x,
+    }
+}
+
 // "class (found or written, else 0)"
 fn printed(kind: Kind, class: u32, reply: Reply) -> Answer
     ensures { λ r. ⌜ ((key : List ℕ) → answer-of r ≡ flowrun.printed (call-of kind key class) (reply-of reply)) ⌝ }
@@ -71,10 +86,8 @@ fn printed(kind: Kind, class: u32, reply: Reply) -> Answer
         return lookup::searching::bare(0);
     };
     match kind {
-        Kind::Add => written(class, x),
-        Kind::Change => written(class, x),
         Kind::Clear => x,
-        Kind::Remove => x,
+        Kind::Update(edit) => updated(edit, class, x),
         Kind::Search => x,
         Kind::Tally => x,
     }
@@ -137,12 +150,14 @@ fn show_call(
     let class = ledger::bytes::class_at(call, 14);
     let reply = calls::perform(
         kind,
-        P,
-        K,
-        ROOM,
-        TOP,
-        CAPACITY,
-        SIDE_PLACES,
+        Given {
+            p: P,
+            k: K,
+            room: ROOM,
+            top: TOP,
+            capacity: CAPACITY,
+            side_places: SIDE_PLACES,
+        },
         &mut ledger[..],
         &mut true_counts[..],
         &mut clipped[..],

@@ -13,6 +13,7 @@ use crate::searching::bare;
 use crate::searching::compare_bucket;
 use crate::searching::compare_side;
 use crate::searching::driver_number;
+use settings::Given;
 use settings::Settings;
 use settings::counts::ClippedCount;
 ghost use mathlib.Core.Path.{_≡_};
@@ -22,7 +23,7 @@ ghost use lib.ListN.{length, getD};
 ghost use Rattle.theory.specs.Settings.{allowed, card-of, clipped-length};
 ghost use Rattle.theory.specs.Lookup as plain;
 ghost use Rattle.hash.specs.Table.{H-by};
-ghost use Rattle.settings.specs.Checked.{paper};
+ghost use Rattle.settings.specs.Checked.{paper, given-of};
 ghost use Rattle.lookup.specs.Places as places;
 ghost use Rattle.lookup.specs.Places.{place-by, ChoiceFits};
 ghost use Rattle.lookup.specs.Answers.{answer-of, search-of};
@@ -117,12 +118,7 @@ fn answer_all(s: Settings, buckets: &[u8], side: &[u8], keys: &[u8], answers: &m
 // Search for many keys with a lent table of the hash: 1; 2; 3; else the driver's number of each key.
 pub fn search_burst(
     table: &[u64],
-    p: u64,
-    k: u64,
-    room: u64,
-    top: u64,
-    capacity: u64,
-    side_places: u64,
+    given: Given,
     clipped: &[u8],
     buckets: &[u8],
     side: &[u8],
@@ -130,24 +126,11 @@ pub fn search_burst(
     answers: &mut [u64],
 ) -> u32
     ensures { λ r. ⌜ _≡_ {A = Burst} (record { number = r; answers = now (answers .exit) })
-        (burst-of (now (table .entry)) (record { p = p; k = k; room = room; top = top; capacity = capacity; side-places = «side_places» })
+        (burst-of (now (table .entry)) (given-of given)
         (now (clipped .entry)) (now (buckets .entry)) (now (side .entry)) (now (keys .entry)) (now (answers .entry))) ⌝ }
 {
     let n = answers.len();
-    let judged = judge_burst(
-        table,
-        p,
-        k,
-        room,
-        top,
-        capacity,
-        side_places,
-        clipped,
-        buckets,
-        side,
-        keys,
-        n,
-    );
+    let judged = judge_burst(table, given, clipped, buckets, side, keys, n);
     match judged {
         Judged::Refused(number) => number,
         Judged::Ready(s) => {
@@ -160,33 +143,11 @@ pub fn search_burst(
 }
 
 // The driver's number of one key, hashed from the rows.
-pub fn search_number(
-    p: u64,
-    k: u64,
-    room: u64,
-    top: u64,
-    capacity: u64,
-    side_places: u64,
-    clipped: &[u8],
-    buckets: &[u8],
-    side: &[u8],
-    key: &[u8],
-) -> u64
-    ensures { λ r. ⌜ r ≡ search-of (record { p = p; k = k; room = room; top = top; capacity = capacity; side-places = «side_places» })
+pub fn search_number(given: Given, clipped: &[u8], buckets: &[u8], side: &[u8], key: &[u8]) -> u64
+    ensures { λ r. ⌜ r ≡ search-of (given-of given)
         (now (clipped .entry)) (now (buckets .entry)) (now (side .entry)) (now (key .entry)) ⌝ }
 {
-    let judged = judge(
-        p,
-        k,
-        room,
-        top,
-        capacity,
-        side_places,
-        clipped,
-        buckets,
-        side,
-        key,
-    );
+    let judged = judge(given, clipped, buckets, side, key);
     match judged {
         Judged::Refused(number) => driver_number(bare(number)),
         Judged::Ready(s) => {

@@ -4,13 +4,14 @@ use crate::judging::judge;
 use crate::placing::Place;
 use crate::placing::find_place;
 use crate::scanning::scan;
+use settings::Given;
 use settings::Settings;
 ghost use mathlib.Core.Path.{_≡_};
 ghost use mathlib.Core.Bool.{true};
 ghost use Prim.Native.Nat.{_+_, _-_, _*_, _≤_};
 ghost use lib.ListN.{length, take, drop};
 ghost use Rattle.theory.specs.Settings.{allowed, card-of, bucket-size, buckets-length, side-length};
-ghost use Rattle.settings.specs.Checked.{paper};
+ghost use Rattle.settings.specs.Checked.{paper, given-of};
 ghost use Rattle.lookup.specs.Choosing.{card-at};
 ghost use Rattle.lookup.specs.Places.{Lent};
 ghost use Rattle.lookup.specs.Parts.{Found, InPart, Fetched, FetchedCall};
@@ -77,32 +78,16 @@ pub fn fetch_at<'a, 'b>(
 
 // The second search call: "hands back the 17 bytes themselves, out of the buckets or out of the side store, and an empty part when absent or refused".
 pub fn fetch<'a, 'b>(
-    p: u64,
-    k: u64,
-    room: u64,
-    top: u64,
-    capacity: u64,
-    side_places: u64,
+    given: Given,
     clipped: &'b [u8],
     buckets: &'a [u8],
     side: &'a [u8],
     key: &'b [u8],
 ) -> &'a [u8]
-    ensures { λ r. ⌜ FetchedCall (record { p = p; k = k; room = room; top = top; capacity = capacity; side-places = «side_places» })
+    ensures { λ r. ⌜ FetchedCall (given-of given)
         (now (clipped .entry)) (buckets .entry) (side .entry) (now (key .entry)) r ⌝ }
 {
-    let judged = judge(
-        p,
-        k,
-        room,
-        top,
-        capacity,
-        side_places,
-        clipped,
-        buckets,
-        side,
-        key,
-    );
+    let judged = judge(given, clipped, buckets, side, key);
     match judged {
         Judged::Refused(_) => &buckets[..0],
         Judged::Ready(s) => {

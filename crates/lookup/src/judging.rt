@@ -1,12 +1,13 @@
 // What the searches judge first.
 use settings::Checked;
+use settings::Given;
 use settings::Settings;
 ghost use mathlib.Core.Path.{_≡_};
 ghost use mathlib.Core.Bool.{true};
 ghost use Rattle.theory.specs.Lists.{all};
 ghost use Rattle.theory.specs.Settings.{allowed, card-of};
 ghost use Rattle.theory.specs.Calls.{lookup-lengths};
-ghost use Rattle.settings.specs.Checked.{paper};
+ghost use Rattle.settings.specs.Checked.{paper, given-of};
 ghost use Rattle.lookup.specs.Answers.{lookup-areas, judged-of, judged-lent};
 ghost use Rattle.lookup.specs.Bursts.{judged-burst};
 
@@ -41,22 +42,11 @@ fn judge_areas(s: Settings, clipped: &[u8], buckets: &[u8], side: &[u8], key: &[
 }
 
 // 1, a setting out of range; then 2 and 3.
-pub fn judge(
-    p: u64,
-    k: u64,
-    room: u64,
-    top: u64,
-    capacity: u64,
-    side_places: u64,
-    clipped: &[u8],
-    buckets: &[u8],
-    side: &[u8],
-    key: &[u8],
-) -> Judged
-    ensures { λ r. ⌜ r ≡ judged-of (record { p = p; k = k; room = room; top = top; capacity = capacity; side-places = «side_places» })
+pub fn judge(given: Given, clipped: &[u8], buckets: &[u8], side: &[u8], key: &[u8]) -> Judged
+    ensures { λ r. ⌜ r ≡ judged-of (given-of given)
         (now (clipped .entry)) (now (buckets .entry)) (now (side .entry)) (now (key .entry)) ⌝ }
 {
-    let checked = Settings::new(p, k, room, top, capacity, side_places);
+    let checked = Settings::new(given);
     let Checked::Allowed(s) = checked else {
         return Judged::Refused(1);
     };
@@ -66,21 +56,16 @@ pub fn judge(
 // The same with a lent table of the hash, whose length is judged with the areas'.
 pub fn judge_lent(
     table: &[u64],
-    p: u64,
-    k: u64,
-    room: u64,
-    top: u64,
-    capacity: u64,
-    side_places: u64,
+    given: Given,
     clipped: &[u8],
     buckets: &[u8],
     side: &[u8],
     key: &[u8],
 ) -> Judged
-    ensures { λ r. ⌜ r ≡ judged-lent (now (table .entry)) (record { p = p; k = k; room = room; top = top; capacity = capacity; side-places = «side_places» })
+    ensures { λ r. ⌜ r ≡ judged-lent (now (table .entry)) (given-of given)
         (now (clipped .entry)) (now (buckets .entry)) (now (side .entry)) (now (key .entry)) ⌝ }
 {
-    let checked = Settings::new(p, k, room, top, capacity, side_places);
+    let checked = Settings::new(given);
     let Checked::Allowed(s) = checked else {
         return Judged::Refused(1);
     };
@@ -93,22 +78,17 @@ pub fn judge_lent(
 // The same for a burst of n keys: 3 is keys not of n times the key's bytes, judged by a division, since a product may not fit.
 pub fn judge_burst(
     table: &[u64],
-    p: u64,
-    k: u64,
-    room: u64,
-    top: u64,
-    capacity: u64,
-    side_places: u64,
+    given: Given,
     clipped: &[u8],
     buckets: &[u8],
     side: &[u8],
     keys: &[u8],
     n: usize,
 ) -> Judged
-    ensures { λ r. ⌜ r ≡ judged-burst (now (table .entry)) (record { p = p; k = k; room = room; top = top; capacity = capacity; side-places = «side_places» })
+    ensures { λ r. ⌜ r ≡ judged-burst (now (table .entry)) (given-of given)
         (now (clipped .entry)) (now (buckets .entry)) (now (side .entry)) (now (keys .entry)) n ⌝ }
 {
-    let checked = Settings::new(p, k, room, top, capacity, side_places);
+    let checked = Settings::new(given);
     let Checked::Allowed(s) = checked else {
         return Judged::Refused(1);
     };

@@ -6,6 +6,7 @@ use crate::placing::Place;
 use crate::placing::find_place;
 use crate::scanning::scan;
 use crate::scanning::scan_all;
+use settings::Given;
 use settings::Settings;
 ghost use mathlib.Core.Path.{_≡_};
 ghost use mathlib.Core.Bool.{true, cond};
@@ -18,7 +19,7 @@ ghost use Rattle.theory.specs.Layout.{Areas};
 ghost use Rattle.theory.specs.Ledger.{Step, answered};
 ghost use Rattle.theory.specs.Ledger as calls;
 ghost use Rattle.theory.specs.Calls.{perform};
-ghost use Rattle.settings.specs.Checked.{paper};
+ghost use Rattle.settings.specs.Checked.{paper, given-of};
 ghost use Rattle.lookup.specs.Choosing.{card-at};
 ghost use Rattle.lookup.specs.Places.{Lent};
 ghost use Rattle.lookup.specs.Answers.{answer-of, lookup-areas, LentAnswer};
@@ -143,33 +144,11 @@ pub fn search_at(
 }
 
 // Search, whole by itself: the key is hashed from the rows.
-pub fn search(
-    p: u64,
-    k: u64,
-    room: u64,
-    top: u64,
-    capacity: u64,
-    side_places: u64,
-    clipped: &[u8],
-    buckets: &[u8],
-    side: &[u8],
-    key: &[u8],
-) -> Answer
+pub fn search(given: Given, clipped: &[u8], buckets: &[u8], side: &[u8], key: &[u8]) -> Answer
     ensures { λ r. ⌜ _≡_ {A = Step Areas} (record { reply = answered (answer-of r); state = lookup-areas (now (clipped .entry)) (now (buckets .entry)) (now (side .entry)) })
-        (perform (record { p = p; k = k; room = room; top = top; capacity = capacity; side-places = «side_places» }) 0 (calls.search (now (key .entry))) (lookup-areas (now (clipped .entry)) (now (buckets .entry)) (now (side .entry)))) ⌝ }
+        (perform (given-of given) 0 (calls.search (now (key .entry))) (lookup-areas (now (clipped .entry)) (now (buckets .entry)) (now (side .entry)))) ⌝ }
 {
-    let judged = judge(
-        p,
-        k,
-        room,
-        top,
-        capacity,
-        side_places,
-        clipped,
-        buckets,
-        side,
-        key,
-    );
+    let judged = judge(given, clipped, buckets, side, key);
     match judged {
         Judged::Refused(number) => bare(number),
         Judged::Ready(s) => {
@@ -182,32 +161,15 @@ pub fn search(
 // Search with a lent table of the hash: the same where the table is right, and safe on any other.
 pub fn search_lent(
     table: &[u64],
-    p: u64,
-    k: u64,
-    room: u64,
-    top: u64,
-    capacity: u64,
-    side_places: u64,
+    given: Given,
     clipped: &[u8],
     buckets: &[u8],
     side: &[u8],
     key: &[u8],
 ) -> Answer
-    ensures { λ r. ⌜ LentAnswer (now (table .entry)) (record { p = p; k = k; room = room; top = top; capacity = capacity; side-places = «side_places» }) (now (clipped .entry)) (now (buckets .entry)) (now (side .entry)) (now (key .entry)) (answer-of r) ⌝ }
+    ensures { λ r. ⌜ LentAnswer (now (table .entry)) (given-of given) (now (clipped .entry)) (now (buckets .entry)) (now (side .entry)) (now (key .entry)) (answer-of r) ⌝ }
 {
-    let judged = judge_lent(
-        table,
-        p,
-        k,
-        room,
-        top,
-        capacity,
-        side_places,
-        clipped,
-        buckets,
-        side,
-        key,
-    );
+    let judged = judge_lent(table, given, clipped, buckets, side, key);
     match judged {
         Judged::Refused(number) => bare(number),
         Judged::Ready(s) => {

@@ -1,6 +1,7 @@
 // Tally: what the areas hold, counted.
 use crate::counters::counter;
 use settings::Checked;
+use settings::Given;
 use settings::Settings;
 ghost use mathlib.Core.Path.{_≡_};
 ghost use mathlib.Core.Bool.{true, false, not, cond, _&&_};
@@ -16,7 +17,7 @@ ghost use Rattle.theory.specs.Lookup as plain;
 ghost use Rattle.theory.specs.Ledger as ledgers;
 ghost use Rattle.theory.specs.Ledger.{Step, totalled};
 ghost use Rattle.theory.specs.Calls.{marks, lookup-invalid, tally-areas, perform};
-ghost use Rattle.settings.specs.Checked.{paper};
+ghost use Rattle.settings.specs.Checked.{paper, given-of};
 ghost use Rattle.lookup.specs.Places.{Lent};
 ghost use Rattle.lookup.specs.Tallies.{totals-of, read-areas};
 
@@ -176,22 +177,11 @@ fn tally_lent(s: Settings, ledger: &[u8], clipped: &[u8], buckets: &[u8], side: 
     count_all(s, ledger, buckets, side)
 }
 
-pub fn tally(
-    p: u64,
-    k: u64,
-    room: u64,
-    top: u64,
-    capacity: u64,
-    side_places: u64,
-    ledger: &[u8],
-    clipped: &[u8],
-    buckets: &[u8],
-    side: &[u8],
-) -> Totals
+pub fn tally(given: Given, ledger: &[u8], clipped: &[u8], buckets: &[u8], side: &[u8]) -> Totals
     ensures { λ r. ⌜ _≡_ {A = Step Areas} (record { reply = totalled (totals-of r); state = read-areas (now (ledger .entry)) (now (clipped .entry)) (now (buckets .entry)) (now (side .entry)) })
-        (perform (record { p = p; k = k; room = room; top = top; capacity = capacity; side-places = «side_places» }) 0 ledgers.tally (read-areas (now (ledger .entry)) (now (clipped .entry)) (now (buckets .entry)) (now (side .entry)))) ⌝ }
+        (perform (given-of given) 0 ledgers.tally (read-areas (now (ledger .entry)) (now (clipped .entry)) (now (buckets .entry)) (now (side .entry)))) ⌝ }
 {
-    let checked = Settings::new(p, k, room, top, capacity, side_places);
+    let checked = Settings::new(given);
     let Checked::Allowed(s) = checked else {
         return no_totals(1);
     };

@@ -2,6 +2,7 @@
 use mathlib.Core.Bool.{cond}
 use Rattle.theory.specs.Settings as plain
 use Rattle.settings.specs.declared.Settings.{Settings}
+use Rattle.settings.specs.declared.Given.{Given}
 use Rattle.settings.specs.declared.Checked.{Checked}
 use Rattle.settings.specs.declared.Checked.the-variants.{Allowed, Refused}
 
@@ -10,6 +11,10 @@ paper c = record { p = c .p; k = c .k; room = c .room; top = c .top; capacity = 
 
 abbrev pub code : plain.Settings → Settings
 code t = record { p = t .p; k = t .k; room = t .room; top = t .top; capacity = t .capacity; «side_places» = t .side-places }
+
+-- the settings that a caller's numbers say
+abbrev pub given-of : Given → plain.Settings
+given-of g = record { p = g .p; k = g .k; room = g .room; top = g .top; capacity = g .capacity; side-places = g .«side_places» }
 
 -- settings in their ranges are handed over; others are refusal 1
 abbrev pub checked-of : plain.Settings → Checked

@@ -2,7 +2,7 @@
 ghost use mathlib.Core.Path.{_≡_};
 ghost use mathlib.Core.Bool.{true};
 ghost use Rattle.theory.specs.Settings.{allowed, card-of, record-size, bucket-size, ledger-length, true-length, clipped-length, buckets-length, side-length, work-length};
-ghost use Rattle.settings.specs.Checked.{paper, checked-of};
+ghost use Rattle.settings.specs.Checked.{paper, given-of, checked-of};
 
 pub mod counts; // counts.rt: true counts and clipped counts, each a type of its own
 pub mod lengths; // lengths.rt: the lengths of the areas that a call is lent
@@ -15,6 +15,16 @@ pub struct Settings {
     pub top: usize,
     pub capacity: usize,
     pub side_places: usize,
+}
+
+// The same as a caller gives them: 64 bits each, so that no number is cut off before its range is judged.
+pub struct Given {
+    pub p: u64,
+    pub k: u64,
+    pub room: u64,
+    pub top: u64,
+    pub capacity: u64,
+    pub side_places: u64,
 }
 
 pub enum Checked {
@@ -55,10 +65,15 @@ impl Settings {
 
     pub const CLASS_BYTES: usize = 4;
 
-    // 64 bits each, so that no number of a caller is cut off before its range is judged.
-    pub fn new(p: u64, k: u64, room: u64, top: u64, capacity: u64, side_places: u64) -> Checked
-        ensures { λ r. ⌜ r ≡ checked-of (record { p = p; k = k; room = room; top = top; capacity = capacity; side-places = «side_places» }) ⌝ }
+    pub fn new(given: Given) -> Checked
+        ensures { λ r. ⌜ r ≡ checked-of (given-of given) ⌝ }
     {
+        let p = given.p;
+        let k = given.k;
+        let room = given.room;
+        let top = given.top;
+        let capacity = given.capacity;
+        let side_places = given.side_places;
         let p_within = (Settings::P_LEAST <= p) & (p <= Settings::P_MOST);
         let k_within = (Settings::K_LEAST <= k) & (k <= Settings::K_MOST);
         let room_within = (Settings::ROOM_LEAST <= room) & (room <= Settings::ROOM_MOST);

@@ -2,6 +2,7 @@
 use ledger::bytes::count_at;
 use ledger::keys::keys_rise;
 use settings::Checked;
+use settings::Given;
 use settings::Settings;
 ghost use mathlib.Core.Path.{_≡_};
 ghost use mathlib.Core.Bool.{true, not, _&&_};
@@ -26,14 +27,14 @@ pub fn read_settings(file: &[u8]) -> Checked
     requires { ⌜ 16 ≤ length (now file) ⌝ }
     ensures { λ r. ⌜ r ≡ checked-of (file-settings (now (file .entry))) ⌝ }
 {
-    Settings::new(
-        setting(file, 0),
-        setting(file, 1),
-        setting(file, 2),
-        setting(file, 3),
-        setting(file, 4),
-        setting(file, 5),
-    )
+    Settings::new(Given {
+        p: setting(file, 0),
+        k: setting(file, 1),
+        room: setting(file, 2),
+        top: setting(file, 3),
+        capacity: setting(file, 4),
+        side_places: setting(file, 5),
+    })
 }
 
 // 12: without an allowed first count, its settings and the second count.

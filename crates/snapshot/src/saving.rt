@@ -4,6 +4,7 @@ use ledger::bytes::copy;
 use ledger::bytes::count_at;
 use ledger::bytes::write_number;
 use settings::Checked;
+use settings::Given;
 use settings::Settings;
 ghost use mathlib.Core.Path.{_≡_};
 ghost use mathlib.Core.Bool.{true};
@@ -16,7 +17,7 @@ ghost use Rattle.theory.specs.Calls.{ledger-records};
 ghost use Rattle.theory.specs.Snapshot as plain;
 ghost use Rattle.theory.specs.Snapshot.{Saved, snapshot};
 ghost use Rattle.theory.proofs.SnapshotLaws.{head};
-ghost use Rattle.settings.specs.Checked.{paper};
+ghost use Rattle.settings.specs.Checked.{paper, given-of};
 ghost use Rattle.ledger.specs.Edits.{ValidLedger};
 ghost use Rattle.placing.specs.Ready.{Ready};
 ghost use Rattle.snapshot.specs.Files.{put-at};
@@ -77,21 +78,11 @@ fn save_lent(s: Settings, t: &[u64], ledger: &[u8], work: &mut [u16], target: &m
 }
 
 // 1, 2, then the call. The table of the hash is made once.
-pub fn save(
-    p: u64,
-    k: u64,
-    room: u64,
-    top: u64,
-    capacity: u64,
-    side_places: u64,
-    ledger: &[u8],
-    work: &mut [u16],
-    target: &mut [u8],
-) -> u32
+pub fn save(given: Given, ledger: &[u8], work: &mut [u16], target: &mut [u8]) -> u32
     ensures { λ r. ⌜ _≡_ {A = Saved} (record { number = r; target = now (target .exit) })
-        (plain.save (record { p = p; k = k; room = room; top = top; capacity = capacity; side-places = «side_places» }) (now (ledger .entry)) (length (now (work .entry))) (now (target .entry))) ⌝ }
+        (plain.save (given-of given) (now (ledger .entry)) (length (now (work .entry))) (now (target .entry))) ⌝ }
 {
-    let checked = Settings::new(p, k, room, top, capacity, side_places);
+    let checked = Settings::new(given);
     let Checked::Allowed(s) = checked else {
         return 1;
     };

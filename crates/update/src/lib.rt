@@ -1,5 +1,6 @@
 // Document 01, the calls that write: clear, add, change, remove. They judge first, on the ledger and work alone, and then write every area.
 use settings::Checked;
+use settings::Given;
 use settings::Settings;
 use settings::lengths::Lengths;
 use settings::lengths::lengths_right;
@@ -14,7 +15,7 @@ ghost use Rattle.theory.specs.Calls as calls;
 ghost use Rattle.theory.specs.Calls.{perform};
 ghost use Rattle.theory.specs.Ledger as ledgers;
 ghost use Rattle.theory.proofs.CallLaws.{Sized};
-ghost use Rattle.settings.specs.Checked.{paper};
+ghost use Rattle.settings.specs.Checked.{paper, given-of};
 ghost use Rattle.theory.specs.Layout.{counted-places, layout};
 ghost use Rattle.ledger.specs.Edits.{ValidLedger};
 ghost use Rattle.theory.proofs.ByteLaws.{Fit};
@@ -302,12 +303,7 @@ fn update_lent(
 // Add, change or remove: 1, 2, then the call. The table of the hash is made once.
 pub fn update(
     edit: Edit,
-    p: u64,
-    k: u64,
-    room: u64,
-    top: u64,
-    capacity: u64,
-    side_places: u64,
+    given: Given,
     ledger: &mut [u8],
     true_counts: &mut [u16],
     clipped: &mut [u8],
@@ -318,11 +314,11 @@ pub fn update(
     class: u32,
 ) -> u32
     ensures { λ r. ⌜ replied r (after ledger «true_counts» clipped buckets side)
-        ≡ perform (record { p = p; k = k; room = room; top = top; capacity = capacity; side-places = «side_places» }) (length (now (work .entry)))
+        ≡ perform (given-of given) (length (now (work .entry)))
         (call-of edit (now (key .entry)) class)
         (before ledger «true_counts» clipped buckets side) ⌝ }
 {
-    let checked = Settings::new(p, k, room, top, capacity, side_places);
+    let checked = Settings::new(given);
     let Checked::Allowed(s) = checked else {
         return 1;
     };
@@ -354,12 +350,7 @@ pub fn update(
 
 // "Clear lays out the empty list, on areas with any contents."
 pub fn clear(
-    p: u64,
-    k: u64,
-    room: u64,
-    top: u64,
-    capacity: u64,
-    side_places: u64,
+    given: Given,
     ledger: &mut [u8],
     true_counts: &mut [u16],
     clipped: &mut [u8],
@@ -367,10 +358,10 @@ pub fn clear(
     side: &mut [u8],
 ) -> u32
     ensures { λ r. ⌜ replied r (after ledger «true_counts» clipped buckets side)
-        ≡ perform (record { p = p; k = k; room = room; top = top; capacity = capacity; side-places = «side_places» }) 0 ledgers.clear
+        ≡ perform (given-of given) 0 ledgers.clear
         (before ledger «true_counts» clipped buckets side) ⌝ }
 {
-    let checked = Settings::new(p, k, room, top, capacity, side_places);
+    let checked = Settings::new(given);
     let Checked::Allowed(s) = checked else {
         return 1;
     };

@@ -2,7 +2,7 @@
 use mathlib.Core.Path.{sym, _∙_}
 use borrow.Author.Tests.{not-true, not-false}
 use Rattle.theory.specs.Settings.{card-of}
-use Rattle.settings.specs.Checked.{paper}
+use Rattle.settings.specs.Checked.{paper, given-of}
 use Rattle.settings.proofs.Laws.{allowed-arm, refused-arm, allowed-settings}
 use Rattle.settings.proofs.LengthLaws.{sized-by}
 use Rattle.update.proofs.CallLaws.{clears-1, clears-2, clears}
@@ -23,21 +23,21 @@ returns : tie.Need-returns
 returns c =
     let start = c .before .before .before .before .before .before .before .before in
     let new = c .before .before .new in
-    clears-1 (record { p = start .args .p; k = start .args .k; room = start .args .room; top = start .args .top; capacity = start .args .capacity; side-places = start .args .side-places }) (record { ledger = start .args .ledger .now; true-counts = start .args .true-counts .now; clipped-counts = start .args .clipped .now; buckets = start .args .buckets .now; side-store = start .args .side .now }) (refused-arm (record { p = start .args .p; k = start .args .k; room = start .args .room; top = start .args .top; capacity = start .args .capacity; side-places = start .args .side-places }) (new .result) (new .ensures) (c .enum-told .given .1))
+    clears-1 (given-of (start .args .given)) (record { ledger = start .args .ledger .now; true-counts = start .args .true-counts .now; clipped-counts = start .args .clipped .now; buckets = start .args .buckets .now; side-store = start .args .side .now }) (refused-arm (given-of (start .args .given)) (new .result) (new .ensures) (c .enum-told .given .1))
 
 lengths-right-requires : tie.Need-lengths-right-requires
 lengths-right-requires c κs =
     let start = c .before .before .before .before .before .before .before .before .before in
     let new = c .before .before .before .new in
     let checked = c .before .checked in
-    allowed-settings (record { p = start .args .p; k = start .args .k; room = start .args .room; top = start .args .top; capacity = start .args .capacity; side-places = start .args .side-places }) (new .result) (new .ensures) (checked .given .0 .0) (checked .given .1)
+    allowed-settings (given-of (start .args .given)) (new .result) (new .ensures) (checked .given .0 .0) (checked .given .1)
 
 returns-2 : tie.Need-returns-2
 returns-2 c =
     let start = c .before .before .before .before .before .before .before .before .before .before .before in
     let new = c .before .before .before .before .before .new in
     let checked = c .before .before .before .checked in
-    let arm = allowed-arm (record { p = start .args .p; k = start .args .k; room = start .args .room; top = start .args .top; capacity = start .args .capacity; side-places = start .args .side-places }) (new .result) (new .ensures) (checked .given .0 .0) (checked .given .1) in clears-2 (record { p = start .args .p; k = start .args .k; room = start .args .room; top = start .args .top; capacity = start .args .capacity; side-places = start .args .side-places }) (record { ledger = start .args .ledger .now; true-counts = start .args .true-counts .now; clipped-counts = start .args .clipped .now; buckets = start .args .buckets .now; side-store = start .args .side .now }) (arm .0) (checked .given .0 .0) (arm .1) (sym (c .before .lengths-right .ensures) ∙ not-true _ (c .if1 .taken))
+    let arm = allowed-arm (given-of (start .args .given)) (new .result) (new .ensures) (checked .given .0 .0) (checked .given .1) in clears-2 (given-of (start .args .given)) (record { ledger = start .args .ledger .now; true-counts = start .args .true-counts .now; clipped-counts = start .args .clipped .now; buckets = start .args .buckets .now; side-store = start .args .side .now }) (arm .0) (checked .given .0 .0) (arm .1) (sym (c .before .lengths-right .ensures) ∙ not-true _ (c .if1 .taken))
 
 clear-areas-requires : tie.Need-clear-areas-requires
 clear-areas-requires c κs =
@@ -47,7 +47,7 @@ clear-areas-requires c κs =
     let lengths-right = c .before .before .before .before .before .before .lengths-right in
     let if1 = c .before .before .before .before .before .if1 in
     let z = sized-by (card-of (paper (checked .given .0 .0))) (record { ledger = start .args .ledger .now; true-counts = start .args .true-counts .now; clipped-counts = start .args .clipped .now; buckets = start .args .buckets .now; side-store = start .args .side .now }) (sym (lengths-right .ensures) ∙ not-false _ (if1 .left)) in
-    (allowed-settings (record { p = start .args .p; k = start .args .k; room = start .args .room; top = start .args .top; capacity = start .args .capacity; side-places = start .args .side-places }) (new .result) (new .ensures) (checked .given .0 .0) (checked .given .1), z .ledger, z .true-counts, z .clipped-counts, z .buckets, z .side-store)
+    (allowed-settings (given-of (start .args .given)) (new .result) (new .ensures) (checked .given .0 .0) (checked .given .1), z .ledger, z .true-counts, z .clipped-counts, z .buckets, z .side-store)
 
 same-length : tie.Need-same-length
 same-length c = search needs
@@ -72,7 +72,7 @@ returns-3 c =
     let lengths-right = c .before .before .before .before .before .before .before .before .before .before .before .before .before .before .before .before .before .lengths-right in
     let if1 = c .before .before .before .before .before .before .before .before .before .before .before .before .before .before .before .before .if1 in
     let clear-areas = c .before .before .before .before .before .before .before .before .before .before .clear-areas in
-    let arm = allowed-arm (record { p = start .args .p; k = start .args .k; room = start .args .room; top = start .args .top; capacity = start .args .capacity; side-places = start .args .side-places }) (new .result) (new .ensures) (checked .given .0 .0) (checked .given .1) in clears (record { p = start .args .p; k = start .args .k; room = start .args .room; top = start .args .top; capacity = start .args .capacity; side-places = start .args .side-places }) (record { ledger = start .args .ledger .now; true-counts = start .args .true-counts .now; clipped-counts = start .args .clipped .now; buckets = start .args .buckets .now; side-store = start .args .side .now }) (arm .0) (checked .given .0 .0) (arm .1) (sym (lengths-right .ensures) ∙ not-false _ (if1 .left)) _ (clear-areas .ensures)
+    let arm = allowed-arm (given-of (start .args .given)) (new .result) (new .ensures) (checked .given .0 .0) (checked .given .1) in clears (given-of (start .args .given)) (record { ledger = start .args .ledger .now; true-counts = start .args .true-counts .now; clipped-counts = start .args .clipped .now; buckets = start .args .buckets .now; side-store = start .args .side .now }) (arm .0) (checked .given .0 .0) (arm .1) (sym (lengths-right .ensures) ∙ not-false _ (if1 .left)) _ (clear-areas .ensures)
 
 pub clear-spec : {M : Type 1} → statement M
 clear-spec =

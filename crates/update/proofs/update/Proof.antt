@@ -7,7 +7,7 @@ use lib.Dec.{eqb}
 use lib.ListN.{length}
 use Rattle.theory.specs.Settings.{card-of}
 use Rattle.theory.proofs.ListLaws.{and-left, and-right}
-use Rattle.settings.specs.Checked.{paper}
+use Rattle.settings.specs.Checked.{paper, given-of}
 use Rattle.settings.proofs.Laws.{allowed-arm, refused-arm, allowed-settings}
 use Rattle.settings.proofs.LengthLaws.{sized-by}
 use Rattle.placing.proofs.ReadyLaws.{ready}
@@ -28,21 +28,21 @@ returns : tie.Need-returns
 returns c =
     let start = c .before .before .before .before .before .before .before .before .before .before in
     let new = c .before .before .new in
-    performs-1 (record { p = start .args .p; k = start .args .k; room = start .args .room; top = start .args .top; capacity = start .args .capacity; side-places = start .args .side-places }) (start .args .edit) (start .args .key .now) (start .args .class) (length (start .args .work .now)) (record { ledger = start .args .ledger .now; true-counts = start .args .true-counts .now; clipped-counts = start .args .clipped .now; buckets = start .args .buckets .now; side-store = start .args .side .now }) (refused-arm (record { p = start .args .p; k = start .args .k; room = start .args .room; top = start .args .top; capacity = start .args .capacity; side-places = start .args .side-places }) (new .result) (new .ensures) (c .enum-told .given .1))
+    performs-1 (given-of (start .args .given)) (start .args .edit) (start .args .key .now) (start .args .class) (length (start .args .work .now)) (record { ledger = start .args .ledger .now; true-counts = start .args .true-counts .now; clipped-counts = start .args .clipped .now; buckets = start .args .buckets .now; side-store = start .args .side .now }) (refused-arm (given-of (start .args .given)) (new .result) (new .ensures) (c .enum-told .given .1))
 
 work-length-requires : tie.Need-work-length-requires
 work-length-requires c κs =
     let start = c .before .before .before .before .before .before .before .before .before .before .before in
     let new = c .before .before .before .new in
     let checked = c .before .checked in
-    allowed-settings (record { p = start .args .p; k = start .args .k; room = start .args .room; top = start .args .top; capacity = start .args .capacity; side-places = start .args .side-places }) (new .result) (new .ensures) (checked .given .0 .0) (checked .given .1)
+    allowed-settings (given-of (start .args .given)) (new .result) (new .ensures) (checked .given .0 .0) (checked .given .1)
 
 lengths-right-requires : tie.Need-lengths-right-requires
 lengths-right-requires c κs =
     let start = c .before .before .before .before .before .before .before .before .before .before .before .before in
     let new = c .before .before .before .before .new in
     let checked = c .before .before .checked in
-    allowed-settings (record { p = start .args .p; k = start .args .k; room = start .args .room; top = start .args .top; capacity = start .args .capacity; side-places = start .args .side-places }) (new .result) (new .ensures) (checked .given .0 .0) (checked .given .1)
+    allowed-settings (given-of (start .args .given)) (new .result) (new .ensures) (checked .given .0 .0) (checked .given .1)
 
 returns-2 : tie.Need-returns-2
 returns-2 c =
@@ -50,7 +50,7 @@ returns-2 c =
     let new = c .before .before .before .before .before .before .new in
     let checked = c .before .before .before .before .checked in
     let work-length = c .before .before .work-length in
-    let arm = allowed-arm (record { p = start .args .p; k = start .args .k; room = start .args .room; top = start .args .top; capacity = start .args .capacity; side-places = start .args .side-places }) (new .result) (new .ensures) (checked .given .0 .0) (checked .given .1) in performs-2 (record { p = start .args .p; k = start .args .k; room = start .args .room; top = start .args .top; capacity = start .args .capacity; side-places = start .args .side-places }) (start .args .edit) (start .args .key .now) (start .args .class) (length (start .args .work .now)) (record { ledger = start .args .ledger .now; true-counts = start .args .true-counts .now; clipped-counts = start .args .clipped .now; buckets = start .args .buckets .now; side-store = start .args .side .now }) (arm .0) (checked .given .0 .0) (arm .1) (work-length .result) (work-length .ensures) (ap (λ (b : Bool). (eqb (length (start .args .work .now)) (work-length .result)) && b) (sym (c .before .lengths-right .ensures)) ∙ not-true _ (c .if1 .taken))
+    let arm = allowed-arm (given-of (start .args .given)) (new .result) (new .ensures) (checked .given .0 .0) (checked .given .1) in performs-2 (given-of (start .args .given)) (start .args .edit) (start .args .key .now) (start .args .class) (length (start .args .work .now)) (record { ledger = start .args .ledger .now; true-counts = start .args .true-counts .now; clipped-counts = start .args .clipped .now; buckets = start .args .buckets .now; side-store = start .args .side .now }) (arm .0) (checked .given .0 .0) (arm .1) (work-length .result) (work-length .ensures) (ap (λ (b : Bool). (eqb (length (start .args .work .now)) (work-length .result)) && b) (sym (c .before .lengths-right .ensures)) ∙ not-true _ (c .if1 .taken))
 
 table-requires : tie.Need-table-requires
 table-requires c κs = search needs
@@ -68,7 +68,7 @@ update-lent-requires c κs =
     let if1 = c .before .before .before .before .before .before .before .before .if1 in
     let table = c .before .before .before .before .before .before .before .table in
     let v = (ap (λ (b : Bool). (eqb (length (start .args .work .now)) (work-length .result)) && b) (sym (lengths-right .ensures)) ∙ not-false _ (if1 .left)) in (
-      ready (checked .given .0 .0) (allowed-settings (record { p = start .args .p; k = start .args .k; room = start .args .room; top = start .args .top; capacity = start .args .capacity; side-places = start .args .side-places }) (new .result) (new .ensures) (checked .given .0 .0) (checked .given .1)) (table .result) (table .ensures) (search needs),
+      ready (checked .given .0 .0) (allowed-settings (given-of (start .args .given)) (new .result) (new .ensures) (checked .given .0 .0) (checked .given .1)) (table .result) (table .ensures) (search needs),
       eqb-true _ _ (and-left (eqb (length (start .args .work .now)) (work-length .result)) _ v) ∙ work-length .ensures,
       sized-by (card-of (paper (checked .given .0 .0))) (record { ledger = start .args .ledger .now; true-counts = start .args .true-counts .now; clipped-counts = start .args .clipped .now; buckets = start .args .buckets .now; side-store = start .args .side .now }) (and-right (eqb (length (start .args .work .now)) (work-length .result)) _ v),
     )
@@ -100,7 +100,7 @@ returns-3 c =
     let lengths-right = c .before .before .before .before .before .before .before .before .before .before .before .before .before .before .before .before .before .before .before .before .before .before .lengths-right in
     let if1 = c .before .before .before .before .before .before .before .before .before .before .before .before .before .before .before .before .before .before .before .before .before .if1 in
     let update-lent = c .before .before .before .before .before .before .before .before .before .before .before .before .update-lent in
-    let arm = allowed-arm (record { p = start .args .p; k = start .args .k; room = start .args .room; top = start .args .top; capacity = start .args .capacity; side-places = start .args .side-places }) (new .result) (new .ensures) (checked .given .0 .0) (checked .given .1) in performs-on (record { p = start .args .p; k = start .args .k; room = start .args .room; top = start .args .top; capacity = start .args .capacity; side-places = start .args .side-places }) (start .args .edit) (start .args .key .now) (start .args .class) (length (start .args .work .now)) (record { ledger = start .args .ledger .now; true-counts = start .args .true-counts .now; clipped-counts = start .args .clipped .now; buckets = start .args .buckets .now; side-store = start .args .side .now }) (arm .0) (checked .given .0 .0) (arm .1) (work-length .result) (work-length .ensures) (ap (λ (b : Bool). (eqb (length (start .args .work .now)) (work-length .result)) && b) (sym (lengths-right .ensures)) ∙ not-false _ (if1 .left)) _ (update-lent .ensures)
+    let arm = allowed-arm (given-of (start .args .given)) (new .result) (new .ensures) (checked .given .0 .0) (checked .given .1) in performs-on (given-of (start .args .given)) (start .args .edit) (start .args .key .now) (start .args .class) (length (start .args .work .now)) (record { ledger = start .args .ledger .now; true-counts = start .args .true-counts .now; clipped-counts = start .args .clipped .now; buckets = start .args .buckets .now; side-store = start .args .side .now }) (arm .0) (checked .given .0 .0) (arm .1) (work-length .result) (work-length .ensures) (ap (λ (b : Bool). (eqb (length (start .args .work .now)) (work-length .result)) && b) (sym (lengths-right .ensures)) ∙ not-false _ (if1 .left)) _ (update-lent .ensures)
 
 pub update-spec : {M : Type 1} → statement M
 update-spec =

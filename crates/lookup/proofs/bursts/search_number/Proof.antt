@@ -7,7 +7,7 @@ use borrow.Author.Needs.{needs}
 use lib.ListN.{getD}
 use Rattle.theory.specs.Settings as plain
 use Rattle.theory.specs.Settings.{card-of}
-use Rattle.settings.specs.Checked.{paper}
+use Rattle.settings.specs.Checked.{paper, given-of}
 use Rattle.settings.specs.declared.Settings.{Settings}
 use Rattle.settings.proofs.Laws.{width-is}
 use Rattle.lookup.specs.Answers.{judged-of}
@@ -20,14 +20,7 @@ use Rattle.lookup.proofs.bursts.search_number.Tie as tie
 -- the settings as they are given
 abbrev given : tie.Start → plain.Settings
 given start =
-    record {
-      p = start .args .p;
-      k = start .args .k;
-      room = start .args .room;
-      top = start .args .top;
-      capacity = start .args .capacity;
-      side-places = start .args .side-places;
-    }
+    given-of (start .args .given)
 
 -- ---- nothing is refused
 module _ (c : tie.After-known-told2) where

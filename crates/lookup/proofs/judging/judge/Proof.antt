@@ -1,5 +1,6 @@
 -- `lookup::judging::judge` meets its contract: refusal 1, then the areas' judgement. Assumes nothing.
 use mathlib.Core.Path.{ap, _∙_}
+use Rattle.settings.specs.Checked.{given-of}
 use Rattle.theory.specs.Settings.{Settings}
 use Rattle.settings.proofs.Laws.{allowed-arm, refused-arm, allowed-settings}
 use Rattle.lookup.specs.Answers.{judged-of}
@@ -21,21 +22,21 @@ returns : tie.Need-returns
 returns c =
     let start = c .before .before .before .before .before .before .before in
     let new = c .before .before .new in
-    judged-1 (record { p = start .args .p; k = start .args .k; room = start .args .room; top = start .args .top; capacity = start .args .capacity; side-places = start .args .side-places }) (start .args .clipped .now) (start .args .buckets .now) (start .args .side .now) (start .args .key .now) (refused-arm (record { p = start .args .p; k = start .args .k; room = start .args .room; top = start .args .top; capacity = start .args .capacity; side-places = start .args .side-places }) (new .result) (new .ensures) (c .enum-told .given .1))
+    judged-1 (given-of (start .args .given)) (start .args .clipped .now) (start .args .buckets .now) (start .args .side .now) (start .args .key .now) (refused-arm (given-of (start .args .given)) (new .result) (new .ensures) (c .enum-told .given .1))
 
 judge-areas-requires : tie.Need-judge-areas-requires
 judge-areas-requires c κs =
     let start = c .before .before .before .before .before .before .before .before in
     let new = c .before .before .before .new in
     let checked = c .before .checked in
-    allowed-settings (record { p = start .args .p; k = start .args .k; room = start .args .room; top = start .args .top; capacity = start .args .capacity; side-places = start .args .side-places }) (new .result) (new .ensures) (checked .given .0 .0) (checked .given .1)
+    allowed-settings (given-of (start .args .given)) (new .result) (new .ensures) (checked .given .0 .0) (checked .given .1)
 
 returns-2 : tie.Need-returns-2
 returns-2 c =
     let start = c .before .before .before .before .before .before .before .before .before in
     let new = c .before .before .before .before .new in
     let checked = c .before .before .checked in
-    let arm = allowed-arm (record { p = start .args .p; k = start .args .k; room = start .args .room; top = start .args .top; capacity = start .args .capacity; side-places = start .args .side-places }) (new .result) (new .ensures) (checked .given .0 .0) (checked .given .1) in c .judge-areas .ensures ∙ ap (λ (t : Settings). judged-of t (start .args .clipped .now) (start .args .buckets .now) (start .args .side .now) (start .args .key .now)) (arm .1)
+    let arm = allowed-arm (given-of (start .args .given)) (new .result) (new .ensures) (checked .given .0 .0) (checked .given .1) in c .judge-areas .ensures ∙ ap (λ (t : Settings). judged-of t (start .args .clipped .now) (start .args .buckets .now) (start .args .side .now) (start .args .key .now)) (arm .1)
 
 pub judge-spec : {M : Type 1} → statement M
 judge-spec =

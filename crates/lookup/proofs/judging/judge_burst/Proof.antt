@@ -9,7 +9,7 @@ use lib.Dec.{eqb}
 use lib.ListN.{length}
 use Rattle.theory.specs.Settings as plain
 use Rattle.theory.specs.Settings.{allowed, card-of}
-use Rattle.settings.specs.Checked.{paper}
+use Rattle.settings.specs.Checked.{paper, given-of}
 use Rattle.settings.proofs.Laws.{allowed-arm, allowed-settings, refused-arm, width-is}
 use Rattle.lookup.specs.declared.judging.Judged.{Judged}
 use Rattle.lookup.specs.Bursts.{judged-burst}
@@ -21,14 +21,7 @@ use Rattle.lookup.proofs.judging.judge_burst.Tie as tie
 -- the settings as they are given
 abbrev given : tie.Start → plain.Settings
 given start =
-    record {
-      p = start .args .p;
-      k = start .args .k;
-      room = start .args .room;
-      top = start .args .top;
-      capacity = start .args .capacity;
-      side-places = start .args .side-places;
-    }
+    given-of (start .args .given)
 
 returns : tie.Need-returns
 returns c =

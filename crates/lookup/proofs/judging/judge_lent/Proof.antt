@@ -1,7 +1,7 @@
 -- `lookup::judging::judge_lent` meets its contract: refusal 1, the table's length, then the areas' judgement. Assumes nothing.
 use mathlib.Core.Path.{_∙_}
 use native.Mathlib.Omega.{arith}
-use Rattle.settings.specs.Checked.{paper}
+use Rattle.settings.specs.Checked.{paper, given-of}
 use Rattle.settings.proofs.Laws.{allowed-arm, refused-arm, allowed-settings, width-is}
 use Rattle.lookup.proofs.JudgeLaws.{lent-1, lent-2, lent-on}
 use borrow.Author.Needs.{needs}
@@ -21,7 +21,7 @@ returns : tie.Need-returns
 returns c =
     let start = c .before .before .before .before .before .before .before .before in
     let new = c .before .before .new in
-    lent-1 (start .args .table .now) (record { p = start .args .p; k = start .args .k; room = start .args .room; top = start .args .top; capacity = start .args .capacity; side-places = start .args .side-places }) (start .args .clipped .now) (start .args .buckets .now) (start .args .side .now) (start .args .key .now) (refused-arm (record { p = start .args .p; k = start .args .k; room = start .args .room; top = start .args .top; capacity = start .args .capacity; side-places = start .args .side-places }) (new .result) (new .ensures) (c .enum-told .given .1))
+    lent-1 (start .args .table .now) (given-of (start .args .given)) (start .args .clipped .now) (start .args .buckets .now) (start .args .side .now) (start .args .key .now) (refused-arm (given-of (start .args .given)) (new .result) (new .ensures) (c .enum-told .given .1))
 
 width-requires : tie.Need-width-requires
 width-requires c κs = search needs
@@ -35,14 +35,14 @@ returns-2 c =
     let new = c .before .before .before .before .before .new in
     let checked = c .before .before .before .checked in
     let width = c .before .width in
-    let arm = allowed-arm (record { p = start .args .p; k = start .args .k; room = start .args .room; top = start .args .top; capacity = start .args .capacity; side-places = start .args .side-places }) (new .result) (new .ensures) (checked .given .0 .0) (checked .given .1) in lent-2 (start .args .table .now) (record { p = start .args .p; k = start .args .k; room = start .args .room; top = start .args .top; capacity = start .args .capacity; side-places = start .args .side-places }) (start .args .clipped .now) (start .args .buckets .now) (start .args .side .now) (start .args .key .now) (arm .0) (checked .given .0 .0) (arm .1) (width .result) (width .ensures) (c .if1 .taken)
+    let arm = allowed-arm (given-of (start .args .given)) (new .result) (new .ensures) (checked .given .0 .0) (checked .given .1) in lent-2 (start .args .table .now) (given-of (start .args .given)) (start .args .clipped .now) (start .args .buckets .now) (start .args .side .now) (start .args .key .now) (arm .0) (checked .given .0 .0) (arm .1) (width .result) (width .ensures) (c .if1 .taken)
 
 judge-areas-requires : tie.Need-judge-areas-requires
 judge-areas-requires c κs =
     let start = c .before .before .before .before .before .before .before .before .before .before .before in
     let new = c .before .before .before .before .before .new in
     let checked = c .before .before .before .checked in
-    allowed-settings (record { p = start .args .p; k = start .args .k; room = start .args .room; top = start .args .top; capacity = start .args .capacity; side-places = start .args .side-places }) (new .result) (new .ensures) (checked .given .0 .0) (checked .given .1)
+    allowed-settings (given-of (start .args .given)) (new .result) (new .ensures) (checked .given .0 .0) (checked .given .1)
 
 returns-3 : tie.Need-returns-3
 returns-3 c =
@@ -50,7 +50,7 @@ returns-3 c =
     let new = c .before .before .before .before .before .before .new in
     let checked = c .before .before .before .before .checked in
     let width = c .before .before .width in
-    let arm = allowed-arm (record { p = start .args .p; k = start .args .k; room = start .args .room; top = start .args .top; capacity = start .args .capacity; side-places = start .args .side-places }) (new .result) (new .ensures) (checked .given .0 .0) (checked .given .1) in c .judge-areas .ensures ∙ lent-on (start .args .table .now) (record { p = start .args .p; k = start .args .k; room = start .args .room; top = start .args .top; capacity = start .args .capacity; side-places = start .args .side-places }) (start .args .clipped .now) (start .args .buckets .now) (start .args .side .now) (start .args .key .now) (arm .0) (checked .given .0 .0) (arm .1) (width .result) (width .ensures) (c .before .if1 .left)
+    let arm = allowed-arm (given-of (start .args .given)) (new .result) (new .ensures) (checked .given .0 .0) (checked .given .1) in c .judge-areas .ensures ∙ lent-on (start .args .table .now) (given-of (start .args .given)) (start .args .clipped .now) (start .args .buckets .now) (start .args .side .now) (start .args .key .now) (arm .0) (checked .given .0 .0) (arm .1) (width .result) (width .ensures) (c .before .if1 .left)
 
 pub judge-lent-spec : {M : Type 1} → statement M
 judge-lent-spec =

@@ -4,6 +4,7 @@ use mathlib.Core.Bool.{true, _&&_}
 use borrow.Author.Tests.{eqb-true, not-true, not-false}
 use lib.Dec.{eqb}
 use lib.ListN.{length}
+use Rattle.settings.specs.Checked.{given-of}
 use Rattle.theory.specs.Settings.{Settings}
 use Rattle.theory.specs.Snapshot.{save}
 use Rattle.theory.proofs.ListLaws.{and-left, and-right}
@@ -27,21 +28,21 @@ returns : tie.Need-returns
 returns c =
     let start = c .before .before .before .before .before .before in
     let new = c .before .before .new in
-    saves-1 (record { p = start .args .p; k = start .args .k; room = start .args .room; top = start .args .top; capacity = start .args .capacity; side-places = start .args .side-places }) (start .args .ledger .now) (length (start .args .work .now)) (start .args .target .now) (refused-arm (record { p = start .args .p; k = start .args .k; room = start .args .room; top = start .args .top; capacity = start .args .capacity; side-places = start .args .side-places }) (new .result) (new .ensures) (c .enum-told .given .1))
+    saves-1 (given-of (start .args .given)) (start .args .ledger .now) (length (start .args .work .now)) (start .args .target .now) (refused-arm (given-of (start .args .given)) (new .result) (new .ensures) (c .enum-told .given .1))
 
 work-length-requires : tie.Need-work-length-requires
 work-length-requires c κs =
     let start = c .before .before .before .before .before .before .before in
     let new = c .before .before .before .new in
     let checked = c .before .checked in
-    allowed-settings (record { p = start .args .p; k = start .args .k; room = start .args .room; top = start .args .top; capacity = start .args .capacity; side-places = start .args .side-places }) (new .result) (new .ensures) (checked .given .0 .0) (checked .given .1)
+    allowed-settings (given-of (start .args .given)) (new .result) (new .ensures) (checked .given .0 .0) (checked .given .1)
 
 ledger-length-requires : tie.Need-ledger-length-requires
 ledger-length-requires c κs =
     let start = c .before .before .before .before .before .before .before .before in
     let new = c .before .before .before .before .new in
     let checked = c .before .before .checked in
-    allowed-settings (record { p = start .args .p; k = start .args .k; room = start .args .room; top = start .args .top; capacity = start .args .capacity; side-places = start .args .side-places }) (new .result) (new .ensures) (checked .given .0 .0) (checked .given .1)
+    allowed-settings (given-of (start .args .given)) (new .result) (new .ensures) (checked .given .0 .0) (checked .given .1)
 
 returns-2 : tie.Need-returns-2
 returns-2 c =
@@ -50,7 +51,7 @@ returns-2 c =
     let checked = c .before .before .before .before .checked in
     let work-length = c .before .before .work-length in
     let ledger-length = c .before .ledger-length in
-    let arm = allowed-arm (record { p = start .args .p; k = start .args .k; room = start .args .room; top = start .args .top; capacity = start .args .capacity; side-places = start .args .side-places }) (new .result) (new .ensures) (checked .given .0 .0) (checked .given .1) in saves-2 (record { p = start .args .p; k = start .args .k; room = start .args .room; top = start .args .top; capacity = start .args .capacity; side-places = start .args .side-places }) (start .args .ledger .now) (length (start .args .work .now)) (start .args .target .now) (arm .0) (checked .given .0 .0) (arm .1) (work-length .result) (ledger-length .result) (work-length .ensures) (ledger-length .ensures) (not-true _ (c .if1 .taken))
+    let arm = allowed-arm (given-of (start .args .given)) (new .result) (new .ensures) (checked .given .0 .0) (checked .given .1) in saves-2 (given-of (start .args .given)) (start .args .ledger .now) (length (start .args .work .now)) (start .args .target .now) (arm .0) (checked .given .0 .0) (arm .1) (work-length .result) (ledger-length .result) (work-length .ensures) (ledger-length .ensures) (not-true _ (c .if1 .taken))
 
 table-requires : tie.Need-table-requires
 table-requires c κs = search needs
@@ -68,7 +69,7 @@ save-lent-requires c κs =
     let if1 = c .before .before .before .before .if1 in
     let table = c .before .before .before .table in
     let v : ((eqb (length (start .args .work .now)) (work-length .result)) && eqb (length (start .args .ledger .now)) (ledger-length .result)) ≡ true = not-false _ (if1 .left) in (
-      ready (checked .given .0 .0) (allowed-settings (record { p = start .args .p; k = start .args .k; room = start .args .room; top = start .args .top; capacity = start .args .capacity; side-places = start .args .side-places }) (new .result) (new .ensures) (checked .given .0 .0) (checked .given .1)) (table .result) (table .ensures) (search needs),
+      ready (checked .given .0 .0) (allowed-settings (given-of (start .args .given)) (new .result) (new .ensures) (checked .given .0 .0) (checked .given .1)) (table .result) (table .ensures) (search needs),
       eqb-true _ _ (and-left (eqb (length (start .args .work .now)) (work-length .result)) _ v) ∙ work-length .ensures,
       eqb-true _ _ (and-right (eqb (length (start .args .work .now)) (work-length .result)) _ v) ∙ ledger-length .ensures,
     )
@@ -85,7 +86,7 @@ returns-3 c =
     let new = c .before .before .before .before .before .before .before .before .before .before .before .before .before .before .before .new in
     let checked = c .before .before .before .before .before .before .before .before .before .before .before .before .before .checked in
     let save-lent = c .before .before .before .before .save-lent in
-    let arm = allowed-arm (record { p = start .args .p; k = start .args .k; room = start .args .room; top = start .args .top; capacity = start .args .capacity; side-places = start .args .side-places }) (new .result) (new .ensures) (checked .given .0 .0) (checked .given .1) in (save-lent .ensures) ∙ ap (λ (u : Settings). save u (start .args .ledger .now) (length (start .args .work .now)) (start .args .target .now)) (arm .1)
+    let arm = allowed-arm (given-of (start .args .given)) (new .result) (new .ensures) (checked .given .0 .0) (checked .given .1) in (save-lent .ensures) ∙ ap (λ (u : Settings). save u (start .args .ledger .now) (length (start .args .work .now)) (start .args .target .now)) (arm .1)
 
 pub save-spec : {M : Type 1} → statement M
 save-spec =
