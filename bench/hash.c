@@ -7,17 +7,23 @@
 
 enum { KEYS = 4096, TURNS = 25, ROUNDS = 41 };
 
-static uint8_t keys[KEYS][13];
-static uint64_t table[3328];
+static uint8_t keys[KEYS][FLOW_KEY_BYTES];
+static uint64_t table[FLOW_HASH_TABLE_NUMBERS];
 
 /* plain.c by each compiler that is there: bin/bench adds the compiler's name. */
 hash_lent plain_hash_lent_by_gcc WHERE_LINKED, plain_hash_lent_by_clang WHERE_LINKED;
 
 /* The ways to hash a key. */
-static uint32_t lent(const uint8_t *key, uint64_t *h) { return flow_hash_lent(table, 3328, key, 13, h, 1); }
-static uint32_t plain_gcc(const uint8_t *key, uint64_t *h) { return plain_hash_lent_by_gcc(table, 3328, key, 13, h, 1); }
-static uint32_t plain_clang(const uint8_t *key, uint64_t *h) { return plain_hash_lent_by_clang(table, 3328, key, 13, h, 1); }
-static uint32_t no_table(const uint8_t *key, uint64_t *h) { return flow_hash(key, 13, h, 1); }
+static uint32_t lent(const uint8_t *key, uint64_t *h) { return flow_hash_lent(table, FLOW_HASH_TABLE_NUMBERS, key, FLOW_KEY_BYTES, h, 1); }
+static uint32_t plain_gcc(const uint8_t *key, uint64_t *h)
+{
+    return plain_hash_lent_by_gcc(table, FLOW_HASH_TABLE_NUMBERS, key, FLOW_KEY_BYTES, h, 1);
+}
+static uint32_t plain_clang(const uint8_t *key, uint64_t *h)
+{
+    return plain_hash_lent_by_clang(table, FLOW_HASH_TABLE_NUMBERS, key, FLOW_KEY_BYTES, h, 1);
+}
+static uint32_t no_table(const uint8_t *key, uint64_t *h) { return flow_hash(key, FLOW_KEY_BYTES, h, 1); }
 
 /* One round: every key, TURNS times. Nanoseconds a key; the results are xored into *sum. Written out for each way, so that each is called
  * directly. */
@@ -61,11 +67,11 @@ int main(void)
     uint64_t sums[CONTESTANTS] = {0};
     int order[CONTESTANTS], count = 0;
     for (int i = 0; i < KEYS; i++) {
-        for (int a = 0; a < 13; a++) {
+        for (int a = 0; a < FLOW_KEY_BYTES; a++) {
             keys[i][a] = (uint8_t)random_number();
         }
     }
-    if (flow_hash_table(table, 3328) != 0) {
+    if (flow_hash_table(table, FLOW_HASH_TABLE_NUMBERS) != 0) {
         return 1;
     }
     for (int c = 0; c < CONTESTANTS; c++) {

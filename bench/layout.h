@@ -2,6 +2,7 @@
 #ifndef LAYOUT_H
 #define LAYOUT_H
 
+#include "flow.h"
 #include <stddef.h>
 #include <stdint.h>
 
@@ -18,6 +19,6 @@ struct lookup {
 
 /* Lays out the flows, whose keys differ; sorts keys and classes by key. 0, or 1 when the layout is not defined or memory is short. What an
  * earlier call put there is freed. */
-int lay_out(const struct settings *set, const uint64_t *table, uint8_t keys[][13], uint32_t *classes, struct lookup *at);
+int lay_out(const struct settings *set, const uint64_t *table, uint8_t keys[][FLOW_KEY_BYTES], uint32_t *classes, struct lookup *at);
 
 #endif

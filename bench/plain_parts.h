@@ -3,6 +3,7 @@
 #ifndef PLAIN_PARTS_H
 #define PLAIN_PARTS_H
 
+#include "flow.h"
 #include <stddef.h>
 #include <stdint.h>
 #include <string.h>
@@ -10,7 +11,7 @@
 /* Whatever a compiler thinks of the size. */
 #define INLINED __attribute__((always_inline)) static inline
 
-enum { KEY = 13, RECORD = 17, TABLE = 256 * KEY, MOST_FLOWS = 4096, ABSENT = 100 };
+enum { KEY = FLOW_KEY_BYTES, RECORD = FLOW_RECORD_BYTES, TABLE = FLOW_HASH_TABLE_NUMBERS, MOST_FLOWS = 4096, ABSENT = 100 };
 
 /* What a search answers. */
 INLINED uint64_t answer(uint64_t number, uint64_t class) { return number << 32 | class; }

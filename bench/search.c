@@ -28,12 +28,12 @@ enum mix { HITS, HALF, MISSES, MIXES };
 
 static struct settings set;
 static struct lookup at;
-static uint64_t table[3328];
-static uint8_t held[MOST_FLOWS][13], absent[MOST_FLOWS][13];
+static uint64_t table[FLOW_HASH_TABLE_NUMBERS];
+static uint8_t held[MOST_FLOWS][FLOW_KEY_BYTES], absent[MOST_FLOWS][FLOW_KEY_BYTES];
 static uint32_t classes[MOST_FLOWS];
 
 /* The keys of a round, and what each contestant has to answer. */
-static uint8_t order[LOOKUPS][13];
+static uint8_t order[LOOKUPS][FLOW_KEY_BYTES];
 static uint64_t wanted[LOOKUPS];
 
 /* The C by each compiler that is there: bin/bench adds the compiler's name. The doors of the library that bin/bench --before names. */
@@ -48,14 +48,14 @@ __typeof__(flow_search) before_flow_search WHERE_LINKED;
 #define AREAS                                                                                                                            \
     set.p, set.k, set.room, set.top, set.capacity, set.side_places, at.clipped, at.clipped_length, at.buckets, at.buckets_length,        \
         at.side, at.side_length
-static uint64_t lent(const uint8_t *key) { return flow_search_lent(table, 3328, AREAS, key, 13); }
-static uint64_t no_table(const uint8_t *key) { return flow_search(AREAS, key, 13); }
-static uint64_t before_lent(const uint8_t *key) { return before_flow_search_lent(table, 3328, AREAS, key, 13); }
-static uint64_t before_no_table(const uint8_t *key) { return before_flow_search(AREAS, key, 13); }
-static uint64_t plain_gcc(const uint8_t *key) { return plain_search_lent_by_gcc(table, 3328, AREAS, key, 13); }
-static uint64_t plain_clang(const uint8_t *key) { return plain_search_lent_by_clang(table, 3328, AREAS, key, 13); }
-static uint64_t tuned_gcc(const uint8_t *key) { return tuned_search_lent_by_gcc(table, 3328, AREAS, key, 13); }
-static uint64_t tuned_clang(const uint8_t *key) { return tuned_search_lent_by_clang(table, 3328, AREAS, key, 13); }
+static uint64_t lent(const uint8_t *key) { return flow_search_lent(table, FLOW_HASH_TABLE_NUMBERS, AREAS, key, FLOW_KEY_BYTES); }
+static uint64_t no_table(const uint8_t *key) { return flow_search(AREAS, key, FLOW_KEY_BYTES); }
+static uint64_t before_lent(const uint8_t *key) { return before_flow_search_lent(table, FLOW_HASH_TABLE_NUMBERS, AREAS, key, FLOW_KEY_BYTES); }
+static uint64_t before_no_table(const uint8_t *key) { return before_flow_search(AREAS, key, FLOW_KEY_BYTES); }
+static uint64_t plain_gcc(const uint8_t *key) { return plain_search_lent_by_gcc(table, FLOW_HASH_TABLE_NUMBERS, AREAS, key, FLOW_KEY_BYTES); }
+static uint64_t plain_clang(const uint8_t *key) { return plain_search_lent_by_clang(table, FLOW_HASH_TABLE_NUMBERS, AREAS, key, FLOW_KEY_BYTES); }
+static uint64_t tuned_gcc(const uint8_t *key) { return tuned_search_lent_by_gcc(table, FLOW_HASH_TABLE_NUMBERS, AREAS, key, FLOW_KEY_BYTES); }
+static uint64_t tuned_clang(const uint8_t *key) { return tuned_search_lent_by_clang(table, FLOW_HASH_TABLE_NUMBERS, AREAS, key, FLOW_KEY_BYTES); }
 static uint64_t chained(const uint8_t *key) { return chained_search(table, key); }
 static uint64_t hashmap(const uint8_t *key) { return hashmap_search(key); }
 static uint64_t rte(const uint8_t *key) { return rte_search(key); }
@@ -63,30 +63,30 @@ static uint64_t rte(const uint8_t *key) { return rte_search(key); }
 /* Every way to look n keys up at once: 0, and the answer of each in answers. */
 static uint32_t burst(const uint8_t *keys, size_t n, uint64_t *answers)
 {
-    return flow_search_burst(table, 3328, AREAS, keys, 13 * n, answers, n);
+    return flow_search_burst(table, FLOW_HASH_TABLE_NUMBERS, AREAS, keys, FLOW_KEY_BYTES * n, answers, n);
 }
 static uint32_t passes_gcc(const uint8_t *keys, size_t n, uint64_t *answers)
 {
-    return tuned_search_burst_by_gcc(table, 3328, AREAS, keys, 13 * n, answers, n);
+    return tuned_search_burst_by_gcc(table, FLOW_HASH_TABLE_NUMBERS, AREAS, keys, FLOW_KEY_BYTES * n, answers, n);
 }
 static uint32_t passes_clang(const uint8_t *keys, size_t n, uint64_t *answers)
 {
-    return tuned_search_burst_by_clang(table, 3328, AREAS, keys, 13 * n, answers, n);
+    return tuned_search_burst_by_clang(table, FLOW_HASH_TABLE_NUMBERS, AREAS, keys, FLOW_KEY_BYTES * n, answers, n);
 }
 static uint32_t ahead_gcc(const uint8_t *keys, size_t n, uint64_t *answers)
 {
-    return tuned_search_burst_ahead_by_gcc(table, 3328, AREAS, keys, 13 * n, answers, n);
+    return tuned_search_burst_ahead_by_gcc(table, FLOW_HASH_TABLE_NUMBERS, AREAS, keys, FLOW_KEY_BYTES * n, answers, n);
 }
 static uint32_t ahead_clang(const uint8_t *keys, size_t n, uint64_t *answers)
 {
-    return tuned_search_burst_ahead_by_clang(table, 3328, AREAS, keys, 13 * n, answers, n);
+    return tuned_search_burst_ahead_by_clang(table, FLOW_HASH_TABLE_NUMBERS, AREAS, keys, FLOW_KEY_BYTES * n, answers, n);
 }
 static uint32_t bulk(const uint8_t *keys, size_t n, uint64_t *answers) { return rte_search_bulk(keys, n, answers); }
 
 /* For each way a function that gives the answers of n keys, and one that measures a round: nanoseconds a lookup; the answers are added to
  * *sum, with no branch on what they are. Written out for each way, so that each is called directly. */
 #define SINGLE(way)                                                                                                                      \
-    static void all_##way(uint8_t keys[][13], size_t n, uint64_t *answers)                                                               \
+    static void all_##way(uint8_t keys[][FLOW_KEY_BYTES], size_t n, uint64_t *answers)                                                               \
     {                                                                                                                                    \
         for (size_t i = 0; i < n; i++) {                                                                                                 \
             answers[i] = way(keys[i]);                                                                                                   \
@@ -122,7 +122,7 @@ static uint32_t bulk(const uint8_t *keys, size_t n, uint64_t *answers) { return 
 
 /* The same for a way that takes keys in bursts; a refusal makes the sum wrong. */
 #define BURST(way, size)                                                                                                                 \
-    static void all_##way##_##size(uint8_t keys[][13], size_t n, uint64_t *answers)                                                      \
+    static void all_##way##_##size(uint8_t keys[][FLOW_KEY_BYTES], size_t n, uint64_t *answers)                                                      \
     {                                                                                                                                    \
         for (size_t i = 0; i < n; i += size) {                                                                                           \
             way(keys[i], n - i < size ? n - i : size, answers + i);                                                                      \
@@ -173,7 +173,7 @@ enum {
 static const struct {
     const char *name;
     function *there;
-    void (*all)(uint8_t keys[][13], size_t n, uint64_t *answers);
+    void (*all)(uint8_t keys[][FLOW_KEY_BYTES], size_t n, uint64_t *answers);
     double (*round)(uint64_t *sum), (*branching)(uint64_t *sum);
 } contestants[] = {
     [LENT] = {"flow_search_lent", (function *)flow_search_lent, OF_SINGLE(lent)},
@@ -206,7 +206,7 @@ static struct column columns[SHAPES][MIXES], branching[MIXES];
 static unsigned pruned_reads(const uint8_t *key)
 {
     uint64_t h;
-    flow_hash_lent(table, 3328, key, 13, &h, 1);
+    flow_hash_lent(table, FLOW_HASH_TABLE_NUMBERS, key, FLOW_KEY_BYTES, &h, 1);
     unsigned zero = 0, below = 0;
     for (unsigned j = 0; j < set.k; j++) {
         unsigned b = (unsigned)(h >> 16 * j) & ((1u << set.p) - 1);
@@ -233,7 +233,7 @@ static struct {
     double mean;
 } reads[READERS][SHAPES][MIXES];
 
-static void count_reads(int shape, enum mix mix, uint8_t keys[][13])
+static void count_reads(int shape, enum mix mix, uint8_t keys[][FLOW_KEY_BYTES])
 {
     for (int r = 0; r < READERS; r++) {
         uint64_t sum = 0;
@@ -248,7 +248,7 @@ static void count_reads(int shape, enum mix mix, uint8_t keys[][13])
 
 static void random_key(uint8_t *key)
 {
-    for (int a = 0; a < 13; a++) {
+    for (int a = 0; a < FLOW_KEY_BYTES; a++) {
         key[a] = (uint8_t)random_number();
     }
 }
@@ -260,14 +260,14 @@ static uint64_t draw(enum mix mix)
     for (int i = 0; i < LOOKUPS; i++) {
         uint64_t x = random_number(), flow = x % set.flows;
         int hit = mix == HITS || (mix == HALF && x >> 63);
-        memcpy(order[i], hit ? held[flow] : absent[flow], 13);
+        memcpy(order[i], hit ? held[flow] : absent[flow], FLOW_KEY_BYTES);
         sum += wanted[i] = hit ? classes[flow] : ABSENT;
     }
     return sum;
 }
 
 /* Every contestant gives these answers, in its bursts where it has some. */
-static int check(uint8_t keys[][13], size_t n, const uint64_t *right)
+static int check(uint8_t keys[][FLOW_KEY_BYTES], size_t n, const uint64_t *right)
 {
     static uint64_t answers[LOOKUPS];
     for (int c = 0; c < CONTESTANTS; c++) {
@@ -456,7 +456,7 @@ static void print_aims(FILE *to)
 int main(int words, char **word)
 {
     FILE *aims = open_aims(words, word);
-    if (aims == NULL || flow_hash_table(table, 3328) != 0 || (rte_start != NULL && rte_start() != 0)) {
+    if (aims == NULL || flow_hash_table(table, FLOW_HASH_TABLE_NUMBERS) != 0 || (rte_start != NULL && rte_start() != 0)) {
         return 1;
     }
     for (int shape = 0; shape < SHAPES; shape++) {

@@ -8,15 +8,15 @@
 #include <stdlib.h>
 #include <string.h>
 
-enum { PAIRS = 8, ROUNDS = 101, RECORD = 17, MOST_FLOWS = 4096 };
+enum { PAIRS = 8, ROUNDS = 101, RECORD = FLOW_RECORD_BYTES, MOST_FLOWS = 4096 };
 
 /* The flows vary, the settings stay. */
 static const uint64_t sizes[] = {250, 500, 1000, 2000, 4000};
 enum { AT_1000 = 2, AT_4000 = 4, SIZES = sizeof sizes / sizeof sizes[0] };
 
 static struct settings set = {0, 12, 3, 4, 15, 4096, 64};
-static uint64_t table[3328];
-static uint8_t keys[PAIRS][13];
+static uint64_t table[FLOW_HASH_TABLE_NUMBERS];
+static uint8_t keys[PAIRS][FLOW_KEY_BYTES];
 
 /* The C by each compiler that is there: bin/bench adds the compiler's name. The doors of the library that bin/bench --before names. */
 update plain_update_branching_by_gcc WHERE_LINKED, plain_update_branching_by_clang WHERE_LINKED;
@@ -69,7 +69,7 @@ static const struct {
 static struct areas areas[CONTESTANTS];
 static struct column columns[SIZES];
 
-static uint32_t call(int c, enum edit edit, const uint8_t *key) { return contestants[c].call(&set, table, &areas[c], edit, key, 13, 7); }
+static uint32_t call(int c, enum edit edit, const uint8_t *key) { return contestants[c].call(&set, table, &areas[c], edit, key, FLOW_KEY_BYTES, 7); }
 
 /* One round: microseconds a pair; the answers are added to *sum. */
 static double round_of(int c, uint32_t *sum)
@@ -89,7 +89,7 @@ static void random_bytes(uint8_t *to, size_t n)
     }
 }
 
-static int by_key(const void *a, const void *b) { return memcmp(a, b, 13); }
+static int by_key(const void *a, const void *b) { return memcmp(a, b, FLOW_KEY_BYTES); }
 
 static int alike(const struct areas *a, const struct areas *b)
 {
@@ -147,8 +147,8 @@ static void build(size_t flows)
 /* Adds, and then removes, one more flow in all; alike after each. */
 static int check(void)
 {
-    uint8_t key[13];
-    random_bytes(key, 13);
+    uint8_t key[FLOW_KEY_BYTES];
+    random_bytes(key, FLOW_KEY_BYTES);
     for (int edit = ADD; edit <= REMOVE; edit++) {
         for (int c = 0; c < CONTESTANTS; c++) {
             if (contestants[c].there == NULL) {
@@ -219,7 +219,7 @@ int main(int words, char **word)
 {
     FILE *aims = open_aims(words, word);
     int order[CONTESTANTS], count = 0;
-    if (aims == NULL || flow_hash_table(table, 3328) != 0) {
+    if (aims == NULL || flow_hash_table(table, FLOW_HASH_TABLE_NUMBERS) != 0) {
         return 1;
     }
     for (int c = 0; c < CONTESTANTS; c++) {

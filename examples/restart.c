@@ -19,7 +19,7 @@ struct areas {
     (a)->ledger, (a)->lengths[0], (a)->true_counts, (a)->lengths[1], (a)->clipped, (a)->lengths[2], (a)->buckets, (a)->lengths[3], \
         (a)->side, (a)->lengths[4]
 
-static void lend_areas(struct areas *a, const uint64_t settings[6])
+static void lend_areas(struct areas *a, const uint64_t settings[FLOW_SETTINGS_COUNT])
 {
     if (flow_area_lengths(SETTINGS(settings), a->lengths, 6) != 0) {
         fputs("a setting is out of range\n", stderr);
@@ -38,9 +38,9 @@ static void lend_areas(struct areas *a, const uint64_t settings[6])
 }
 
 /* The settings of a file, each in two bytes after the count. */
-static void read_settings(const uint8_t *file, uint64_t settings[6])
+static void read_settings(const uint8_t *file, uint64_t settings[FLOW_SETTINGS_COUNT])
 {
-    for (int i = 0; i < 6; i++) {
+    for (int i = 0; i < FLOW_SETTINGS_COUNT; i++) {
         settings[i] = (uint64_t)file[2 + 2 * i] * 256 + file[3 + 2 * i];
     }
 }
@@ -48,30 +48,30 @@ static void read_settings(const uint8_t *file, uint64_t settings[6])
 int main(void)
 {
     /* 64 buckets, 3 hashes a key, room for 2 records a bucket, top count 4, at most 3 flows, 2 side places */
-    const uint64_t settings[6] = {6, 3, 2, 4, 3, 2};
+    const uint64_t settings[FLOW_SETTINGS_COUNT] = {6, 3, 2, 4, 3, 2};
     /* addresses 10.0.0.1 and 10.0.0.2, ports 5060 and 5060, protocol 17 */
-    const uint8_t call[13] = {10, 0, 0, 1, 10, 0, 0, 2, 0x13, 0xc4, 0x13, 0xc4, 17};
+    const uint8_t call[FLOW_KEY_BYTES] = {10, 0, 0, 1, 10, 0, 0, 2, 0x13, 0xc4, 0x13, 0xc4, 17};
     /* a packet of that call, with four bytes of options: version 4, a header of 24 bytes, protocol 17 */
     const uint8_t packet[32] = {0x46, 0, 0, 32, 0, 0, 0, 0, 64, 17, 0, 0, 10, 0, 0, 1, 10, 0, 0, 2, 1, 1, 1, 0, 0x13, 0xc4, 0x13, 0xc4, 0, 8, 0, 0};
     struct areas before, after;
-    uint8_t file[16 + 17 * 1], key[13];
-    uint64_t of_file[6], loaded[6];
+    uint8_t file[FLOW_FILE_HEAD_BYTES + FLOW_RECORD_BYTES * 1], key[FLOW_KEY_BYTES];
+    uint64_t of_file[FLOW_SETTINGS_COUNT], loaded[FLOW_SETTINGS_COUNT];
 
     lend_areas(&before, settings);
     printf("clear: %" PRIu32 "\n", flow_clear(SETTINGS(settings), AREAS(&before)));
-    printf("add the call: %" PRIu32 "\n", flow_add(SETTINGS(settings), AREAS(&before), before.work, before.lengths[5], call, 13, 5));
+    printf("add the call: %" PRIu32 "\n", flow_add(SETTINGS(settings), AREAS(&before), before.work, before.lengths[5], call, FLOW_KEY_BYTES, 5));
     printf("save: %" PRIu32 "\n",
            flow_save(SETTINGS(settings), before.ledger, before.lengths[0], before.work, before.lengths[5], file, sizeof file));
 
     /* the card restarts, and has the file alone */
     read_settings(file, of_file);
     lend_areas(&after, of_file);
-    printf("load: %" PRIu32 "\n", flow_load(file, sizeof file, AREAS(&after), after.work, after.lengths[5], loaded, 6));
+    printf("load: %" PRIu32 "\n", flow_load(file, sizeof file, AREAS(&after), after.work, after.lengths[5], loaded, FLOW_SETTINGS_COUNT));
     printf("a file cut by a byte: %" PRIu32 "\n",
-           flow_load(file, sizeof file - 1, AREAS(&after), after.work, after.lengths[5], of_file, 6));
-    printf("key of the packet: %" PRIu32 "\n", flow_packet_key(packet, sizeof packet, key, 13));
+           flow_load(file, sizeof file - 1, AREAS(&after), after.work, after.lengths[5], of_file, FLOW_SETTINGS_COUNT));
+    printf("key of the packet: %" PRIu32 "\n", flow_packet_key(packet, sizeof packet, key, FLOW_KEY_BYTES));
     uint64_t found = flow_search(SETTINGS(loaded), after.clipped, after.lengths[2], after.buckets, after.lengths[3], after.side,
-                                 after.lengths[4], key, 13);
+                                 after.lengths[4], key, FLOW_KEY_BYTES);
     printf("its flow: answer %" PRIu64 ", class %" PRIu64 "\n", found >> 32, found & UINT32_MAX);
     return 0;
 }

@@ -31,17 +31,17 @@ static int lend_areas(void)
     return ledger && true_counts && clipped && buckets && side && work;
 }
 
-static void search(const char *what, const uint8_t key[13])
+static void search(const char *what, const uint8_t key[FLOW_KEY_BYTES])
 {
-    uint64_t found = flow_search(SETTINGS, clipped, lengths[2], buckets, lengths[3], side, lengths[4], key, 13);
+    uint64_t found = flow_search(SETTINGS, clipped, lengths[2], buckets, lengths[3], side, lengths[4], key, FLOW_KEY_BYTES);
     printf("%s: answer %" PRIu64 ", class %" PRIu64 "\n", what, found >> 32, found & UINT32_MAX);
 }
 
 int main(void)
 {
     /* addresses 10.0.0.1 and 10.0.0.2, ports 5060 and 5060, protocol 17 */
-    uint8_t call[13] = {10, 0, 0, 1, 10, 0, 0, 2, 0x13, 0xc4, 0x13, 0xc4, 17};
-    uint8_t line[13] = {10, 0, 0, 3, 10, 0, 0, 4, 0x01, 0xbb, 0x01, 0xbb, 6};
+    uint8_t call[FLOW_KEY_BYTES] = {10, 0, 0, 1, 10, 0, 0, 2, 0x13, 0xc4, 0x13, 0xc4, 17};
+    uint8_t line[FLOW_KEY_BYTES] = {10, 0, 0, 3, 10, 0, 0, 4, 0x01, 0xbb, 0x01, 0xbb, 6};
 
     if (!lend_areas()) {
         fputs("no memory for the areas\n", stderr);
@@ -49,14 +49,14 @@ int main(void)
     }
     /* clear takes areas with any contents, such as malloc's */
     printf("clear: %" PRIu32 "\n", flow_clear(SETTINGS, AREAS));
-    printf("add a call: %" PRIu32 "\n", flow_add(SETTINGS, AREAS, work, lengths[5], call, 13, 5));
-    printf("add a line: %" PRIu32 "\n", flow_add(SETTINGS, AREAS, work, lengths[5], line, 13, 1));
-    printf("add the call again: %" PRIu32 "\n", flow_add(SETTINGS, AREAS, work, lengths[5], call, 13, 6));
+    printf("add a call: %" PRIu32 "\n", flow_add(SETTINGS, AREAS, work, lengths[5], call, FLOW_KEY_BYTES, 5));
+    printf("add a line: %" PRIu32 "\n", flow_add(SETTINGS, AREAS, work, lengths[5], line, FLOW_KEY_BYTES, 1));
+    printf("add the call again: %" PRIu32 "\n", flow_add(SETTINGS, AREAS, work, lengths[5], call, FLOW_KEY_BYTES, 6));
     search("the call", call);
-    printf("change the call: %" PRIu32 "\n", flow_change(SETTINGS, AREAS, work, lengths[5], call, 13, 7));
+    printf("change the call: %" PRIu32 "\n", flow_change(SETTINGS, AREAS, work, lengths[5], call, FLOW_KEY_BYTES, 7));
     search("the call", call);
-    printf("remove the call: %" PRIu32 "\n", flow_remove(SETTINGS, AREAS, work, lengths[5], call, 13));
-    printf("remove the call again: %" PRIu32 "\n", flow_remove(SETTINGS, AREAS, work, lengths[5], call, 13));
+    printf("remove the call: %" PRIu32 "\n", flow_remove(SETTINGS, AREAS, work, lengths[5], call, FLOW_KEY_BYTES));
+    printf("remove the call again: %" PRIu32 "\n", flow_remove(SETTINGS, AREAS, work, lengths[5], call, FLOW_KEY_BYTES));
     search("the call", call);
     search("the line", line);
     return 0;

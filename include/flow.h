@@ -3,6 +3,9 @@
  * A lent area is a pointer and then its length, in numbers of the pointer's type. Its pointer is not null, also where the length is 0,
  * and is aligned for that type. An area that a door may write overlaps no other area lent to the same call.
  *
+ * No area may be written while another call reads or writes it: the doors take no locks. Calls that only read may share areas. A search beside
+ * an update of the same areas may answer absent for a held flow, or with another flow's class (beside a busy writer one search in four did).
+ *
  * The settings stand in this order:
  *   p            4 to 12; there are m = 2^p buckets
  *   k            1 to 4 bucket hashes of a key
@@ -49,6 +52,15 @@
 extern "C" {
 #endif
 
+#define FLOW_SETTINGS_COUNT 6
+#define FLOW_KEY_BYTES 13
+#define FLOW_CLASS_BYTES 4
+#define FLOW_RECORD_BYTES (FLOW_KEY_BYTES + FLOW_CLASS_BYTES)
+/* The table that flow_hash_table fills. */
+#define FLOW_HASH_TABLE_NUMBERS (256 * FLOW_KEY_BYTES)
+/* A file before its first record: the count of the settings, these, the count of the records, in two bytes each. */
+#define FLOW_FILE_HEAD_BYTES (2 + 2 * FLOW_SETTINGS_COUNT + 2)
+
 /* The settings' verdict: 0, or 1 when one is out of range. */
 uint32_t flow_settings_check(uint64_t p, uint64_t k, uint64_t room, uint64_t top, uint64_t capacity, uint64_t side_places);
 
@@ -71,7 +83,8 @@ uint32_t flow_hash(const uint8_t *key, size_t key_length, uint64_t *h, size_t h_
 
 /* H of a key, with a lent table: one read for each byte of the key. Lent: table, of 3328 numbers, which flow_hash_table filled, and key, of
  * 13 bytes, which are only read; h, of 1 number.
- * 0: h[0] is H of the key. On another table h[0] is some number, and the call is safe.
+ * 0: h[0] is H of the key. On another table of 3328 numbers h[0] is the xor of the numbers that are read: number 256 * a + v for value v of
+ *    key byte a.
  * 2: table is not of 3328 numbers, or h not of 1. 3: key is not of 13 bytes. */
 uint32_t flow_hash_lent(const uint64_t *table, size_t table_length, const uint8_t *key, size_t key_length, uint64_t *h,
                         size_t h_length);
@@ -96,7 +109,8 @@ uint64_t flow_search(uint64_t p, uint64_t k, uint64_t room, uint64_t top, uint64
                      const uint8_t *side, size_t side_length, const uint8_t *key, size_t key_length);
 
 /* flow_search with a lent table: faster, for a driver that keeps one. Lent: table, of 3328 numbers, which flow_hash_table filled; the rest
- * as for flow_search. On another table of 3328 numbers the call is safe and alters nothing.
+ * as for flow_search, and so is the answer. On another table of 3328 numbers it is that of the search which takes what flow_hash_lent gives
+ * on that table for H of the key: a held flow may be answered as absent.
  * 2 also: table is not of 3328 numbers. */
 uint64_t flow_search_lent(const uint64_t *table, size_t table_length, uint64_t p, uint64_t k, uint64_t room, uint64_t top,
                           uint64_t capacity, uint64_t side_places, const uint8_t *clipped, size_t clipped_length,
@@ -106,8 +120,8 @@ uint64_t flow_search_lent(const uint64_t *table, size_t table_length, uint64_t p
 /* flow_search_lent for many keys at once: as many as answers has numbers, here n, which may be 0. Drivers take packets in bursts of 32. Lent:
  * table, of 3328 numbers, which flow_hash_table filled, the lookup areas, of their lengths under the settings, with any contents, and keys, of
  * 13 * n bytes, one key after the other, which are only read; answers, of n numbers, with any contents.
- * 0: answers[i] is what flow_search_lent returns for key i: answer * 2^32 + class, where the answer is 0, 100 or, for this key alone, 5. On
- *    another table of 3328 numbers each is that of the search by the xor of the entries that are read, and the call is safe.
+ * 0: answers[i] is what flow_search_lent returns for key i, on any table of 3328 numbers: answer * 2^32 + class, where the answer is 0, 100
+ *    or, for this key alone, 5.
  * 1: a setting is out of range. 2: table is not of 3328 numbers, or clipped, buckets or side is not of its length. 3: keys is not of 13 * n
  *    bytes. These are judged also where n is 0.
  * Refused, answers is as it was. */
@@ -115,6 +129,16 @@ uint32_t flow_search_burst(const uint64_t *table, size_t table_length, uint64_t 
                            uint64_t capacity, uint64_t side_places, const uint8_t *clipped, size_t clipped_length,
                            const uint8_t *buckets, size_t buckets_length, const uint8_t *side, size_t side_length,
                            const uint8_t *keys, size_t keys_length, uint64_t *answers, size_t answers_length);
+
+/* flow_search that also says where the record lies, for a caller that reads it in place. Lent: place, of 2 numbers, with any contents; the
+ * rest as for flow_search. It returns what flow_search does.
+ *   0: place[0] is 1 for the buckets or 2 for the side store, and place[1] the byte of that area where the record of 17 bytes starts.
+ * 100: place is 0, 0.
+ *   2 also: place is not of 2 numbers. Refused (1, 2, 3, 5), place is as it was. */
+uint64_t flow_search_place(uint64_t p, uint64_t k, uint64_t room, uint64_t top, uint64_t capacity, uint64_t side_places,
+                           const uint8_t *clipped, size_t clipped_length, const uint8_t *buckets, size_t buckets_length,
+                           const uint8_t *side, size_t side_length, const uint8_t *key, size_t key_length, uint64_t *place,
+                           size_t place_length);
 
 /* Counts what a table holds. Lent: ledger and the lookup areas, of their lengths under the settings, which are only read; totals, of 4
  * numbers.
@@ -185,7 +209,8 @@ uint32_t flow_save(uint64_t p, uint64_t k, uint64_t room, uint64_t top, uint64_t
  * 12: the file is shorter than 16 bytes or does not start with the count 6; or, after 1, 2 and 8, it is not of 16 + 17 * n bytes.
  * 1: a setting of the file is out of range. 2: an area or work is not of its length, or settings not of 6 numbers. 8: the file has more
  *    records than its capacity. 13: its keys do not rise. 9: the side store does not suffice for its flows.
- * Refused, the areas are as they were and settings is zeros; a settings area of another length is left as it was. */
+ * Of a file without its head (the first case of 12) nothing else is judged; then the lowest number is given, but 9 only where nothing else
+ * applies. Refused, the areas are as they were and settings is zeros; a settings area of another length is left as it was. */
 uint32_t flow_load(const uint8_t *file, size_t file_length, uint8_t *ledger, size_t ledger_length, uint16_t *true_counts,
                    size_t true_counts_length, uint8_t *clipped, size_t clipped_length, uint8_t *buckets, size_t buckets_length,
                    uint8_t *side, size_t side_length, uint16_t *work, size_t work_length, uint64_t *settings,

@@ -95,9 +95,9 @@ static void look_at(const void *at, size_t bytes)
 }
 
 /* A table: settings, and the five areas and work in the order of the doors. */
-static uint64_t settings[6];
+static uint64_t settings[FLOW_SETTINGS_COUNT];
 static struct area areas[6];
-static uint64_t table[3328];
+static uint64_t table[FLOW_HASH_TABLE_NUMBERS];
 /* the table in malloc's memory, and one of random numbers */
 static struct area tables[2];
 static const size_t sizes[6] = {1, 2, 1, 1, 1, 2};
@@ -144,10 +144,10 @@ static void look_at_areas(void)
 /* One of a few keys, or any, or one of a wrong length. */
 static struct area some_key(void)
 {
-    struct area key = random_area(13, 1);
+    struct area key = random_area(FLOW_KEY_BYTES, 1);
     uint64_t way = between(0, 19);
     if (way > 2) {
-        memset(key.at, (int)between(1, 30), 13);
+        memset(key.at, (int)between(1, 30), FLOW_KEY_BYTES);
     }
     if (way == 0) {
         wrong_length(&key);
@@ -179,21 +179,44 @@ static void search(void)
 {
     struct area key = some_key();
     uint64_t found = flow_search(SETTINGS, LOOKUP, LENT(key));
-    if (flow_search_lent(table, 3328, SETTINGS, LOOKUP, LENT(key)) != found) {
+    if (flow_search_lent(table, FLOW_HASH_TABLE_NUMBERS, SETTINGS, LOOKUP, LENT(key)) != found) {
         fail("the two searches differ");
     }
     note((uint32_t)(found >> 32));
     free(key.at);
 }
 
+/* Two numbers for the record's place, as malloc leaves them, or another number of them. */
+static void search_place(void)
+{
+    struct area key = some_key(), place = lend(between(0, 9) == 0 ? between(0, 1) : 2, 8);
+    uint64_t found = flow_search_place(SETTINGS, LOOKUP, LENT(key), LENT(place));
+    uint32_t answer = note((uint32_t)(found >> 32));
+    if (place.length == 2 && flow_search(SETTINGS, LOOKUP, LENT(key)) != found) {
+        fail("the search with the place differs");
+    }
+    if (answer == 0) {
+        const uint64_t *lies = place.at;
+        const struct area *area = lies[0] == 1 ? &areas[3] : &areas[4];
+        const uint8_t *record = (const uint8_t *)area->at + lies[1];
+        if (lies[0] == 0 || lies[0] > 2 || lies[1] + FLOW_RECORD_BYTES > area->length || memcmp(record, key.at, FLOW_KEY_BYTES) != 0) {
+            fail("the record does not lie at its place");
+        }
+    } else if (answer == 100) {
+        look_at(place.at, 16);
+    }
+    free(key.at);
+    free(place.at);
+}
+
 /* So many keys, one after the other, or some other number of bytes. */
 static struct area some_keys(size_t n)
 {
-    size_t right = 13 * n, other[] = {0, n == 0 ? 0 : right - 1, right + 1, right + 13, between(0, 2 * right + 2)};
+    size_t right = FLOW_KEY_BYTES * n, other[] = {0, n == 0 ? 0 : right - 1, right + 1, right + FLOW_KEY_BYTES, between(0, 2 * right + 2)};
     struct area keys = random_area(between(0, 6) == 0 ? other[between(0, 4)] : right, 1);
-    for (size_t at = 0; at + 13 <= keys.length; at += 13) {
+    for (size_t at = 0; at + FLOW_KEY_BYTES <= keys.length; at += FLOW_KEY_BYTES) {
         if (between(0, 9) > 0) {
-            memset((uint8_t *)keys.at + at, (int)between(1, 30), 13);
+            memset((uint8_t *)keys.at + at, (int)between(1, 30), FLOW_KEY_BYTES);
         }
     }
     return keys;
@@ -216,8 +239,8 @@ static void burst(void)
     }
     uint32_t answer = note(flow_search_burst(LENT(lent), SETTINGS, LOOKUP, LENT(keys), LENT(found)));
     for (size_t i = 0; i < found.length && (answer == 0 || marked); i++) {
-        const uint8_t *key = (const uint8_t *)keys.at + 13 * i;
-        uint64_t expected = answer == 0 ? flow_search_lent(LENT(lent), SETTINGS, LOOKUP, key, 13) : 0xa5a5a5a5a5a5a5a5;
+        const uint8_t *key = (const uint8_t *)keys.at + FLOW_KEY_BYTES * i;
+        uint64_t expected = answer == 0 ? flow_search_lent(LENT(lent), SETTINGS, LOOKUP, key, FLOW_KEY_BYTES) : 0xa5a5a5a5a5a5a5a5;
         if (((uint64_t *)found.at)[i] != expected) {
             fail(answer == 0 ? "a burst and a search differ" : "a refused burst alters an answer");
         }
@@ -246,7 +269,7 @@ static void key_buckets(void)
     if (note(flow_hash(LENT(key), LENT(h))) == 0) {
         look_at(h.at, 8);
     }
-    if (note(flow_hash_lent(table, 3328, LENT(key), LENT(h))) == 0) {
+    if (note(flow_hash_lent(table, FLOW_HASH_TABLE_NUMBERS, LENT(key), LENT(h))) == 0) {
         look_at(h.at, 8);
     }
     if (note(flow_key_buckets(SETTINGS, LENT(key), LENT(hashes), LENT(numbers))) == 0) {
@@ -262,9 +285,9 @@ static void key_buckets(void)
 /* Six numbers come back, whatever the file. */
 static uint32_t load(struct area file)
 {
-    struct area handed_back = lend(6, 8);
+    struct area handed_back = lend(FLOW_SETTINGS_COUNT, 8);
     uint32_t answer = flow_load(LENT(file), AREAS, LENT(areas[5]), LENT(handed_back));
-    look_at(handed_back.at, 48);
+    look_at(handed_back.at, 8 * FLOW_SETTINGS_COUNT);
     free(handed_back.at);
     return note(answer);
 }
@@ -294,7 +317,7 @@ static void alter(struct area *file)
 static void save_and_load(void)
 {
     const uint8_t *ledger = areas[0].at;
-    struct area file = lend(16 + 17 * (256 * (size_t)ledger[0] + ledger[1]), 1), before = lend(areas[0].length, 1);
+    struct area file = lend(FLOW_FILE_HEAD_BYTES + FLOW_RECORD_BYTES * (256 * (size_t)ledger[0] + ledger[1]), 1), before = lend(areas[0].length, 1);
     memcpy(before.at, areas[0].at, before.length);
     if (between(0, 9) == 0) {
         wrong_length(&file);
@@ -326,7 +349,7 @@ static void calls_on_a_table(void)
     }
     look_at_areas();
     for (int i = 0; i < CALLS; i++) {
-        switch (between(0, 10)) {
+        switch (between(0, 11)) {
         case 0:
             search();
             break;
@@ -341,6 +364,9 @@ static void calls_on_a_table(void)
             break;
         case 4:
             burst();
+            break;
+        case 5:
+            search_place();
             break;
         default:
             if (update() == 0) {
@@ -359,11 +385,11 @@ static void calls_on_a_table(void)
 /* Random bytes after a head that may be right. */
 static void any_file(void)
 {
-    struct area file = random_area(between(0, 60), 1), handed_back = lend(5, 8);
-    if (file.length >= 16 && between(0, 2) != 0) {
+    struct area file = random_area(between(0, 60), 1), handed_back = lend(FLOW_SETTINGS_COUNT - 1, 8);
+    if (file.length >= FLOW_FILE_HEAD_BYTES && between(0, 2) != 0) {
         uint8_t *head = file.at;
-        for (int i = 0; i < 8; i++) {
-            uint64_t number = i == 0 ? 6 : i == 7 ? between(0, 3) : settings[i - 1];
+        for (int i = 0; i < FLOW_SETTINGS_COUNT + 2; i++) {
+            uint64_t number = i == 0 ? FLOW_SETTINGS_COUNT : i == FLOW_SETTINGS_COUNT + 1 ? between(0, 3) : settings[i - 1];
             head[2 * i] = (uint8_t)(number >> 8);
             head[2 * i + 1] = (uint8_t)number;
         }
@@ -397,6 +423,7 @@ static void calls_on_any_areas(void)
     for (int i = 0; i < CALLS / 4; i++) {
         update();
         search();
+        search_place();
         burst();
         tally();
         key_buckets();
@@ -412,14 +439,14 @@ static void calls_on_any_areas(void)
 static void packets(void)
 {
     for (int i = 0; i < PACKETS; i++) {
-        struct area packet = random_area((size_t)i % 81, 1), key = lend(i % 7 == 0 ? between(0, 20) : 13, 1);
+        struct area packet = random_area((size_t)i % 81, 1), key = lend(i % 7 == 0 ? between(0, 20) : FLOW_KEY_BYTES, 1);
         uint8_t *bytes = packet.at;
         if (packet.length > 9 && i % 5 != 0) {
             bytes[0] = (uint8_t)(0x40 + between(3, 15));
             bytes[9] = (uint8_t[]){6, 17, 1}[between(0, 2)];
         }
         if (note(flow_packet_key(LENT(packet), LENT(key))) == 0) {
-            look_at(key.at, 13);
+            look_at(key.at, FLOW_KEY_BYTES);
         }
         free(packet.at);
         free(key.at);
@@ -429,12 +456,12 @@ static void packets(void)
 int main(void)
 {
     static const uint64_t most[6] = {6, 4, 4, 15, 24, 5}, least[6] = {4, 1, 1, 2, 1, 0};
-    if (flow_hash_table(table, 3328) != 0 || flow_hash_table(table, 3327) != 2) {
+    if (flow_hash_table(table, FLOW_HASH_TABLE_NUMBERS) != 0 || flow_hash_table(table, 3327) != 2) {
         fail("the hash table");
     }
-    tables[0] = lend(3328, 8);
+    tables[0] = lend(FLOW_HASH_TABLE_NUMBERS, 8);
     memcpy(tables[0].at, table, sizeof table);
-    tables[1] = random_area(3328, 8);
+    tables[1] = random_area(FLOW_HASH_TABLE_NUMBERS, 8);
     for (int i = 0; i < TABLES; i++) {
         for (int j = 0; j < 6; j++) {
             settings[j] = between(least[j], most[j]);

@@ -12,13 +12,14 @@ use flow::{doors, HashTable};
 use lending::{assert_areas, door, kind, lend};
 use model::calls::{perform, Call};
 use model::card::Card;
-use model::hash;
+use model::hash::{self, KEY_BYTES};
 use model::layout::Areas;
 use model::ledger::{list_of, valid};
 use model::lookup as paper;
 use model::packet::packet_key_into;
+use model::records::{Key, RECORD_BYTES};
 use model::settings::{Settings as Model, LIMITS};
-use model::snapshot::{self, snapshot};
+use model::snapshot::{self, snapshot, HEAD_BYTES};
 use seen::Seen;
 use std::sync::Mutex;
 
@@ -120,8 +121,8 @@ impl Bytes<'_> {
                 let length = self.number(30);
                 self.take(length)
             }
-            254 => self.take(13),
-            byte => (0..13)
+            254 => self.take(KEY_BYTES),
+            byte => (0..KEY_BYTES as u8)
                 .map(|a| (byte % 64).wrapping_mul(2 * a + 1))
                 .collect(),
         }
@@ -179,7 +180,8 @@ impl Trial {
                 let call = Call::Remove(bytes.key());
                 self.update(bytes, &call);
             }
-            15 | 16 => self.search(bytes),
+            15 => self.search(bytes),
+            16 => self.search_place(bytes),
             17 | 18 => self.burst(bytes),
             19 => self.tally(bytes),
             20 | 21 => self.save(bytes),
@@ -234,6 +236,28 @@ impl Trial {
         note("search", (whole >> 32) as u32);
     }
 
+    // The search with two numbers for the record's place, or with some other number of them.
+    fn search_place(&mut self, bytes: &mut Bytes) {
+        let key = bytes.key();
+        let length = match bytes.next() {
+            255 => bytes.number(5),
+            _ => 2,
+        };
+        let lookup = self.areas.lookup();
+        let numbers = self.card.settings.numbers();
+        let mut place = vec![7; length];
+        let mut expected = place.clone();
+        let by_paper = paper::search_place(&self.card, lookup, &key, &mut expected).door();
+        let paper::Lookup {
+            clipped,
+            buckets,
+            side,
+        } = lookup;
+        let found = doors::search_place(numbers, clipped, buckets, side, &key, &mut place);
+        assert_eq!((found, place), (by_paper, expected), "{numbers:?}, {key:?}");
+        note("search with the place", (found >> 32) as u32);
+    }
+
     // Keys for as many answers, or for some other number of them, with the right hash table, one with another entry, or one of another length.
     fn burst(&mut self, bytes: &mut Bytes) {
         let count = match bytes.next() {
@@ -279,7 +303,7 @@ impl Trial {
         );
         note("burst", answer);
         if answer == 0 {
-            for (key, found) in keys.chunks(13).zip(answers) {
+            for (key, found) in keys.chunks(KEY_BYTES).zip(answers) {
                 let alone = doors::search_lent(&table, numbers, clipped, buckets, side, key);
                 assert_eq!(found, alone, "{numbers:?}, {key:?}");
                 note("key of a burst", (found >> 32) as u32);
@@ -323,7 +347,7 @@ impl Trial {
         let count = ledger.get(..2).map_or(0, model::records::count) as usize;
         let length = match bytes.next() {
             255 => bytes.number(100),
-            _ => 16 + 17 * count,
+            _ => HEAD_BYTES + RECORD_BYTES * count,
         };
         let mut target = vec![7; length];
         let mut expected = target.clone();
@@ -356,7 +380,7 @@ impl Trial {
                 0 => file.truncate(at),
                 1 => file.push(bytes.next()),
                 _ if at < file.len() => file[at] = bytes.next(),
-                _ => file.extend(bytes.take(17)),
+                _ => file.extend(bytes.take(RECORD_BYTES)),
             }
         }
         let mut work = self.work(bytes);
@@ -407,7 +431,7 @@ impl Trial {
         ];
         note("key buckets", answers[2]);
         let allowed = settings.allowed();
-        let key: [u8; 13] = match key.try_into() {
+        let key: Key = match key.try_into() {
             Ok(key) => key,
             Err(_) => {
                 assert_eq!(answers, [3, 3, if allowed { 3 } else { 1 }]);
@@ -481,7 +505,7 @@ fn packet(bytes: &mut Bytes) {
     }
     let mut key = match bytes.next() {
         255 => vec![7; bytes.number(20)],
-        _ => vec![7; 13],
+        _ => vec![7; KEY_BYTES],
     };
     let mut expected = key.clone();
     let by_paper = packet_key_into(&packet, &mut expected);

@@ -105,6 +105,10 @@ doors! {
     /// table is not of 3,328 numbers or an area not of its length; 3 if `keys` is not of 13 bytes for each answer.
     fn search_burst = flow_search_burst(table: &[u64], settings: [u64; 6], clipped: &[u8], buckets: &[u8], side: &[u8], keys: &[u8], answers: &mut [u64]) -> u32;
 
+    /// [`search`], and in `place` where the record lies: first 1 for the buckets or 2 for the side store, then the byte of that area where it
+    /// starts; 0, 0 if the flow is absent. 2 also if `place` is not of 2 numbers. It stays as it was if the search is refused.
+    fn search_place = flow_search_place(settings: [u64; 6], clipped: &[u8], buckets: &[u8], side: &[u8], key: &[u8], place: &mut [u64]) -> u64;
+
     /// Records in buckets, records in the side store, buckets marked 255, and fill; 1; 2 if an area is not of its length, or `totals` not of
     /// 4 numbers; 4 if the ledger is damaged; 5 if a lookup area is.
     fn tally = flow_tally(settings: [u64; 6], ledger: &[u8], clipped: &[u8], buckets: &[u8], side: &[u8], totals: &mut [u32]) -> u32;
@@ -130,8 +134,8 @@ doors! {
 
     /// The layout of a snapshot's list, and its settings in `settings`, which are zeros when it is refused. 12 if the file has under 16 bytes
     /// or its first count is not 6; 1; 2 if an area or `work` is not of its length under the file's settings; 8 for more records than the
-    /// capacity; 12 for a cut or overlong file; 13 if its keys do not rise; 9 if the side store does not suffice. With `settings` not of 6
-    /// numbers 1 where the file has a setting out of range, else 2, and they stay.
+    /// capacity; 12 for a cut or overlong file; 13 if its keys do not rise; 9 if the side store does not suffice. `settings` not of 6
+    /// numbers is 2 as well, and stays as it is.
     fn load = flow_load(file: &[u8], areas: LentAreas, work: &mut [u16], settings: &mut [u64]) -> u32;
 
     /// The key of an IPv4 packet; 3 if the buffer for it is not of 13 bytes; 10 if the packet's header is wrong; 11 if its ports are missing.

@@ -14,13 +14,25 @@ mod table;
 
 pub mod doors;
 
-pub use lookup::{search, search_burst, search_lent, tally, Answers, LookupAreas, Tally};
+pub use lookup::{
+    search, search_burst, search_lent, search_place, tally, Answers, LookupAreas, RecordPlace,
+    Store, Tally,
+};
 pub use packet::{packet_key, packet_key_into};
 pub use refusal::Refusal;
 pub use table::{Table, TableAreas};
 
+/// A table has this many settings.
+pub const SETTINGS_COUNT: usize = 6;
+
 /// A key has this many bytes.
 pub const KEY_BYTES: usize = 13;
+
+/// A class has this many bytes, high byte first.
+pub const CLASS_BYTES: usize = 4;
+
+/// A record is the key, then the class.
+pub const RECORD_BYTES: usize = KEY_BYTES + CLASS_BYTES;
 
 /// The hash table has an entry for each of 13 byte positions and 256 byte values.
 pub const HASH_TABLE_ENTRIES: usize = KEY_BYTES * 256;

@@ -1,6 +1,6 @@
 //! The calls that only read: search and tally.
 
-use crate::{accepted, doors, HashTable, Refusal, Settings};
+use crate::{accepted, doors, HashTable, Refusal, Settings, RECORD_BYTES};
 
 // The answer of a search that finds nothing.
 const ABSENT: u32 = 100;
@@ -102,6 +102,84 @@ pub fn search_lent(
         areas.side_store,
         key,
     ))
+}
+
+/// One of the two areas that hold records for a search.
+#[derive(Clone, Copy, Debug, PartialEq, Eq)]
+pub enum Store {
+    /// The buckets.
+    Buckets,
+    /// The side store.
+    SideStore,
+}
+
+/// A held flow's class, and where its record lies.
+#[derive(Clone, Copy, Debug, PartialEq, Eq)]
+pub struct RecordPlace {
+    /// The class.
+    pub class: u32,
+    /// The area that holds the record.
+    pub store: Store,
+    /// The byte of that area where it starts.
+    pub start: usize,
+}
+
+impl RecordPlace {
+    /// The record's 17 bytes in the areas that were searched: the key, then the class, high byte first.
+    pub fn record<'a>(&self, areas: &LookupAreas<'a>) -> &'a [u8] {
+        let area = match self.store {
+            Store::Buckets => areas.buckets,
+            Store::SideStore => areas.side_store,
+        };
+        &area[self.start..self.start + RECORD_BYTES]
+    }
+}
+
+/// [`search`] that also says where the record lies, for a caller that reads it in place.
+///
+/// ```
+/// use flow::{search_place, LookupAreas, Refusal, Settings, Store};
+///
+/// // One flow of class 7, by hand. The zero key has bucket 0 alone: counter 1, mark 1 and the record.
+/// let settings = Settings::new(4, 1, 1, 2, 1, 0)?;
+/// let mut clipped_counts = [0; 8];
+/// clipped_counts[0] = 1;
+/// let mut buckets = [0; 16 * 18];
+/// buckets[0] = 1;
+/// buckets[17] = 7;
+/// let areas = LookupAreas {
+///     clipped_counts: &clipped_counts,
+///     buckets: &buckets,
+///     side_store: &[0; 2],
+/// };
+/// let place = search_place(&settings, &areas, &[0; 13])?.expect("held");
+/// assert_eq!((place.class, place.store, place.start), (7, Store::Buckets, 1));
+/// assert_eq!(place.record(&areas), [0, 0, 0, 0, 0, 0, 0, 0, 0, 0, 0, 0, 0, 0, 0, 0, 7]);
+/// # Ok::<(), Refusal>(())
+/// ```
+pub fn search_place(
+    settings: &Settings,
+    areas: &LookupAreas,
+    key: &[u8],
+) -> Result<Option<RecordPlace>, Refusal> {
+    let mut place = [0; 2];
+    let class = found(doors::search_place(
+        settings.numbers(),
+        areas.clipped_counts,
+        areas.buckets,
+        areas.side_store,
+        key,
+        &mut place,
+    ))?;
+    let [store, start] = place;
+    Ok(class.map(|class| RecordPlace {
+        class,
+        store: match store {
+            1 => Store::Buckets,
+            _ => Store::SideStore,
+        },
+        start: start as usize,
+    }))
 }
 
 /// The answers of a burst, in the order of its keys: for each the class of a held flow, None for an absent one, or

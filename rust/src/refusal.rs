@@ -2,7 +2,8 @@
 
 use std::fmt;
 
-/// Why a call was refused. Where several apply, the one with the lowest number is given.
+/// Why a call was refused. Where several apply, the one with the lowest number is given; but of a load [`Refusal::FileLength`] alone where
+/// the file has no head, and [`Refusal::SideFull`] only where nothing else applies.
 #[derive(Clone, Copy, Debug, PartialEq, Eq, PartialOrd, Ord, Hash)]
 pub enum Refusal {
     /// 1: a setting is out of range.

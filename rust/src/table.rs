@@ -1,11 +1,13 @@
 //! A table that owns its areas.
 
 use crate::doors::{self, LentAreas};
-use crate::{accepted, lookup, Answers, HashTable, LookupAreas, Refusal, Settings, Tally};
+use crate::{
+    accepted, lookup, Answers, HashTable, LookupAreas, RecordPlace, Refusal, Settings, Tally,
+    RECORD_BYTES, SETTINGS_COUNT,
+};
 
-// A snapshot: a two-byte count of settings, six of them in two bytes each, a two-byte count of records, and these.
-const FILE_HEAD: usize = 16;
-const RECORD_BYTES: usize = 17;
+// A snapshot: a two-byte count of settings, these in two bytes each, a two-byte count of records, and these.
+const FILE_HEAD: usize = 2 + 2 * SETTINGS_COUNT + 2;
 
 /// A table with its five areas and its work area. Whatever was called, the areas hold the layout of the flows held.
 ///
@@ -150,6 +152,11 @@ impl Table {
     /// The class of a held flow, or None for an absent one. [`Refusal::KeyLength`] where the key is not of 13 bytes.
     pub fn search(&self, key: &[u8]) -> Result<Option<u32>, Refusal> {
         lookup::search(&self.settings, &self.areas().lookup(), key)
+    }
+
+    /// [`Table::search`] that also says where the record lies: as [`search_place`](crate::search_place).
+    pub fn search_place(&self, key: &[u8]) -> Result<Option<RecordPlace>, Refusal> {
+        lookup::search_place(&self.settings, &self.areas().lookup(), key)
     }
 
     /// [`Table::search`] with a hash table that is kept from call to call.

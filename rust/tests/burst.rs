@@ -6,12 +6,13 @@ mod model;
 mod random;
 mod seen;
 
-use flow::{doors, HashTable, LookupAreas, Refusal, Settings, Table};
+use flow::{doors, HashTable, LookupAreas, Refusal, Settings, Table, HASH_TABLE_ENTRIES};
 use made::{
     damage_lookup, filled, random_card, random_class, random_key, random_table, spoiled,
     wrong_length,
 };
 use model::card::Card;
+use model::hash::KEY_BYTES;
 use model::layout::{layout, Areas};
 use model::lookup::{self as paper, Lookup};
 use model::records::{Key, Record};
@@ -29,8 +30,6 @@ const OTHER_TABLES: u64 = 300;
 
 // Bursts of a test.
 const ON_WRONG_LENGTHS: u64 = 60_000;
-
-const KEY_BYTES: usize = 13;
 
 // What an answer holds before a call, which no door answers.
 fn before(i: usize) -> u64 {
@@ -475,7 +474,13 @@ fn safe_wrappers() {
             }
             let mut numbers: Vec<u64> = (0..n).map(before).collect();
             let mut expected = numbers.clone();
-            let by_paper = paper::burst(&card, 3328, areas.lookup(), &keys, &mut expected);
+            let by_paper = paper::burst(
+                &card,
+                HASH_TABLE_ENTRIES,
+                areas.lookup(),
+                &keys,
+                &mut expected,
+            );
             seen.note("burst", by_paper);
             let answers = flow::search_burst(&table, &settings, &lent, &keys, &mut numbers);
             match Refusal::from_number(by_paper) {

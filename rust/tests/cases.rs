@@ -5,11 +5,12 @@ mod random;
 
 use model::card::Card;
 use model::hash;
+use model::hash::KEY_BYTES;
 use model::layout::layout;
 use model::ledger::{list_of, valid, Ledger};
 use model::lookup::{fill, search, second_search, tally, Part};
 use model::placing::Placing;
-use model::records::{Key, Record};
+use model::records::{Key, Record, RECORD_BYTES};
 use model::settings::Settings;
 use model::snapshot::snapshot;
 use random::Random;
@@ -24,10 +25,10 @@ fn placed(b: u64, t: u64, numbers: &[&[u64]]) -> Placing {
 fn zero_key() {
     let rows = hash::rows();
     assert_eq!(rows[0], 8748534153485358512);
-    assert_eq!(hash::h(&rows, &[0; 13]), 0);
+    assert_eq!(hash::h(&rows, &[0; KEY_BYTES]), 0);
     for k in 1..=4 {
         let card = Card::new(Settings::of([12, k, 1, 2, 1, 0]));
-        assert_eq!(card.numbers(&[0; 13]), [0]);
+        assert_eq!(card.numbers(&[0; KEY_BYTES]), [0]);
     }
 }
 
@@ -127,7 +128,11 @@ fn plain_ledger_and_layout() {
         let mut ledger = Ledger::default();
         for _ in 0..100 {
             let key = &keys[random.between(0, 29) as usize];
-            let key = &key[..if random.between(0, 50) == 0 { 12 } else { 13 }];
+            let key = &key[..if random.between(0, 50) == 0 {
+                KEY_BYTES - 1
+            } else {
+                KEY_BYTES
+            }];
             let class = random.next() as u32;
             let before = ledger.clone();
             let answer = match random.between(0, 99) {
@@ -155,11 +160,11 @@ fn plain_ledger_and_layout() {
                     Part::Empty => panic!("{record:?} is held"),
                     Part::OfBuckets { at, bytes } => {
                         assert_eq!(bytes, record.bytes());
-                        assert_eq!(bytes, areas.buckets[at..at + 17]);
+                        assert_eq!(bytes, areas.buckets[at..at + RECORD_BYTES]);
                     }
                     Part::OfSide { at, bytes } => {
                         assert_eq!(bytes, record.bytes());
-                        assert_eq!(bytes, areas.side[at..at + 17]);
+                        assert_eq!(bytes, areas.side[at..at + RECORD_BYTES]);
                     }
                 },
             }

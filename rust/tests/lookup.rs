@@ -5,16 +5,17 @@ mod model;
 mod random;
 mod seen;
 
-use flow::{doors, HashTable, LookupAreas, Refusal, Settings, Tally};
+use flow::{doors, HashTable, LookupAreas, Refusal, Settings, Store, Tally};
 use made::{
     damage_ledger, damage_lookup, filled, random_card, random_key, random_table, set_count,
     spoiled, wrong_length,
 };
 use model::card::Card;
+use model::hash::KEY_BYTES;
 use model::layout::{layout, Areas};
 use model::ledger::Ledger;
 use model::lookup::{self as paper, Answer, Lookup, Part, Place};
-use model::records::{Key, Record};
+use model::records::{Key, Record, RECORD_BYTES};
 use model::settings::{Settings as Model, LIMITS};
 use random::Random;
 use seen::Seen;
@@ -34,6 +35,7 @@ const TALLIES: u64 = 60_000;
 struct Doors {
     table: HashTable,
     seen: Seen,
+    places: Seen,
 }
 
 impl Doors {
@@ -41,10 +43,11 @@ impl Doors {
         Doors {
             table: HashTable::new(),
             seen: Seen::default(),
+            places: Seen::default(),
         }
     }
 
-    // A search through both doors; they agree with the model.
+    // A search through both doors, and through the one that gives the record's place; they agree with the model.
     fn search(&mut self, card: &Card, areas: Lookup, key: &[u8]) -> Answer {
         let expected = paper::search(card, areas, key);
         let numbers = card.settings.numbers();
@@ -62,6 +65,34 @@ impl Doors {
             card.settings
         );
         self.seen.note("search", expected.number);
+        self.search_place(card, areas, key, 2);
+        expected
+    }
+
+    // A search with so many numbers for the record's place: the door agrees with the model, and where the flow is held its record lies there.
+    fn search_place(&mut self, card: &Card, areas: Lookup, key: &[u8], numbers: usize) -> Answer {
+        let mut place: Vec<u64> = (0..numbers as u64).map(|i| u64::MAX - i).collect();
+        let mut by_paper = place.clone();
+        let expected = paper::search_place(card, areas, key, &mut by_paper);
+        let Lookup {
+            clipped,
+            buckets,
+            side,
+        } = areas;
+        let settings = card.settings.numbers();
+        let found = doors::search_place(settings, clipped, buckets, side, key, &mut place);
+        assert_eq!(
+            (found, &place),
+            (expected.door(), &by_paper),
+            "{settings:?} {key:?}"
+        );
+        if expected.number == 0 {
+            let area = if place[0] == 1 { buckets } else { side };
+            let record = &area[place[1] as usize..place[1] as usize + RECORD_BYTES];
+            assert_eq!(record[..KEY_BYTES], *key);
+            assert_eq!(record[KEY_BYTES..], expected.class.to_be_bytes());
+        }
+        self.places.note("place", expected.number);
         expected
     }
 
@@ -185,6 +216,9 @@ fn searches_on_layouts() {
     doors
         .seen
         .report("searches on layouts", &[("search", &[0, 100])]);
+    doors
+        .places
+        .report("records' places on layouts", &[("place", &[0, 100])]);
     println!(
         "{tables} tables, {clipped_below_true} counters clipped below the true count, {places:?}"
     );
@@ -244,6 +278,10 @@ fn searches_on_damaged_areas() {
     doors
         .seen
         .report("searches on damaged areas", &[("search", &[0, 100, 5])]);
+    doors.places.report(
+        "records' places on damaged areas",
+        &[("place", &[0, 100, 5])],
+    );
     println!("held: {held_of_buckets} out of the buckets, {held_of_side} out of the side store");
     assert!(held_of_buckets > 0 && held_of_side > 0);
 }
@@ -269,7 +307,7 @@ fn searches_with_wrong_lengths_and_settings() {
                 damage_lookup(&mut random, &card, &mut areas, &keys);
             }
             if random.between(0, 3) == 0 {
-                key.resize(wrong_length(&mut random, 13), 7);
+                key.resize(wrong_length(&mut random, KEY_BYTES), 7);
             }
             for area in [&mut areas.clipped, &mut areas.buckets, &mut areas.side] {
                 if random.between(0, 7) == 0 {
@@ -280,11 +318,18 @@ fn searches_with_wrong_lengths_and_settings() {
                 settings = spoiled(&mut random, settings);
             }
             doors.search(&Card::new(settings), areas.lookup(), &key);
+            let numbers = wrong_length(&mut random, 2);
+            let card = Card::new(settings);
+            doors.search_place(&card, areas.lookup(), &key, numbers);
         }
     }
     doors.seen.report(
         "searches, some with wrong lengths and settings",
         &[("search", &[0, 100, 1, 2, 3, 5])],
+    );
+    doors.places.report(
+        "records' places, some with wrong lengths and settings",
+        &[("place", &[0, 100, 1, 2, 3, 5])],
     );
 }
 
@@ -311,9 +356,21 @@ fn each_wrong_length() {
             assert_eq!(doors.search(&card, areas.lookup(), &key[1..]).number, 2);
         }
     }
-    for n in (0..=40).filter(|&n| n != 13) {
+    for n in (0..=40).filter(|&n| n != KEY_BYTES) {
         let key = vec![7; n];
         assert_eq!(doors.search(&card, areas.lookup(), &key).number, 3);
+    }
+    // the numbers for the record's place are judged with the other lengths: after the settings, before the key
+    for n in [0, 1, 3, 4, 13, 65_536] {
+        for key in [&key[..], &key[1..]] {
+            let found = doors.search_place(&card, areas.lookup(), key, n);
+            assert_eq!(found.number, 2);
+        }
+        let mut spoiled = numbers;
+        spoiled[3] = 16;
+        let other = Card::new(Model::of(spoiled));
+        let found = doors.search_place(&other, areas.lookup(), &key, n);
+        assert_eq!(found.number, 1);
     }
     let Lookup {
         clipped,
@@ -366,16 +423,25 @@ fn each_setting_out_of_range() {
     }
 }
 
-// On a lent table with other contents the door is safe: held, absent or 5.
+// On a lent table with other contents the search goes by the entries that it reads.
 #[test]
 fn lent_table_of_any_contents() {
     let mut random = Random::new(17);
-    for _ in 0..200 {
+    let mut seen = Seen::default();
+    let right = HashTable::new();
+    for _ in 0..400 {
         let card = random_card(&mut random);
         let (list, mut areas) = random_table(&mut random, &card);
         damage_lookup(&mut random, &card, &mut areas, &[]);
-        let table: Vec<u64> = (0..3328).map(|_| random.next()).collect();
+        let mut table: Vec<u64> = (0..right.entries().len()).map(|_| random.next()).collect();
+        if random.between(0, 1) == 0 {
+            // but for one entry the right one, so that flows are found too
+            let entry = random.between(0, table.len() as u64 - 1) as usize;
+            table = right.entries().to_vec();
+            table[entry] = random.next();
+        }
         let numbers = card.settings.numbers();
+        let by_table = Card::with_table(card.settings, table.clone());
         for record in &list {
             let answer = doors::search_lent(
                 &table,
@@ -385,10 +451,12 @@ fn lent_table_of_any_contents() {
                 &areas.side,
                 &record.key,
             );
-            assert!([0, 5, 100].contains(&(answer >> 32)));
-            assert!(answer >> 32 == 0 || answer as u32 == 0);
+            let expected = paper::search(&by_table, areas.lookup(), &record.key);
+            assert_eq!(answer, expected.door());
+            seen.note("search", expected.number);
         }
     }
+    seen.report("searches by other tables", &[("search", &[0, 100, 5])]);
 }
 
 // At most one bucket is read: with other bytes in all other buckets the answer is the same. Where no bucket is read, in all buckets.
@@ -572,6 +640,18 @@ fn safe_wrappers() {
             };
             assert_eq!(flow::search(&settings, &lent, key), expected);
             assert_eq!(flow::search_lent(&table, &settings, &lent, key), expected);
+            let place = flow::search_place(&settings, &lent, key);
+            assert_eq!(place.map(|p| p.map(|p| p.class)), expected);
+            let bytes = match paper::second_search(&card, areas.lookup(), key) {
+                Part::Empty => None,
+                Part::OfBuckets { at, bytes } => Some((Store::Buckets, at, bytes)),
+                Part::OfSide { at, bytes } => Some((Store::SideStore, at, bytes)),
+            };
+            let place = place.ok().flatten();
+            assert_eq!(place.map(|p| (p.store, p.start)), bytes.map(|b| (b.0, b.1)));
+            if let (Some(place), Some((_, _, bytes))) = (place, bytes) {
+                assert_eq!(place.record(&lent), bytes);
+            }
         }
         let expected = paper::tally(&card, &areas.ledger, areas.lookup())
             .map(|totals| Tally {

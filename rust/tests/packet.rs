@@ -7,6 +7,7 @@ mod seen;
 
 use flow::{doors, packet_key, packet_key_into, Refusal};
 use made::random_bytes;
+use model::hash::KEY_BYTES;
 use model::packet as paper;
 use random::Random;
 use seen::Seen;
@@ -47,7 +48,7 @@ fn every_length_and_header_length() {
                     if let Some(byte) = packet.get_mut(9) {
                         *byte = protocol;
                     }
-                    compare(&mut random, &mut seen, &packet, 13);
+                    compare(&mut random, &mut seen, &packet, KEY_BYTES);
                 }
             }
         }
@@ -80,7 +81,7 @@ fn random_packets() {
         }
         let buffer = match random.between(0, 9) {
             0 => random.between(0, 40) as usize,
-            _ => 13,
+            _ => KEY_BYTES,
         };
         compare(&mut random, &mut seen, &packet, buffer);
         if paper::packet_key(&packet).is_ok() {
@@ -140,9 +141,9 @@ fn safe_calls() {
         let mut buffer = vec![7; length];
         let answer = packet_key_into(&packet, &mut buffer).map_err(Refusal::number);
         match by_paper {
-            _ if length != 13 => assert_eq!((answer, buffer), (Err(3), vec![7; length])),
+            _ if length != KEY_BYTES => assert_eq!((answer, buffer), (Err(3), vec![7; length])),
             Ok(key) => assert_eq!((answer, buffer), (Ok(()), key.to_vec())),
-            Err(number) => assert_eq!((answer, buffer), (Err(number), vec![7; 13])),
+            Err(number) => assert_eq!((answer, buffer), (Err(number), vec![7; KEY_BYTES])),
         }
         seen.note("packet key", answer.err().unwrap_or(0));
     }

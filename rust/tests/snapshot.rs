@@ -14,11 +14,12 @@ use made::{
     resize, set_count, small_card, spoiled, wrong_length,
 };
 use model::card::Card;
+use model::hash::KEY_BYTES;
 use model::layout::{layout, placing, Areas};
 use model::ledger::list_of;
-use model::records::{count, counted_area, Record};
+use model::records::{count, counted_area, Record, RECORD_BYTES};
 use model::settings::{Settings as Model, LIMITS};
-use model::snapshot::{self as paper, snapshot};
+use model::snapshot::{self as paper, snapshot, HEAD_BYTES};
 use random::Random;
 use seen::Seen;
 use std::collections::BTreeMap;
@@ -26,6 +27,7 @@ use std::collections::BTreeMap;
 const SAVES: u64 = 200_000;
 const LOADS: u64 = 200_000;
 const LOADS_WITH_ONE_FAULT: u64 = 60_000;
+const LOADS_OF_EACH_ORDER: u64 = 200;
 const THROUGH_TABLE: u64 = 20_000;
 const _: () = assert!(SAVES >= 200_000 && LOADS >= 200_000);
 
@@ -66,7 +68,7 @@ fn saves() {
         for _ in 0..10 {
             let mut ledger = counted_area(&list, settings.n);
             let mut work = random_work(&mut random, &settings);
-            let mut length = 16 + 17 * list.len();
+            let mut length = HEAD_BYTES + RECORD_BYTES * list.len();
             let mut numbers = settings;
             if random.between(0, 4) == 0 {
                 damage_ledger(&mut random, &card, &mut ledger);
@@ -120,7 +122,7 @@ fn load_back(random: &mut Random, settings: &Model, file: &[u8], ledger: &[u8]) 
 // The settings that stand in a file, and zeros where it is cut.
 fn file_settings(file: &[u8]) -> Model {
     let mut head = file.to_vec();
-    head.resize(16, 0);
+    head.resize(HEAD_BYTES, 0);
     Model::of([2, 4, 6, 8, 10, 12].map(|at| count(&head[at..])))
 }
 
@@ -148,7 +150,7 @@ impl Load {
     }
 
     fn records(&self) -> usize {
-        (self.file.len() - 16) / 17
+        (self.file.len() - HEAD_BYTES) / RECORD_BYTES
     }
 
     // The door and the model agree in the answer, in all areas and in the settings handed back.
@@ -220,13 +222,15 @@ fn fault(random: &mut Random, card: &Card, load: &mut Load, name: &str) -> bool 
         "no file" => load.file.clear(),
         "cut in its head" => load.file.truncate(random.between(0, 15) as usize),
         "cut in its records" if n > 0 => {
-            load.file.truncate(random.between(16, length - 1) as usize);
+            load.file
+                .truncate(random.between(HEAD_BYTES as u64, length - 1) as usize);
         }
-        "cut by a record" if n > 0 => load.file.truncate(load.file.len() - 17),
+        "cut by a record" if n > 0 => load.file.truncate(load.file.len() - RECORD_BYTES),
         "a byte more" => load.file.push(random.next() as u8),
         "a record more" => {
             let more = random.between(1, 3);
-            load.file.extend(random_bytes(random, 17 * more));
+            load.file
+                .extend(random_bytes(random, RECORD_BYTES as u64 * more));
         }
         "first count" => {
             let count = [0, 1, 5, 7, 8, 256, 262, 1536, 65535][random.between(0, 8) as usize];
@@ -265,7 +269,7 @@ fn fault(random: &mut Random, card: &Card, load: &mut Load, name: &str) -> bool 
         "numbers for the settings" => resize(random, &mut load.settings),
         "second count above N" => {
             let above = random.between(settings.n + 1, 65535);
-            set_count(&mut load.file[14..], above);
+            set_count(&mut load.file[HEAD_BYTES - 2..], above);
         }
         "more records than N" if settings.n <= 100 => {
             let above = settings.n + random.between(1, 3);
@@ -273,11 +277,11 @@ fn fault(random: &mut Random, card: &Card, load: &mut Load, name: &str) -> bool 
         }
         "second count too low" if n > 0 => {
             let below = random.between(0, n as u64 - 1);
-            set_count(&mut load.file[14..], below);
+            set_count(&mut load.file[HEAD_BYTES - 2..], below);
         }
         "second count too high" if (n as u64) < settings.n => {
             let above = random.between(n as u64 + 1, settings.n);
-            set_count(&mut load.file[14..], above);
+            set_count(&mut load.file[HEAD_BYTES - 2..], above);
         }
         "records swapped" if n > 1 => {
             let (i, j) = (
@@ -285,12 +289,13 @@ fn fault(random: &mut Random, card: &Card, load: &mut Load, name: &str) -> bool 
                 random.between(0, n as u64 - 1),
             );
             let (i, j) = (i as usize, j as usize % i as usize);
-            let (before, after) = load.file.split_at_mut(16 + 17 * i);
-            before[16 + 17 * j..][..17].swap_with_slice(&mut after[..17]);
+            let (before, after) = load.file.split_at_mut(HEAD_BYTES + RECORD_BYTES * i);
+            before[HEAD_BYTES + RECORD_BYTES * j..][..RECORD_BYTES]
+                .swap_with_slice(&mut after[..RECORD_BYTES]);
         }
         "equal keys" if n > 1 => {
-            let at = 16 + 17 * random.between(0, n as u64 - 2) as usize;
-            load.file.copy_within(at..at + 13, at + 17);
+            let at = HEAD_BYTES + RECORD_BYTES * random.between(0, n as u64 - 2) as usize;
+            load.file.copy_within(at..at + KEY_BYTES, at + RECORD_BYTES);
         }
         "side need above S" => {
             let count = settings.n.min(2 * settings.m()).min(100);
@@ -336,6 +341,53 @@ fn loads_with_one_fault() {
     assert_eq!(faults.len(), FAULTS.len());
 }
 
+// Two faults together, and what they give: a file without its head is 12 and nothing else, then the lowest number is given, but 9 last.
+const ORDERS: [(&str, &str, u32); 22] = [
+    ("numbers for the settings", "no file", 12),
+    ("numbers for the settings", "cut in its head", 12),
+    ("first count", "numbers for the settings", 12),
+    ("first count", "a setting too low", 12),
+    ("first count", "an area's length", 12),
+    ("first count", "second count above N", 12),
+    ("first count", "records swapped", 12),
+    ("a setting too low", "numbers for the settings", 1),
+    ("a setting too high", "numbers for the settings", 1),
+    ("a setting too low", "an area's length", 1),
+    ("a setting too high", "second count too high", 1),
+    ("numbers for the settings", "second count above N", 2),
+    ("numbers for the settings", "a byte more", 2),
+    ("numbers for the settings", "records swapped", 2),
+    ("side need above S", "numbers for the settings", 2),
+    ("an area's length", "second count above N", 2),
+    ("length of work", "equal keys", 2),
+    ("second count above N", "a byte more", 8),
+    ("second count above N", "records swapped", 8),
+    ("records swapped", "a byte more", 12),
+    ("side need above S", "a byte more", 12),
+    ("side need above S", "equal keys", 13),
+];
+
+#[test]
+fn order_of_refusals() {
+    let mut random = Random::new(55);
+    let mut seen = BTreeMap::new();
+    while seen.len() < ORDERS.len() || seen.values().any(|&times| times < LOADS_OF_EACH_ORDER) {
+        let card = small_card(&mut random);
+        let right = Load::new(&mut random, &card);
+        for (first, second, number) in ORDERS {
+            let mut load = right.clone();
+            if fault(&mut random, &card, &mut load, first)
+                && fault(&mut random, &card, &mut load, second)
+            {
+                let answer = load.compare(first);
+                assert_eq!(answer, number, "{first}, {second}: {:?}", card.settings);
+                *seen.entry((first, second)).or_insert(0) += 1;
+            }
+        }
+    }
+    println!("{seen:?}");
+}
+
 // Some of the faults together, single bytes, and random files: the lowest refusal that applies is given.
 #[test]
 fn loads_of_altered_files() {
@@ -351,7 +403,7 @@ fn loads_of_altered_files() {
             for _ in 0..random.between(0, 3) {
                 let (name, number) = FAULTS[random.between(0, FAULTS.len() as u64 - 1) as usize];
                 // a fault that needs what an earlier one has cut off is left out
-                if load.file.len() >= 16 && fault(&mut random, &card, &mut load, name) {
+                if load.file.len() >= HEAD_BYTES && fault(&mut random, &card, &mut load, name) {
                     made.push(number);
                 }
             }
@@ -377,7 +429,7 @@ fn alter_bytes(random: &mut Random, file: &mut [u8]) {
     }
     for _ in 0..random.between(1, 3) {
         let most = match random.between(0, 1) {
-            0 => file.len().min(16),
+            0 => file.len().min(HEAD_BYTES),
             _ => file.len(),
         };
         file[random.between(0, most as u64 - 1) as usize] = random.next() as u8;
@@ -394,12 +446,12 @@ fn random_file(random: &mut Random, card: &Card) -> Vec<u8> {
         }
         1 => {
             let count = random_count(random, card.settings.n.min(30));
-            set_count(&mut file[14..], count);
+            set_count(&mut file[HEAD_BYTES - 2..], count);
         }
         _ => {}
     }
     let length = match random.between(0, 1) {
-        0 => 17 * random.between(0, 30),
+        0 => RECORD_BYTES as u64 * random.between(0, 30),
         _ => random.between(0, 100),
     };
     file.extend(random_bytes(random, length));
@@ -437,7 +489,7 @@ fn safe_table() {
         );
         if let Ok(mut table) = table {
             assert_eq!(table.settings().numbers(), of_file.numbers());
-            assert!(table.areas().ledger[..2] == load.file[14..16]);
+            assert!(table.areas().ledger[..2] == load.file[HEAD_BYTES - 2..HEAD_BYTES]);
             assert!(table.save() == load.file);
         }
     }

@@ -15,10 +15,11 @@ use made::{
 };
 use model::calls::{perform, Call};
 use model::card::Card;
+use model::hash::KEY_BYTES;
 use model::layout::{layout, placing, Areas};
 use model::ledger::{list_of, Ledger};
 use model::lookup as paper;
-use model::records::{counted_area, Key, Record};
+use model::records::{counted_area, Key, Record, RECORD_BYTES};
 use model::settings::{Settings as Model, LIMITS};
 use random::Random;
 use seen::Seen;
@@ -61,7 +62,7 @@ impl Mix {
             0 => random_key(random).to_vec(),
             1 => {
                 let mut key = key.to_vec();
-                key.resize(wrong_length(random, 13), 0);
+                key.resize(wrong_length(random, KEY_BYTES), 0);
                 key
             }
             _ => key.to_vec(),
@@ -320,7 +321,7 @@ fn updates_on_foreign_areas() {
 // A single fault of a ledger that is right otherwise, by its kind.
 fn fault(random: &mut Random, settings: &Model, ledger: &mut [u8]) -> Option<&'static str> {
     let n = list_of(ledger).len();
-    let end = 2 + 17 * n;
+    let end = 2 + RECORD_BYTES * n;
     match random.between(0, 3) {
         0 => {
             let count = settings.n + random.between(1, 65535 - settings.n);
@@ -329,14 +330,14 @@ fn fault(random: &mut Random, settings: &Model, ledger: &mut [u8]) -> Option<&'s
             Some("count above N")
         }
         1 if n > 1 => {
-            let at = 2 + 17 * random.between(0, n as u64 - 2) as usize;
-            let (first, second) = ledger[at..at + 34].split_at_mut(17);
+            let at = 2 + RECORD_BYTES * random.between(0, n as u64 - 2) as usize;
+            let (first, second) = ledger[at..at + 2 * RECORD_BYTES].split_at_mut(RECORD_BYTES);
             first.swap_with_slice(second);
             Some("falling keys")
         }
         2 if n > 1 => {
-            let at = 2 + 17 * random.between(0, n as u64 - 2) as usize;
-            ledger.copy_within(at..at + 13, at + 17);
+            let at = 2 + RECORD_BYTES * random.between(0, n as u64 - 2) as usize;
+            ledger.copy_within(at..at + KEY_BYTES, at + RECORD_BYTES);
             Some("equal keys")
         }
         3 if end < ledger.len() => {
@@ -378,7 +379,11 @@ fn updates_on_damaged_ledgers() {
             let (answer, _) = update_as_they_stand(&card, &areas, &mut work, &call);
             seen.note(kind(&call), answer);
             if let (Some(fault), Some(key)) = (single, call.key()) {
-                assert_eq!(answer, if key.len() == 13 { 4 } else { 3 }, "{fault}");
+                assert_eq!(
+                    answer,
+                    if key.len() == KEY_BYTES { 4 } else { 3 },
+                    "{fault}"
+                );
                 *faults.entry((fault, kind(&call))).or_insert(0) += 1;
             }
         }

@@ -4,17 +4,18 @@
 #![allow(dead_code)]
 
 use crate::model::card::Card;
+use crate::model::hash::KEY_BYTES;
 use crate::model::layout::{layout, Areas};
-use crate::model::records::{Key, Record};
+use crate::model::records::{Key, Record, RECORD_BYTES};
 use crate::model::settings::{Settings as Model, LIMITS};
 use crate::random::Random;
 
 /// Random bytes, or bits that stand alone, or all zeros.
 pub fn random_key(random: &mut Random) -> Key {
     match random.between(0, 19) {
-        0 => [0; 13],
+        0 => [0; KEY_BYTES],
         1 => {
-            let mut key = [0; 13];
+            let mut key = [0; KEY_BYTES];
             key[random.between(0, 12) as usize] = 1 << random.between(0, 7);
             key
         }
@@ -142,7 +143,7 @@ pub fn spoiled(random: &mut Random, settings: Model) -> Model {
 /// Damage to a ledger: count above N, keys not rising, a nonzero byte after the last record, a single byte, or all random.
 pub fn damage_ledger(random: &mut Random, card: &Card, ledger: &mut [u8]) {
     let n = 256 * usize::from(ledger[0]) + usize::from(ledger[1]);
-    let end = 2 + 17 * n;
+    let end = 2 + RECORD_BYTES * n;
     match random.between(0, 5) {
         0 => set_count(ledger, card.settings.n + random.between(0, 2)),
         1 => {
@@ -150,11 +151,11 @@ pub fn damage_ledger(random: &mut Random, card: &Card, ledger: &mut [u8]) {
             set_count(ledger, count);
         }
         2 if n > 1 => {
-            let at = 2 + 17 * random.between(0, n as u64 - 2) as usize;
+            let at = 2 + RECORD_BYTES * random.between(0, n as u64 - 2) as usize;
             // the second key becomes the first, or they change places
-            let (first, second) = ledger[at..at + 34].split_at_mut(17);
+            let (first, second) = ledger[at..at + 2 * RECORD_BYTES].split_at_mut(RECORD_BYTES);
             if random.between(0, 1) == 0 {
-                second[..13].copy_from_slice(&first[..13]);
+                second[..KEY_BYTES].copy_from_slice(&first[..KEY_BYTES]);
             } else {
                 first.swap_with_slice(second);
             }
@@ -177,10 +178,10 @@ pub fn damage_ledger(random: &mut Random, card: &Card, ledger: &mut [u8]) {
 
 // One record place of the area gets the key, and some class.
 fn plant(random: &mut Random, area: &mut [u8], from: usize, key: &Key) {
-    let places = (area.len() - from) / 17;
+    let places = (area.len() - from) / RECORD_BYTES;
     if places > 0 {
-        let at = from + 17 * random.between(0, places as u64 - 1) as usize;
-        area[at..at + 13].copy_from_slice(key);
+        let at = from + RECORD_BYTES * random.between(0, places as u64 - 1) as usize;
+        area[at..at + KEY_BYTES].copy_from_slice(key);
     }
 }
 

@@ -1,7 +1,7 @@
 //! Settings with the hash: what placing, layout and search go by.
 
 use super::hash;
-use super::records::Key;
+use super::records::{Key, RECORD_BYTES};
 use super::settings::Settings;
 
 pub struct Card {
@@ -37,6 +37,6 @@ impl Card {
 
     /// The bytes of one bucket: a mark, then B places.
     pub fn bucket_bytes(&self) -> usize {
-        1 + 17 * self.settings.b as usize
+        1 + RECORD_BYTES * self.settings.b as usize
     }
 }

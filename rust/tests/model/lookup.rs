@@ -227,6 +227,26 @@ pub fn second_search(card: &Card, areas: Lookup, key: &[u8]) -> Part {
     }
 }
 
+/// The search, and in two lent numbers where the record lies that the second search call hands back: 1 in the buckets or 2 in the side store,
+/// and the byte where it starts; 0, 0 where the flow is absent. Refused, the lent numbers stay; 2 also where they are not two.
+pub fn search_place(card: &Card, areas: Lookup, key: &[u8], place: &mut [u64]) -> Answer {
+    let answer = search(card, areas, key);
+    if answer.number == 1 {
+        return answer;
+    }
+    if place.len() != 2 {
+        return Answer::refused(2);
+    }
+    if answer.number == 0 || answer.number == 100 {
+        place.copy_from_slice(&match second_search(card, areas, key) {
+            Part::Empty => [0, 0],
+            Part::OfBuckets { at, .. } => [1, at as u64],
+            Part::OfSide { at, .. } => [2, at as u64],
+        });
+    }
+    answer
+}
+
 /// Many searches at once: a key of 13 bytes for each answer, and a lent hash table of so many entries. 0 with what the driver gets for each
 /// key, or the lowest of 1, 2 and 3 that applies and the answers as they were.
 pub fn burst(card: &Card, table: usize, areas: Lookup, keys: &[u8], answers: &mut [u64]) -> u32 {

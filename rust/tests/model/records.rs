@@ -4,8 +4,11 @@ use super::hash::KEY_BYTES;
 
 pub type Key = [u8; KEY_BYTES];
 
+/// High byte first.
+pub const CLASS_BYTES: usize = 4;
+
 /// The key, then the class.
-pub const RECORD_BYTES: usize = KEY_BYTES + 4;
+pub const RECORD_BYTES: usize = KEY_BYTES + CLASS_BYTES;
 
 #[derive(Clone, Copy, Debug, PartialEq, Eq)]
 pub struct Record {
@@ -18,7 +21,7 @@ impl Record {
     pub fn bytes(&self) -> [u8; RECORD_BYTES] {
         let mut bytes = [0; RECORD_BYTES];
         bytes[..KEY_BYTES].copy_from_slice(&self.key);
-        for i in 0..4 {
+        for i in 0..CLASS_BYTES {
             bytes[KEY_BYTES + i] = (self.class / 256u32.pow(3 - i as u32) % 256) as u8;
         }
         bytes

@@ -1,5 +1,7 @@
 //! 'Settings and areas'.
 
+use super::records::RECORD_BYTES;
+
 /// Six settings, in or out of range, by the paper's letters.
 #[derive(Clone, Copy, Debug, PartialEq, Eq)]
 pub struct Settings {
@@ -41,13 +43,13 @@ impl Settings {
 
     /// The lengths of ledger, true counts, clipped counts, buckets, side store and work.
     pub fn area_lengths(&self) -> [u64; 6] {
-        let m = self.m();
+        let (m, record) = (self.m(), RECORD_BYTES as u64);
         [
-            2 + 17 * self.n,
+            2 + record * self.n,
             m,
             m / 2,
-            m * (1 + 17 * self.b),
-            2 + 17 * self.s,
+            m * (1 + record * self.b),
+            2 + record * self.s,
             2 * m,
         ]
     }

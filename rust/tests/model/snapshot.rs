@@ -6,12 +6,15 @@ use super::ledger::{list_of, valid};
 use super::records::{count, counted_area, first_records, rising, Record, RECORD_BYTES};
 use super::settings::Settings;
 
-/// The first count, six settings and the second count, of two bytes each.
-pub const HEAD_BYTES: usize = 16;
+/// p, k, B, T, N and S.
+pub const SETTINGS_COUNT: usize = 6;
+
+/// The first count, the settings and the second count, of two bytes each.
+pub const HEAD_BYTES: usize = 2 + 2 * SETTINGS_COUNT + 2;
 
 /// Two sections, each after its count: the settings, then the records.
 pub fn snapshot(settings: &Settings, list: &[Record]) -> Vec<u8> {
-    let mut file = vec![0, 6];
+    let mut file = vec![0, SETTINGS_COUNT as u8];
     for number in settings.numbers() {
         file.extend([(number / 256) as u8, (number % 256) as u8]);
     }
@@ -45,20 +48,18 @@ pub fn save(card: &Card, ledger: &[u8], work: usize, target: &mut [u8]) -> u32 {
 }
 
 /// 0 with the file's settings handed back and the layout of its list in every area; or a refusal, zeros handed back and the areas as they
-/// were. Six numbers are lent for the settings; others stay as they are, and this is 2 unless the file would be refused 1.
+/// were. Six numbers are lent for the settings, and another area for them is not of its length (2) and stays as it is.
 pub fn load(file: &[u8], areas: &mut Areas, work: usize, settings: &mut [u64]) -> u32 {
-    let loaded = list_with_layout(file, areas, work);
-    if settings.len() != 6 {
-        return if loaded == Err(1) { 1 } else { 2 };
-    }
-    match loaded {
+    match list_with_layout(file, areas, work, settings.len()) {
         Ok((of_file, new)) => {
             settings.copy_from_slice(&of_file.numbers());
             *areas = new;
             0
         }
         Err(number) => {
-            settings.fill(0);
+            if settings.len() == SETTINGS_COUNT {
+                settings.fill(0);
+            }
             number
         }
     }
@@ -66,8 +67,13 @@ pub fn load(file: &[u8], areas: &mut Areas, work: usize, settings: &mut [u64]) -
 
 /// What is judged once an allowed first count, its settings and the second count are there: the lowest that applies, but 9 only when nothing
 /// else does.
-fn list_with_layout(file: &[u8], areas: &Areas, work: usize) -> Result<(Settings, Areas), u32> {
-    if file.len() < HEAD_BYTES || count(file) != 6 {
+fn list_with_layout(
+    file: &[u8],
+    areas: &Areas,
+    work: usize,
+    for_settings: usize,
+) -> Result<(Settings, Areas), u32> {
+    if file.len() < HEAD_BYTES || count(file) != SETTINGS_COUNT as u64 {
         return Err(12);
     }
     let settings = Settings::of([2, 4, 6, 8, 10, 12].map(|at| count(&file[at..])));
@@ -76,7 +82,7 @@ fn list_with_layout(file: &[u8], areas: &Areas, work: usize) -> Result<(Settings
     let mut apply = Vec::new();
     if !settings.allowed() {
         apply.push(1);
-    } else if !areas.fit(&settings, Some(work)) {
+    } else if !areas.fit(&settings, Some(work)) || for_settings != SETTINGS_COUNT {
         apply.push(2);
     }
     if n > settings.n {
