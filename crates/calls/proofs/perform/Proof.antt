@@ -1,8 +1,9 @@
 -- `calls::perform` meets its contract: each kind is its callee's call.
+use mathlib.Core.Path.{refl, sym, _∙_}
 use Rattle.theory.specs.Ledger as plain
 use Rattle.lookup.specs.Answers.{answer-of}
 use Rattle.lookup.specs.Tallies.{totals-of}
-use Rattle.calls.proofs.DataLaws.{cleared, searched, tallied}
+use Rattle.theory.proofs.LentLaws.{clear-lent, read-on-all}
 use borrow.Author.Needs.{needs}
 use Rattle.calls.proofs.perform.Statement.{statement}
 use Rattle.calls.proofs.perform.Tie as tie
@@ -11,7 +12,7 @@ use Rattle.calls.proofs.perform.Tie as tie
 returns : tie.Need-returns
 returns c =
     let clear = c .before .before .before .before .before .before .before .before .before .before .before in
-    rw (clear .before .before .before .before .before .before .enum-told .given .1, c .answer-only .ensures) (cleared _ _ _ _ (clear .clear .ensures))
+    rw (clear .before .before .before .before .before .before .enum-told .given .1, c .answer-only .ensures) (clear .clear .ensures ∙ sym (clear-lent _ _ _))
 
 returns-2 : tie.Need-returns-2
 returns-2 c =
@@ -22,12 +23,13 @@ returns-3 : tie.Need-returns-3
 returns-3 c =
     let told = c .before .before .before .before in
     let key = told .before .before .before .before .before .before .before .before .before .args .key .now in
-    rw (told .enum-told2 .given .1) (searched _ _ _ key (answer-of (c .search .result)) (c .search .ensures))
+    let answer = plain.answered (answer-of (c .search .result)) in
+    rw (told .enum-told2 .given .1) (read-on-all _ _ _ (plain.search key) refl answer (c .search .ensures))
 
 returns-4 : tie.Need-returns-4
 returns-4 c =
     let totals = plain.totalled (totals-of (c .tally .result)) in
-    rw (c .before .before .before .before .before .enum-told3 .given .1) (tallied _ _ _ totals (c .tally .ensures))
+    rw (c .before .before .before .before .before .enum-told3 .given .1) (read-on-all _ _ _ plain.tally refl totals (c .tally .ensures))
 
 pub perform-spec : {M : Type 1} → statement M
 perform-spec =
