@@ -2,14 +2,10 @@
 use settings::Given;
 use settings::Settings;
 ghost use mathlib.Core.Path.{_≡_};
-ghost use mathlib.Core.Bool.{cond};
-ghost use Prim.Native.Nat.{ℕ};
-ghost use lib.Dec.{eqb};
 ghost use lib.ListN.{length};
-ghost use Rattle.theory.specs.Layout.{Areas};
-ghost use Rattle.theory.specs.Snapshot.{settings-list, Saved, save, load};
+ghost use Rattle.theory.specs.Snapshot.{settings-list, Saved, save};
 ghost use Rattle.settings.specs.Checked.{paper};
-ghost use Rattle.card.specs.Snapshots.{LoadedInto, load-of};
+ghost use Rattle.card.specs.Snapshots.{LoadedInto, settings-area-refusal, load-of};
 
 // Saves a ledger: 1, 2, 4, 9, 12; else the target holds the snapshot.
 #[no_mangle]
@@ -38,15 +34,15 @@ pub extern "C" fn flow_save(
     snapshot::saving::save(given, ledger, &mut work[..], &mut target[..])
 }
 
-// 1 where loading would answer it, else 2.
+// An area for the settings of another length: 12 for the file's head, 1, else 2.
 fn refuse_settings_area(file: &[u8]) -> u32
-    ensures { λ r. ⌜ ((w : ℕ) (a : Areas) → r ≡ cond (eqb (load (now (file .entry)) w a .number) 1) 1 2) ⌝ }
+    ensures { λ r. ⌜ r ≡ settings-area-refusal (now (file .entry)) ⌝ }
 {
-    if snapshot::reading::settings_refused(file) {
-        1
-    } else {
-        2
+    let number = snapshot::reading::refusal_by_head(file);
+    if number != 0 {
+        return number;
     }
+    2
 }
 
 // The six settings in the paper's order.

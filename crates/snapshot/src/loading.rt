@@ -20,12 +20,12 @@ ghost use Rattle.theory.specs.Records.{records};
 ghost use Rattle.theory.specs.Ledger.{side-need-of};
 ghost use Rattle.theory.specs.Layout.{Areas, counted-places, layout};
 ghost use Rattle.theory.specs.Snapshot as plain;
-ghost use Rattle.theory.specs.Snapshot.{file-settings, not-loaded};
+ghost use Rattle.theory.specs.Snapshot.{file-settings, head-wrong, not-loaded};
 ghost use Rattle.theory.proofs.CallLaws.{Sized};
 ghost use Rattle.settings.specs.Checked.{paper};
 ghost use Rattle.placing.specs.Ready.{Ready};
 ghost use Rattle.writing.specs.Laying.{Laying};
-ghost use Rattle.snapshot.specs.Files.{loaded-of, head-wrong};
+ghost use Rattle.snapshot.specs.Files.{loaded-of};
 
 // The answer, and the settings handed back: zeros when refused.
 pub struct Loaded {
