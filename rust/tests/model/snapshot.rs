@@ -45,11 +45,15 @@ pub fn save(card: &Card, ledger: &[u8], work: usize, target: &mut [u8]) -> u32 {
 }
 
 /// 0 with the file's settings handed back and the layout of its list in every area; or a refusal, zeros handed back and the areas as they
-/// were. Six numbers are lent for the settings; others stay as they are, and this is 2 unless the file would be refused 1.
+/// were. Six numbers are lent for the settings; others stay as they are, and this is 12 for the file's head, else 1, else 2.
 pub fn load(file: &[u8], areas: &mut Areas, work: usize, settings: &mut [u64]) -> u32 {
     let loaded = list_with_layout(file, areas, work);
     if settings.len() != 6 {
-        return if loaded == Err(1) { 1 } else { 2 };
+        return match loaded {
+            Err(12) if head_wrong(file) => 12,
+            Err(1) => 1,
+            _ => 2,
+        };
     }
     match loaded {
         Ok((of_file, new)) => {
@@ -64,10 +68,15 @@ pub fn load(file: &[u8], areas: &mut Areas, work: usize, settings: &mut [u64]) -
     }
 }
 
+/// No allowed first count, its settings and the second count are there.
+fn head_wrong(file: &[u8]) -> bool {
+    file.len() < HEAD_BYTES || count(file) != 6
+}
+
 /// What is judged once an allowed first count, its settings and the second count are there: the lowest that applies, but 9 only when nothing
 /// else does.
 fn list_with_layout(file: &[u8], areas: &Areas, work: usize) -> Result<(Settings, Areas), u32> {
-    if file.len() < HEAD_BYTES || count(file) != 6 {
+    if head_wrong(file) {
         return Err(12);
     }
     let settings = Settings::of([2, 4, 6, 8, 10, 12].map(|at| count(&file[at..])));
