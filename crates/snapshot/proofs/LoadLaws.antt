@@ -158,6 +158,6 @@ module _ {f : List ℕ} {w : ℕ} {a : Areas} {t : plain.Settings} (g : Loading 
     pub loads-9 : card-of t .side-places < need → not-loaded 9 a ≡ load f w a
     loads-9 h = rw (loads-by, none, short-is, lt-ltb (card-of t .side-places) need h)
 
-    pub loads-0 : need ≤ card-of t .side-places → (b : Areas) → b ≡ layout (card-of t) (listed t f)
-        → record { number = 0; settings = t; areas = b } ≡ load f w a
-    loads-0 h b e = rw (loads-by, none, short-is, le-ltb (card-of t .side-places) need h, e)
+    pub loads-0 : need ≤ card-of t .side-places → (u : plain.Settings) → u ≡ t → (b : Areas) → b ≡ layout (card-of t) (listed t f)
+        → record { number = 0; settings = u; areas = b } ≡ load f w a
+    loads-0 h u same b e = rw (same, loads-by, none, short-is, le-ltb (card-of t .side-places) need h, e)

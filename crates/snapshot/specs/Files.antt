@@ -12,7 +12,7 @@ use Rattle.theory.specs.Layout.{Areas}
 use Rattle.theory.specs.Snapshot as snapshots
 use Rattle.theory.specs.Snapshot.{file-settings, file-count, head-wrong}
 use Rattle.settings.specs.declared.Settings.{Settings}
-use Rattle.settings.specs.Checked.{paper}
+use Rattle.settings.specs.Checked.{paper, given-of}
 use Rattle.placing.specs.Ready.{Ready}
 use Rattle.snapshot.specs.declared.loading.Loaded.{Loaded}
 
@@ -22,7 +22,7 @@ put-at at n l = take at l ++ (to-bytes 2 n ++ drop (at + 2) l)
 
 -- what loading answers, with the areas after it
 abbrev pub loaded-of : Loaded → Areas → snapshots.Loaded
-loaded-of r a = record { number = r .number; settings = paper (r .settings); areas = a }
+loaded-of r a = record { number = r .number; settings = given-of (r .settings); areas = a }
 
 -- the records of a file under settings
 abbrev pub listed : plain.Settings → List ℕ → List Record

@@ -8,6 +8,7 @@ use ledger::bytes::count_at;
 use ledger::bytes::write_number;
 use ledger::bytes::zero_fill;
 use settings::Checked;
+use settings::Given;
 use settings::Settings;
 use settings::lengths::Lengths;
 use settings::lengths::lengths_right;
@@ -30,7 +31,7 @@ ghost use Rattle.snapshot.specs.Files.{loaded-of};
 // The answer, and the settings handed back: zeros when refused.
 pub struct Loaded {
     pub number: u32,
-    pub settings: Settings,
+    pub settings: Given,
 }
 
 fn not_loaded(number: u32) -> Loaded
@@ -38,7 +39,7 @@ fn not_loaded(number: u32) -> Loaded
 {
     Loaded {
         number,
-        settings: Settings {
+        settings: Given {
             p: 0,
             k: 0,
             room: 0,
@@ -144,7 +145,7 @@ fn load_lent(
     );
     Loaded {
         number: 0,
-        settings: s,
+        settings: s.given(),
     }
 }
 
