@@ -7,8 +7,9 @@ use lib.ListN.{length}
 use borrow.Author.Tests.{eq-eqb, ne-eqb}
 use Rattle.theory.specs.Hash.{H, numbers-of}
 use Rattle.theory.specs.Settings.{Settings, allowed, card-of}
+use Rattle.theory.proofs.ListLaws.{by-test}
 use Rattle.settings.specs.declared.Settings as code
-use Rattle.settings.specs.Checked.{paper}
+use Rattle.settings.specs.Checked.{paper, checked-of, number-of}
 use Rattle.hash.specs.declared.Numbers.{Numbers}
 use Rattle.hash.specs.Numbering.{Holds}
 use Rattle.hash.specs.Table.{TableRight, table-entries}
@@ -32,13 +33,10 @@ use Rattle.card.specs.Doors.{
 }
 
 module _ (t : Settings) where
-  pub settings-check-1 : allowed t ≡ false → 1 ≡ settings-check-of t
+  -- the number of what checking the settings answers
+  pub settings-check : number-of (checked-of t) ≡ settings-check-of t
   unfolding settings-check-of
-  settings-check-1 e = rw e
-
-  pub settings-check-0 : allowed t ≡ true → 0 ≡ settings-check-of t
-  unfolding settings-check-of
-  settings-check-0 e = rw e
+  settings-check = by-test (allowed t) (λ e. rw e) (λ e. rw e)
 
   module _ (lengths : List ℕ) where
     pub area-lengths-1 : allowed t ≡ false → refused 1 lengths ≡ area-lengths-of t lengths

@@ -6,12 +6,20 @@ use Prim.Native.Nat.{ℕ}
 use lib.Dec.{eqb}
 use borrow.Author.Tests.{eq-eqb, ne-eqb}
 use lib.ListN.{length}
+use Rattle.theory.specs.Settings.{allowed}
 use Rattle.theory.specs.Layout.{Areas}
-use Rattle.theory.specs.Snapshot.{settings-list, Loaded, load}
-use Rattle.card.specs.Snapshots.{load-of}
+use Rattle.theory.specs.Snapshot.{settings-list, Loaded, file-settings, head-wrong, load}
+use Rattle.theory.proofs.ListLaws.{by-test}
+use Rattle.snapshot.specs.Files.{by-head}
+use Rattle.card.specs.Snapshots.{settings-area-refusal, load-of}
+
+-- what the head decides, else 2
+pub refusal-by-head : (file : List ℕ) → cond (eqb (by-head file) 0) 2 (by-head file) ≡ settings-area-refusal file
+unfolding by-head settings-area-refusal
+refusal-by-head file = by-test (head-wrong file) (λ e. rw e) (λ e. by-test (allowed (file-settings file)) (λ o. rw (e, o)) (λ o. rw (e, o)))
 
 module _ (file : List ℕ) (w : ℕ) (a : Areas) (settings : List ℕ) where
-  pub settings-area-wrong : (length settings ≡ 6 → ⊥) → (n : ℕ) → n ≡ cond (eqb (load file w a .number) 1) 1 2
+  pub settings-area-wrong : (length settings ≡ 6 → ⊥) → (n : ℕ) → n ≡ settings-area-refusal file
       → record { number = n; settings = settings; areas = a } ≡ load-of file w a settings
   unfolding load-of
   settings-area-wrong q n e = rw (ne-eqb (length settings) 6 q, e)

@@ -1,15 +1,10 @@
 // The doors of snapshots: save and load.
 use settings::Given;
-use settings::Settings;
 ghost use mathlib.Core.Path.{_≡_};
-ghost use mathlib.Core.Bool.{cond};
-ghost use Prim.Native.Nat.{ℕ};
-ghost use lib.Dec.{eqb};
 ghost use lib.ListN.{length};
-ghost use Rattle.theory.specs.Layout.{Areas};
-ghost use Rattle.theory.specs.Snapshot.{settings-list, Saved, save, load};
-ghost use Rattle.settings.specs.Checked.{paper};
-ghost use Rattle.card.specs.Snapshots.{LoadedInto, load-of};
+ghost use Rattle.theory.specs.Snapshot.{settings-list, Saved, save};
+ghost use Rattle.settings.specs.Checked.{given-of};
+ghost use Rattle.card.specs.Snapshots.{LoadedInto, settings-area-refusal, load-of};
 
 // Saves a ledger: 1, 2, 4, 9, 12; else the target holds the snapshot.
 #[no_mangle]
@@ -38,28 +33,28 @@ pub extern "C" fn flow_save(
     snapshot::saving::save(given, ledger, &mut work[..], &mut target[..])
 }
 
-// 1 where loading would answer it, else 2.
+// An area for the settings of another length: 12 for the file's head, 1, else 2.
 fn refuse_settings_area(file: &[u8]) -> u32
-    ensures { λ r. ⌜ ((w : ℕ) (a : Areas) → r ≡ cond (eqb (load (now (file .entry)) w a .number) 1) 1 2) ⌝ }
+    ensures { λ r. ⌜ r ≡ settings-area-refusal (now (file .entry)) ⌝ }
 {
-    if snapshot::reading::settings_refused(file) {
-        1
-    } else {
-        2
+    let number = snapshot::reading::refusal_by_head(file);
+    if number != 0 {
+        return number;
     }
+    2
 }
 
 // The six settings in the paper's order.
-fn write_settings(s: Settings, to: &mut [u64])
+fn write_settings(given: Given, to: &mut [u64])
     requires { ⌜ length (now to) ≡ 6 ⌝ }
-    ensures { λ _. ⌜ now (to .exit) ≡ settings-list (paper s) ⌝ }
+    ensures { λ _. ⌜ now (to .exit) ≡ settings-list (given-of given) ⌝ }
 {
-    to[0] = s.p as u64;
-    to[1] = s.k as u64;
-    to[2] = s.room as u64;
-    to[3] = s.top as u64;
-    to[4] = s.capacity as u64;
-    to[5] = s.side_places as u64;
+    to[0] = given.p;
+    to[1] = given.k;
+    to[2] = given.room;
+    to[3] = given.top;
+    to[4] = given.capacity;
+    to[5] = given.side_places;
 }
 
 // Loads a file: 12 for its head, 1, 2, 8, 12, 13, 9; else every area holds the layout of its list, and `settings` its settings (zeros when refused).
@@ -89,7 +84,7 @@ pub extern "C" fn flow_load(
         &mut side[..],
         &mut work[..],
     );
-    let s = loaded.settings;
-    write_settings(s, &mut settings[..]);
+    let given = loaded.settings;
+    write_settings(given, &mut settings[..]);
     loaded.number
 }

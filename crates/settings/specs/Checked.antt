@@ -1,5 +1,6 @@
 -- The settings of the code and those of the paper, field by field, and what checking six numbers answers. Assumes nothing.
 use mathlib.Core.Bool.{cond}
+use Prim.Native.Nat.{ℕ}
 use Rattle.theory.specs.Settings as plain
 use Rattle.settings.specs.declared.Settings.{Settings}
 use Rattle.settings.specs.declared.Given.{Given}
@@ -19,3 +20,8 @@ given-of g = record { p = g .p; k = g .k; room = g .room; top = g .top; capacity
 -- settings in their ranges are handed over; others are refusal 1
 abbrev pub checked-of : plain.Settings → Checked
 checked-of t = cond (plain.allowed t) (Allowed (code t)) Refused
+
+-- the paper's number of what is answered: "An accepted call answers 0"; "1, a setting out of range"
+abbrev pub number-of : Checked → ℕ
+number-of (Allowed c) = 0
+number-of Refused = 1

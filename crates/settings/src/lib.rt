@@ -17,7 +17,7 @@ pub struct Settings {
     pub side_places: usize,
 }
 
-// The same as a caller gives them: 64 bits each, so that no number is cut off before its range is judged.
+// The same as a caller gives them, or as a file says them: 64 bits each, so that no number is cut off before its range is judged.
 pub struct Given {
     pub p: u64,
     pub k: u64,
@@ -95,6 +95,20 @@ impl Settings {
             })
         } else {
             Checked::Refused
+        }
+    }
+
+    // "hands them back": the same six numbers, as a caller has them.
+    pub fn given(self) -> Given
+        ensures { λ r. ⌜ given-of r ≡ paper self ⌝ }
+    {
+        Given {
+            p: self.p as u64,
+            k: self.k as u64,
+            room: self.room as u64,
+            top: self.top as u64,
+            capacity: self.capacity as u64,
+            side_places: self.side_places as u64,
         }
     }
 

@@ -11,13 +11,13 @@ use lib.ListN.{length, take, drop, length-drop}
 use Rattle.theory.specs.Settings as plain
 use Rattle.theory.specs.Settings.{card-of, allowed, record-size}
 use Rattle.theory.specs.Records.{count-of, records, rising}
-use Rattle.theory.specs.Snapshot.{setting, file-settings, file-count}
+use Rattle.theory.specs.Snapshot.{setting, file-settings, file-count, head-wrong}
 use Rattle.theory.proofs.ListLaws.{or-left}
 use Rattle.theory.proofs.SettingsLaws.{ranges}
 use Rattle.settings.specs.Checked.{checked-of}
 use Rattle.settings.proofs.Laws.{record-size-is}
 use Rattle.ledger.proofs.PartLaws.{tail-is}
-use Rattle.snapshot.specs.Files.{head-wrong, listed, by-file}
+use Rattle.snapshot.specs.Files.{listed, by-file}
 
 -- a test that failed, since the number is 0
 passed : (t : Bool) (n m : ℕ) → 0 < n → cond t n m ≡ 0 → (t ≡ false) × (m ≡ 0)

@@ -1,7 +1,7 @@
 -- Laws of loading: the ledger area and the layout of a file's records, and each answer is `load`'s. Assumes nothing.
-use mathlib.Core.Path.{_≡_, refl, _∙_}
-use mathlib.Core.Bool.{Bool, true, false, cond, not, _&&_}
-use mathlib.Core.List.{List, _∷_, _++_, map, append-assoc}
+use mathlib.Core.Path.{_≡_, _∙_}
+use mathlib.Core.Bool.{true, false, cond, not, _&&_}
+use mathlib.Core.List.{List, _++_, map, append-assoc}
 use Prim.Native.Nat.{ℕ, _+_, _-_, _*_, _≤_, _<_}
 use native.Mathlib.Nat.{mul-comm, mul-sub}
 use native.Mathlib.Omega.{arith}
@@ -9,15 +9,14 @@ use lib.Dec.{ltb, eqb}
 use borrow.Author.Tests.{lt-ltb, le-ltb, eq-eqb, ne-eqb}
 use lib.ListN.{length, take, drop, length-append, length-drop}
 use lib.Seq.{take-at, drop-at, take-all, length-take-le}
-use Rattle.theory.specs.Lists.{all, flat, upto}
+use Rattle.theory.specs.Lists.{flat, upto}
 use Rattle.theory.specs.Settings as plain
 use Rattle.theory.specs.Settings.{Card, card-of, allowed, record-size, ledger-length, work-length}
 use Rattle.theory.specs.Records.{Record, to-bytes, record-bytes, records, rising}
 use Rattle.theory.specs.Placing.{true-count}
 use Rattle.theory.specs.Ledger.{side-need-of, side-short}
 use Rattle.theory.specs.Layout.{Areas, places, counted-places, counter-bytes, buckets-bytes, side-bytes, layout, layout-by}
-use Rattle.theory.specs.Calls.{all-lengths}
-use Rattle.theory.specs.Snapshot.{Loaded, file-settings, file-count, file-records, not-loaded, load}
+use Rattle.theory.specs.Snapshot.{file-settings, file-count, file-records, head-wrong, not-loaded, load}
 use Rattle.theory.proofs.ListLaws.{All, by-test}
 use Rattle.theory.proofs.ByteLaws.{Byte, length-to-bytes, length-records, write-records}
 use Rattle.theory.proofs.CallLaws.{Sized}
@@ -28,7 +27,7 @@ use Rattle.settings.specs.Lengths.{lengths-of, right-lengths}
 use Rattle.settings.proofs.LengthLaws.{lengths-are}
 use Rattle.ledger.proofs.PartLaws.{zeros, back, tail-is, tail-back}
 use Rattle.ledger.proofs.LedgerLaws.{room-for}
-use Rattle.snapshot.specs.Files.{head-wrong, listed, by-file}
+use Rattle.snapshot.specs.Files.{listed, by-file}
 
 -- ---- the ledger area of n records that fill an area
 module _ (c : Card) (area : List ℕ) (n : ℕ) (few : n ≤ c .capacity) (full : length area ≡ record-size c * n) where
@@ -106,17 +105,17 @@ laid-out c l ledger trues clipped buckets side el et ec eb es = rw (el, et, ec, 
 -- ---- the call: 12, 1, 2, 8, 12, 13, 9, or the layout
 module _ (f : List ℕ) (w : ℕ) (a : Areas) where
   pub loads-12 : head-wrong f ≡ true → not-loaded 12 a ≡ load f w a
-  unfolding load head-wrong
+  unfolding load
   loads-12 e = rw e
 
   module _ (whole : head-wrong f ≡ false) where
     pub loads-1 : allowed (file-settings f) ≡ false → not-loaded 1 a ≡ load f w a
-    unfolding load head-wrong
+    unfolding load
     loads-1 e = rw (whole, e)
 
     pub loads-2 : allowed (file-settings f) ≡ true → (s : Settings) → paper s ≡ file-settings f → (x : ℕ) → x ≡ work-length (card-of (paper s))
         → (eqb w x && right-lengths (card-of (paper s)) (lengths-of a)) ≡ false → not-loaded 2 a ≡ load f w a
-    unfolding load head-wrong
+    unfolding load
     loads-2 ok s same x ex e = let q = rw (ex, ← lengths-are (card-of (paper s)) a, same) at e in rw (whole, ok, q)
 
 -- settings t from the file, and areas of their lengths
@@ -133,7 +132,7 @@ module _ {f : List ℕ} {w : ℕ} {a : Areas} {t : plain.Settings} (g : Loading 
       (cond (not (eqb (length f) (16 + record-size (card-of t) * file-count f))) (not-loaded 12 a)
       (cond (not (rising (listed t f))) (not-loaded 13 a)
       (cond (side-short (card-of t) (listed t f)) (not-loaded 9 a) (record { number = 0; settings = t; areas = layout (card-of t) (listed t f) }))))
-  unfolding load head-wrong file-records
+  unfolding load file-records
   loads-on = rw (g .whole, ← g .same, g .ok, eq-eqb w (work-length (card-of t)) (g .work), all-lengths-right (card-of t) a (g .sized))
 
   -- what the file decides, and 9
@@ -159,24 +158,6 @@ module _ {f : List ℕ} {w : ℕ} {a : Areas} {t : plain.Settings} (g : Loading 
     pub loads-9 : card-of t .side-places < need → not-loaded 9 a ≡ load f w a
     loads-9 h = rw (loads-by, none, short-is, lt-ltb (card-of t .side-places) need h)
 
-    pub loads-0 : need ≤ card-of t .side-places → (b : Areas) → b ≡ layout (card-of t) (listed t f)
-        → record { number = 0; settings = t; areas = b } ≡ load f w a
-    loads-0 h b e = rw (loads-by, none, short-is, le-ltb (card-of t .side-places) need h, e)
-
--- ---- 1 is answered where the head is right and a setting is out of range, whatever the areas
-not-1 : (t : Bool) (x y : Loaded) → eqb (x .number) 1 ≡ false → eqb (y .number) 1 ≡ false → eqb (cond t x y .number) 1 ≡ false
-not-1 true x y p q = p
-not-1 false x y p q = q
-
-pub load-answers-1 : (f : List ℕ) (w : ℕ) (a : Areas) → eqb (load f w a .number) 1 ≡ (not (head-wrong f) && not (allowed (file-settings f)))
-unfolding load head-wrong
-load-answers-1 f w a =
-    let t = file-settings f in
-    by-test (head-wrong f) (λ h. rw h)
-    (λ h. by-test (allowed t)
-    (λ o. rw (h, o)
-    (not-1 (not (all (λ x. x) (eqb w (work-length (card-of t)) ∷ all-lengths (card-of t) a))) _ _ refl
-    (not-1 (ltb (t .capacity) (file-count f)) _ _ refl
-    (not-1 (not (eqb (length f) (16 + record-size (card-of t) * file-count f))) _ _ refl
-    (not-1 (not (rising (file-records f))) _ _ refl (not-1 (side-short (card-of t) (file-records f)) _ _ refl refl))))))
-    (λ o. rw (h, o)))
+    pub loads-0 : need ≤ card-of t .side-places → (u : plain.Settings) → u ≡ t → (b : Areas) → b ≡ layout (card-of t) (listed t f)
+        → record { number = 0; settings = u; areas = b } ≡ load f w a
+    loads-0 h u same b e = rw (same, loads-by, none, short-is, le-ltb (card-of t .side-places) need h, e)

@@ -1,18 +1,18 @@
 -- What save and load share with a file as the code reads and writes it. Assumes nothing.
 use mathlib.Core.Path.{_≡_}
-use mathlib.Core.Bool.{Bool, cond, not, _||_}
+use mathlib.Core.Bool.{cond, not}
 use mathlib.Core.List.{List, _++_}
 use Prim.Native.Nat.{ℕ, _+_, _*_, _≤_}
 use lib.Dec.{ltb, eqb}
 use lib.ListN.{length, take, drop}
 use Rattle.theory.specs.Settings as plain
-use Rattle.theory.specs.Settings.{card-of, record-size}
-use Rattle.theory.specs.Records.{Record, to-bytes, count-of, records, rising}
+use Rattle.theory.specs.Settings.{allowed, card-of, record-size}
+use Rattle.theory.specs.Records.{Record, to-bytes, records, rising}
 use Rattle.theory.specs.Layout.{Areas}
 use Rattle.theory.specs.Snapshot as snapshots
-use Rattle.theory.specs.Snapshot.{file-count}
+use Rattle.theory.specs.Snapshot.{file-settings, file-count, head-wrong}
 use Rattle.settings.specs.declared.Settings.{Settings}
-use Rattle.settings.specs.Checked.{paper}
+use Rattle.settings.specs.Checked.{paper, given-of}
 use Rattle.placing.specs.Ready.{Ready}
 use Rattle.snapshot.specs.declared.loading.Loaded.{Loaded}
 
@@ -22,11 +22,7 @@ put-at at n l = take at l ++ (to-bytes 2 n ++ drop (at + 2) l)
 
 -- what loading answers, with the areas after it
 abbrev pub loaded-of : Loaded → Areas → snapshots.Loaded
-loaded-of r a = record { number = r .number; settings = paper (r .settings); areas = a }
-
--- 12: no allowed first count, its settings and the second count
-unfoldable pub head-wrong : List ℕ → Bool
-head-wrong f = ltb (length f) 16 || not (eqb (count-of f) 6)
+loaded-of r a = record { number = r .number; settings = given-of (r .settings); areas = a }
 
 -- the records of a file under settings
 abbrev pub listed : plain.Settings → List ℕ → List Record
@@ -40,6 +36,10 @@ pub record PlacingRecords (s : Settings) (t : List ℕ) (m : ℕ) (work kept are
   pub choices : n ≤ length kept
   pub room : n * (card-of (paper s) .width + 4) ≤ length area
   pub few : n ≤ 4096
+
+-- 12 for the head, 1 for its settings, or 0
+unfoldable pub by-head : List ℕ → ℕ
+by-head f = cond (head-wrong f) 12 (cond (not (allowed (file-settings f))) 1 0)
 
 -- 8, 12, 13, or 0
 unfoldable pub by-file : plain.Settings → List ℕ → ℕ

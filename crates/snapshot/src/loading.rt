@@ -8,6 +8,7 @@ use ledger::bytes::count_at;
 use ledger::bytes::write_number;
 use ledger::bytes::zero_fill;
 use settings::Checked;
+use settings::Given;
 use settings::Settings;
 use settings::lengths::Lengths;
 use settings::lengths::lengths_right;
@@ -20,17 +21,17 @@ ghost use Rattle.theory.specs.Records.{records};
 ghost use Rattle.theory.specs.Ledger.{side-need-of};
 ghost use Rattle.theory.specs.Layout.{Areas, counted-places, layout};
 ghost use Rattle.theory.specs.Snapshot as plain;
-ghost use Rattle.theory.specs.Snapshot.{file-settings, not-loaded};
+ghost use Rattle.theory.specs.Snapshot.{file-settings, head-wrong, not-loaded};
 ghost use Rattle.theory.proofs.CallLaws.{Sized};
 ghost use Rattle.settings.specs.Checked.{paper};
 ghost use Rattle.placing.specs.Ready.{Ready};
 ghost use Rattle.writing.specs.Laying.{Laying};
-ghost use Rattle.snapshot.specs.Files.{loaded-of, head-wrong};
+ghost use Rattle.snapshot.specs.Files.{loaded-of};
 
 // The answer, and the settings handed back: zeros when refused.
 pub struct Loaded {
     pub number: u32,
-    pub settings: Settings,
+    pub settings: Given,
 }
 
 fn not_loaded(number: u32) -> Loaded
@@ -38,7 +39,7 @@ fn not_loaded(number: u32) -> Loaded
 {
     Loaded {
         number,
-        settings: Settings {
+        settings: Given {
             p: 0,
             k: 0,
             room: 0,
@@ -144,7 +145,7 @@ fn load_lent(
     );
     Loaded {
         number: 0,
-        settings: s,
+        settings: s.given(),
     }
 }
 

@@ -5,14 +5,14 @@ use settings::Checked;
 use settings::Given;
 use settings::Settings;
 ghost use mathlib.Core.Path.{_≡_};
-ghost use mathlib.Core.Bool.{true, not, _&&_};
+ghost use mathlib.Core.Bool.{true};
 ghost use Prim.Native.Nat.{_≤_, _<_};
 ghost use lib.ListN.{length};
 ghost use Rattle.theory.specs.Settings.{allowed};
 ghost use Rattle.theory.specs.Snapshot as plain;
-ghost use Rattle.theory.specs.Snapshot.{file-settings};
+ghost use Rattle.theory.specs.Snapshot.{file-settings, head-wrong};
 ghost use Rattle.settings.specs.Checked.{paper, checked-of};
-ghost use Rattle.snapshot.specs.Files.{head-wrong, by-file};
+ghost use Rattle.snapshot.specs.Files.{by-head, by-file};
 
 // Setting i of a file, from 0.
 fn setting(file: &[u8], i: usize) -> u64
@@ -47,18 +47,18 @@ pub fn head_wrong(file: &[u8]) -> bool
     count_at(file) != crate::SETTINGS
 }
 
-// Loading answers 1: for a door that is lent an area for the settings.
-pub fn settings_refused(file: &[u8]) -> bool
-    ensures { λ r. ⌜ r ≡ (not (head-wrong (now (file .entry))) && not (allowed (file-settings (now (file .entry))))) ⌝ }
+// 12 for the head, 1; else 0. For a door that judges a length of its own with 2.
+pub fn refusal_by_head(file: &[u8]) -> u32
+    ensures { λ r. ⌜ r ≡ by-head (now (file .entry)) ⌝ }
 {
     if head_wrong(file) {
-        return false;
+        return 12;
     }
     let checked = read_settings(file);
     let Checked::Allowed(_) = checked else {
-        return true;
+        return 1;
     };
-    false
+    0
 }
 
 // 8, 12 for a cut or overlong file, 13; else 0.

@@ -1,7 +1,7 @@
 -- The demands of specs/Demands.antt, but for the two on snapshots, which SnapshotLaws proves. Assumes nothing.
 use mathlib.Core.Path.{_≡_, refl, sym, ap, _∙_}
 use mathlib.Core.Logic.{_≢_}
-use mathlib.Core.Bool.{Bool, true, false, cond, not, _||_, false≢true}
+use mathlib.Core.Bool.{Bool, true, false, cond, not, false≢true}
 use mathlib.Core.List.{List, [], _∷_}
 use mathlib.Core.Option.{none, some}
 use Prim.Native.Nat.{ℕ, _+_, _*_, zero-le}
@@ -9,7 +9,7 @@ use lib.Dec.{ltb, eqb}
 use borrow.Author.Tests.{eq-eqb}
 use lib.ListN.{length}
 use Rattle.theory.specs.Lists.{all, All}
-use Rattle.theory.specs.Records.{Record, count-of, rising}
+use Rattle.theory.specs.Records.{Record, rising}
 use Rattle.theory.specs.Settings.{Settings, allowed, Card, key-width, card-of, record-size, ledger-length, work-length}
 use Rattle.theory.specs.Placing.{true-count}
 use Rattle.theory.specs.Layout.{Areas, layout}
@@ -18,7 +18,7 @@ use Rattle.theory.specs.Ledger.{Call, clear, add, change, remove, search
 use Rattle.theory.specs.Ledger.{side-short, refusal, search-by, seen-by, plain}
 use Rattle.theory.specs.Calls.{reply-number, ledger-records, ledger-invalid, update, call, lookup-lengths, all-lengths, lent-lengths, only-reads, perform}
 use Rattle.theory.specs.Calls.{run, areas-after, run-plain, list-after}
-use Rattle.theory.specs.Snapshot.{save, file-settings, file-count, file-records, load}
+use Rattle.theory.specs.Snapshot.{save, file-settings, file-count, file-records, head-wrong, load}
 use Rattle.theory.specs.Packet.{header-wrong, ports-cut, read-packet}
 use Rattle.theory.specs.Demands.{Small, HasLayout, Sized, RefusedUnchanged, ReadsKeep, RefusedLoad, RefusedSave, RefusedPacket, HeldFound, AbsentNotFound}
 use Rattle.theory.specs.Demands.{Demand3, SameFlowsSameBytes, AreasAfterRun, ListAfterRun, ReadsAtMostOne, OneBucket}
@@ -254,7 +254,7 @@ unfolding load
 refused-load f w a =
     let t = file-settings f in
     let s = card-of t in
-    by-test (ltb (length f) 16 || not (eqb (count-of f) 6)) (λ e. rw e (λ n. refl))
+    by-test (head-wrong f) (λ e. rw e (λ n. refl))
     (λ e. rw e (by-test (not (allowed t)) (λ e. rw e (λ n. refl))
     (λ e. rw e (by-test (not (all (λ x. x) (eqb w (work-length s) ∷ all-lengths s a))) (λ e. rw e (λ n. refl))
     (λ e. rw e (by-test (ltb (t .capacity) (file-count f)) (λ e. rw e (λ n. refl))

@@ -1,6 +1,6 @@
 -- Laws of snapshots: what was saved loads to the same settings and flows, and a file that loads is the one that saving then writes. Assumes nothing.
 use mathlib.Core.Path.{_≡_, refl, sym, ap, _∙_}
-use mathlib.Core.Bool.{Bool, true, false, cond, not, _||_}
+use mathlib.Core.Bool.{Bool, true, false, cond, not}
 use mathlib.Core.List.{List, [], _∷_, _++_, append-assoc, append-nil}
 use Prim.Native.Nat.{ℕ, _+_, _*_, _≤_, _<_}
 use native.Mathlib.Nat.{mul-comm, le-of-eq}
@@ -15,7 +15,7 @@ use Rattle.theory.specs.Settings.{Settings, allowed, Card, card-of, reco
 use Rattle.theory.specs.Layout.{Areas, layout, layout-by, counted-places}
 use Rattle.theory.specs.Ledger.{side-short}
 use Rattle.theory.specs.Calls.{ledger-records, ledger-invalid, all-lengths}
-use Rattle.theory.specs.Snapshot.{section, snapshot, Saved, save, Loaded, setting, file-settings, file-count, file-records, load}
+use Rattle.theory.specs.Snapshot.{section, snapshot, Saved, save, Loaded, setting, file-settings, file-count, file-records, head-wrong, load}
 use Rattle.theory.specs.Demands.{Byte, HasLayout, Sized, LoadSave, SaveLoad}
 use Rattle.theory.proofs.ListLaws.{all-every, all-each, all-map, all-drop, length-flat, or-left, or-right}
 use Rattle.theory.proofs.SettingsLaws.{ranges, sound}
@@ -106,7 +106,7 @@ module _ (t : Settings) (ok : allowed t ≡ true) (l : List Record) (g : HasLayo
   -- a snapshot loads: its settings, its list's layout
   pub load-snapshot : (a : Areas) → Sized (card-of t) a
       → load (snapshot t l) (work-length (card-of t)) a ≡ record { number = 0; settings = t; areas = layout (card-of t) l }
-  unfolding load
+  unfolding load head-wrong
   load-snapshot a z =
       let few : length l ≤ t .capacity = unfold card-of in g .few in
       rw (
@@ -198,10 +198,10 @@ module _ (f : List ℕ) (w : ℕ) (a : Areas) (done : load f w a .number ≡ 0) 
     wrote : load f w a ≡ record { number = 0; settings = t; areas = layout s (file-records f) }
 
   loading : Loading
-  unfolding load
+  unfolding load head-wrong
   loading =
       let n : Loaded → ℕ = λ x. x .number in
-      let b₁ = passed n (ltb (length f) 16 || not (eqb (count-of f) 6)) (λ q. omega arith) done in
+      let b₁ = passed n (head-wrong f) (λ q. omega arith) done in
       let b₂ = passed n (not (allowed t)) (λ q. omega arith) (b₁ .1) in
       let b₃ = passed n (not (all (λ x. x) (eqb w (work-length s) ∷ all-lengths s a))) (λ q. omega arith) (b₂ .1) in
       let b₄ = passed n (ltb (t .capacity) (file-count f)) (λ q. omega arith) (b₃ .1) in

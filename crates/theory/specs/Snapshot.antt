@@ -1,5 +1,5 @@
 -- Document 01, 'Snapshot': a file of settings and records, saved from a ledger area and loaded into every area. Assumes nothing.
-use mathlib.Core.Bool.{cond, not, _||_}
+use mathlib.Core.Bool.{Bool, cond, not, _||_}
 use mathlib.Core.List.{List, [], _∷_, _++_}
 use Prim.Native.Nat.{ℕ, _+_, _*_}
 use lib.Dec.{ltb, eqb}
@@ -66,16 +66,20 @@ file-count f = count-of (drop 14 f)
 unfoldable pub file-records : List ℕ → List Record
 file-records f = records (card-of (file-settings f) .width) (file-count f) (drop 16 f)
 
+-- "12, a cut .. file, a first count not 6": no allowed first count, its settings and the second count are there, and nothing else is judged
+unfoldable pub head-wrong : List ℕ → Bool
+head-wrong f = ltb (length f) 16 || not (eqb (count-of f) 6)
+
 -- refused: settings handed back are zeros, areas unaltered
 abbrev pub not-loaded : ℕ → Areas → Loaded
 not-loaded n a = record { number = n; settings = record { p = 0; k = 0; room = 0; top = 0; capacity = 0; side-places = 0 }; areas = a }
 
--- 12 without an allowed first count, its settings and the second count; then 1, 2, 8, 12 for a cut or overlong file, 13, and 9 only when nothing else applies
+-- 12 for the head; then 1, 2, 8, 12 for a cut or overlong file, 13, and 9 only when nothing else applies
 unfoldable pub load : List ℕ → ℕ → Areas → Loaded
 load f w a =
     let t = file-settings f in
     let s = card-of t in
-    cond (ltb (length f) 16 || not (eqb (count-of f) 6)) (not-loaded 12 a)
+    cond (head-wrong f) (not-loaded 12 a)
     (cond (not (allowed t)) (not-loaded 1 a)
     (cond (not (all (λ x. x) (eqb w (work-length s) ∷ all-lengths s a))) (not-loaded 2 a)
     (cond (ltb (t .capacity) (file-count f)) (not-loaded 8 a)

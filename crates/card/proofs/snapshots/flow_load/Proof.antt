@@ -11,7 +11,7 @@ refuse-settings-area-requires c κs = search needs
 returns : tie.Need-returns
 returns c =
     let start = c .before .before .before .before .before .before .before .before .before .before in
-    settings-area-wrong (start .args .file .now) (length (start .args .work .now)) _ (start .args .settings .now) (c .before .if1 .taken) _ (c .refuse-settings-area .ensures _ _)
+    settings-area-wrong (start .args .file .now) (length (start .args .work .now)) _ (start .args .settings .now) (c .before .if1 .taken) _ (c .refuse-settings-area .ensures)
 
 load-requires : tie.Need-load-requires
 load-requires c κs = search needs

@@ -29,7 +29,7 @@ same-length c = search needs
 
 returns : tie.Need-returns
 returns c =
-    six-stored (c .args .to .now) (c .args .s .p) (c .args .s .k) (c .args .s .room) (c .args .s .top) (c .args .s .capacity) (c .args .s .«side_places») (c .pre)
+    six-stored (c .args .to .now) (c .args .given .p) (c .args .given .k) (c .args .given .room) (c .args .given .top) (c .args .given .capacity) (c .args .given .«side_places») (c .pre)
 
 pub write-settings-spec : {M : Type 1} → statement M
 write-settings-spec =

@@ -142,12 +142,12 @@ write-list-requires c κs =
 
 returns-3 : tie.Need-returns-3
 returns-3 c =
-    let write = c .before .before .before .before .before .before .before .before .before .before in
+    let write = c .before .before .before .before .before .before .before .before .before .before .before in
     let good = write .before .before .before .before .before .before .before .before in
     let place = good .before .before .before .before .before in
     let e = e place in
-    loads-0 (loading e) (none (counted place)) (place .place-records .result) (need-is place) (omega (arith, good .if2 .left, side-places-are (t e))) _
-    (write .write-list .ensures ∙ ap (layout (card-of (t e))) (all place))
+    loads-0 (loading e) (none (counted place)) (place .place-records .result) (need-is place) (omega (arith, good .if2 .left, side-places-are (t e)))
+    _ (c .given .ensures) _ (write .write-list .ensures ∙ ap (layout (card-of (t e))) (all place))
 
 pub load-lent-spec : {M : Type 1} → statement M
 load-lent-spec =
@@ -173,6 +173,7 @@ load-lent-spec =
     (λ c. let place = c .before .before .before .before .before .before .before .before .before .before .before .before in
     sym (length-take-le (n (counted place)) (kept place) (in-kept place)))
     write-list-requires
+    (λ c κs. search needs)
     (λ c. search needs)
     (λ c. search needs)
     (λ c. search needs)
