@@ -1,6 +1,6 @@
 -- Laws of tally: each loop over the buckets counts what the definition counts. Assumes nothing.
 use mathlib.Core.Path.{_≡_, refl, sym, _∙_}
-use mathlib.Core.Bool.{Bool, true, false, cond, not, _&&_, _||_, and-true}
+use mathlib.Core.Bool.{Bool, true, false, cond, not, _&&_, _||_}
 use mathlib.Core.List.{List, [], _∷_, map}
 use Prim.Native.Nat.{ℕ, suc, _+_, _-_, _*_, _/_, _≤_, _<_}
 use native.Mathlib.Numerals.{add-one}
@@ -9,17 +9,18 @@ use lib.Dec.{eqb, ltb, leb}
 use borrow.Author.Tests.{eqb-true, leb-true, leb-false, lt-ltb, le-ltb}
 use lib.ListN.{length, getD}
 use Rattle.theory.specs.Lists.{filter, any, all, upto, sum}
-use Rattle.theory.specs.Settings.{Settings, allowed, card-of, bucket-size, ledger-length, clipped-length, buckets-length, side-length}
+use Rattle.theory.specs.Settings.{Settings, allowed, card-of, bucket-size, ledger-length, clipped-length, buckets-length}
 use Rattle.theory.specs.Lookup.{counter, bucket-part}
 use Rattle.theory.specs.Records.{count-of}
 use Rattle.theory.specs.Ledger.{tally, Totals, no-totals, totalled}
 use Rattle.theory.specs.Calls.{marks, lookup-invalid, tally-areas, call, lookup-lengths, lent-lengths, perform}
-use Rattle.theory.proofs.ListLaws.{by-test, and-left, and-right, all-every, map-cong}
+use Rattle.theory.proofs.ListLaws.{by-test, all-every, all-each, map-cong}
 use Rattle.theory.proofs.SettingsLaws.{sound}
 use Rattle.settings.specs.declared.Settings as settings
 use Rattle.settings.specs.Checked.{paper}
 use Rattle.settings.proofs.Laws.{bucket-within}
 use Rattle.lookup.specs.Places.{Lent}
+use Rattle.lookup.specs.Answers.{lookup-areas}
 use Rattle.lookup.specs.Tallies.{read-areas}
 use Rattle.lookup.proofs.PlaceLaws.{mark-is}
 
@@ -122,33 +123,31 @@ module _ (t : Settings) (ledger clipped buckets side : List ℕ) where
   pub tally-1 : allowed t ≡ false → (x : Totals) → x ≡ no-totals 1 → record { reply = totalled x; state = read-areas ledger clipped buckets side } ≡ perform t 0 tally (read-areas ledger clipped buckets side)
   tally-1 a x e = tally-performs x (rw (a, e))
 
-  module _ (ok : allowed t ≡ true) (c : settings.Settings) (same : paper c ≡ t) (u x y z : ℕ) (eu : u ≡ ledger-length (card-of (paper c)))
-      (ex : x ≡ clipped-length (card-of (paper c))) (ey : y ≡ buckets-length (card-of (paper c))) (ez : z ≡ side-length (card-of (paper c))) where
-    abbrev lengths : Bool
-    lengths = eqb (length ledger) u && (eqb (length clipped) x && (eqb (length buckets) y && eqb (length side) z))
+  pub lengths-by : (c : settings.Settings) → paper c ≡ t → (u : ℕ) → u ≡ ledger-length (card-of (paper c)) → (right : Bool)
+      → right ≡ all (λ x. x) (lookup-lengths (card-of (paper c)) (lookup-areas clipped buckets side)) → lengths-right ≡ (eqb (length ledger) u && right)
+  unfolding lookup-lengths
+  lengths-by c same u eu right er = rw (eu, er, same)
 
-    lengths-are : lengths-right ≡ lengths
-    unfolding lookup-lengths
-    lengths-are = rw (and-true, eu, ex, ey, ez, same)
+  -- the settings are allowed, and the lengths are judged
+  pub record Checked (s : settings.Settings) (lengths : Bool) : Type 0 where
+    pub ok : allowed t ≡ true
+    pub same : paper s ≡ t
+    pub lengths-are : lengths-right ≡ lengths
 
+  module _ {s : settings.Settings} {lengths : Bool} (c : Checked s lengths) where
     pub tally-2 : lengths ≡ false → (r : Totals) → r ≡ no-totals 2
         → record { reply = totalled r; state = read-areas ledger clipped buckets side } ≡ perform t 0 tally (read-areas ledger clipped buckets side)
-    tally-2 e r f = tally-performs r (rw (ok, lengths-are, e, f))
+    tally-2 e r f = tally-performs r (rw (c .ok, c .lengths-are, e, f))
 
-    pub tally-on : lengths ≡ true → (r : Totals) → r ≡ tally-areas (card-of (paper c)) (read-areas ledger clipped buckets side)
+    pub tally-on : lengths ≡ true → (r : Totals) → r ≡ tally-areas (card-of (paper s)) (read-areas ledger clipped buckets side)
         → record { reply = totalled r; state = read-areas ledger clipped buckets side } ≡ perform t 0 tally (read-areas ledger clipped buckets side)
-    tally-on e r f = tally-performs r (rw (ok, lengths-are, e, f, same))
+    tally-on e r f = tally-performs r (rw (c .ok, c .lengths-are, e, f, c .same))
 
-    pub tally-lent : lengths ≡ true → Lent (paper c) clipped buckets side × (length ledger ≡ ledger-length (card-of (paper c)))
+    pub tally-lent : lengths ≡ true → Lent (paper s) clipped buckets side × (length ledger ≡ ledger-length (card-of (paper s)))
+    unfolding lookup-lengths
     tally-lent e =
-        let h = and-left (eqb (length ledger) u) _ e in
-        let e₁ = and-right (eqb (length ledger) u) _ e in
-        let e₂ = and-right (eqb (length clipped) x) _ e₁ in (
-          record {
-            ok = rw same ok;
-            clipped-size = eqb-true _ _ (and-left (eqb (length clipped) x) _ e₁) ∙ ex;
-            buckets-size = eqb-true _ _ (and-left (eqb (length buckets) y) _ e₂) ∙ ey;
-            side-size = eqb-true _ _ (and-right (eqb (length buckets) y) _ e₂) ∙ ez;
-          },
-          eqb-true _ _ h ∙ eu,
+        let h = all-each (λ x. x) (eqb (length ledger) (ledger-length (card-of t)) ∷ lookup-lengths (card-of t) (read-areas ledger clipped buckets side)) (c .lengths-are ∙ e) in
+        rw (c .same) (
+          record { ok = c .ok; clipped-size = eqb-true _ _ (h .1 .0); buckets-size = eqb-true _ _ (h .1 .1 .0); side-size = eqb-true _ _ (h .1 .1 .1 .0) },
+          eqb-true _ _ (h .0),
         )

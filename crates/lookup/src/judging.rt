@@ -2,6 +2,7 @@
 use settings::Checked;
 use settings::Given;
 use settings::Settings;
+use settings::lengths::lookup_lengths_right;
 ghost use mathlib.Core.Path.{_≡_};
 ghost use mathlib.Core.Bool.{true};
 ghost use Rattle.theory.specs.Lists.{all};
@@ -17,14 +18,11 @@ pub enum Judged {
 }
 
 // The lookup areas have their lengths.
-fn areas_right(s: Settings, clipped: &[u8], buckets: &[u8], side: &[u8]) -> bool
+pub fn areas_right(s: Settings, clipped: &[u8], buckets: &[u8], side: &[u8]) -> bool
     requires { ⌜ allowed (paper s) ≡ true ⌝ }
     ensures { λ r. ⌜ r ≡ all (λ x. x) (lookup-lengths (card-of (paper s)) (lookup-areas (now (clipped .entry)) (now (buckets .entry)) (now (side .entry)))) ⌝ }
 {
-    let clipped_right = clipped.len() == s.clipped_length();
-    let buckets_right = buckets.len() == s.buckets_length();
-    let side_right = side.len() == s.side_length();
-    clipped_right & (buckets_right & side_right)
+    lookup_lengths_right(s, clipped.len(), buckets.len(), side.len())
 }
 
 // 2, the length of an area; 3, a key not of the card's width.

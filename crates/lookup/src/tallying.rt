@@ -1,5 +1,6 @@
 // Tally: what the areas hold, counted.
 use crate::counters::counter;
+use crate::judging::areas_right;
 use settings::Checked;
 use settings::Given;
 use settings::Settings;
@@ -185,11 +186,7 @@ pub fn tally(given: Given, ledger: &[u8], clipped: &[u8], buckets: &[u8], side: 
     let Checked::Allowed(s) = checked else {
         return no_totals(1);
     };
-    let ledger_right = ledger.len() == s.ledger_length();
-    let clipped_right = clipped.len() == s.clipped_length();
-    let buckets_right = buckets.len() == s.buckets_length();
-    let side_right = side.len() == s.side_length();
-    if !(ledger_right & (clipped_right & (buckets_right & side_right))) {
+    if !((ledger.len() == s.ledger_length()) & areas_right(s, clipped, buckets, side)) {
         return no_totals(2);
     }
     tally_lent(s, ledger, clipped, buckets, side)

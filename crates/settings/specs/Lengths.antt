@@ -1,5 +1,6 @@
 -- The lengths of the five areas that a call is lent, as the code holds them. Assumes nothing.
 use mathlib.Core.Bool.{Bool, _&&_}
+use Prim.Native.Nat.{ℕ}
 use lib.Dec.{eqb}
 use lib.ListN.{length}
 use Rattle.theory.specs.Settings.{Card, ledger-length, true-length, clipped-length, buckets-length, side-length}
@@ -10,9 +11,11 @@ abbrev pub lengths-of : Areas → Lengths
 lengths-of a =
     record { ledger = length (a .ledger); «true_counts» = length (a .true-counts); clipped = length (a .clipped-counts); buckets = length (a .buckets); side = length (a .side-store) }
 
--- each is as the settings say
+-- each is as the settings say: of the lookup areas, and of all five
+abbrev pub right-lookup-lengths : Card → ℕ → ℕ → ℕ → Bool
+right-lookup-lengths s clipped buckets side =
+    eqb clipped (clipped-length s) && (eqb buckets (buckets-length s) && eqb side (side-length s))
+
 abbrev pub right-lengths : Card → Lengths → Bool
 right-lengths s l =
-    eqb (l .ledger) (ledger-length s)
-    && (eqb (l .«true_counts») (true-length s)
-    && (eqb (l .clipped) (clipped-length s) && (eqb (l .buckets) (buckets-length s) && eqb (l .side) (side-length s))))
+    eqb (l .ledger) (ledger-length s) && (eqb (l .«true_counts») (true-length s) && right-lookup-lengths s (l .clipped) (l .buckets) (l .side))

@@ -7,7 +7,7 @@ use Rattle.lookup.proofs.judging.areas_right.Tie as tie
 
 returns : tie.Need-returns
 unfolding lookup-lengths
-returns c = rw (and-true, c .before .before .clipped-length .ensures, c .before .buckets-length .ensures, c .side-length .ensures)
+returns c = rw (and-true, c .lookup-lengths-right .ensures)
 
 pub areas-right-spec : {M : Type 1} → statement M
-areas-right-spec = tie.close (tie.spec (λ c κs. search needs) (λ c κs. search needs) (λ c κs. search needs) returns)
+areas-right-spec = tie.close (tie.spec (λ c κs. search needs) returns)

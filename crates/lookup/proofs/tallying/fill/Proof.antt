@@ -1,12 +1,18 @@
--- `lookup::tallying::fill` meets its contract: what the code computes is the definition. Assumes nothing.
+-- `lookup::tallying::fill` meets its contract: what the code computes is the definition.
 use mathlib.Core.Path.{refl}
-use Prim.Native.Nat.{_+_, _*_}
+use Prim.Native.Nat.{ℕ, _/_, _<_, _^_}
 use native.Mathlib.Nat.{div-le-self}
 use native.Mathlib.Omega.{arith}
+use mir.Syntax.{w32}
+use mir.Val.{Fits}
 use Rattle.theory.specs.Ledger.{fill-of}
 use borrow.Author.Needs.{needs}
 use Rattle.lookup.proofs.tallying.fill.Statement.{statement}
 use Rattle.lookup.proofs.tallying.fill.Tie as tie
+
+-- a quotient fits where its dividend does
+quotient-fits : (x y : ℕ) → x < 2 ^ 32 → Fits w32 (x / y)
+quotient-fits x y h = omega (arith, div-le-self x y)
 
 mul-result : tie.Need-mul-result
 mul-result c = search needs
@@ -21,7 +27,7 @@ div-result : tie.Need-div-result
 div-result c = search needs
 
 cast-result : tie.Need-cast-result
-cast-result c = omega (arith, div-le-self (200 * c .args .n + c .args .m) (2 * c .args .m))
+cast-result c = quotient-fits _ _ (omega arith)
 
 returns : tie.Need-returns
 unfolding fill-of

@@ -1,109 +1,82 @@
--- `lookup::tallying::tally` meets its contract: 1, 2, then tally on areas of their lengths. Assumes nothing.
+-- `lookup::tallying::tally` meets its contract: 1, 2, then tally on areas of their lengths.
+use mathlib.Core.Path.{_≡_}
+use mathlib.Core.Bool.{true, _&&_}
+use lib.Dec.{eqb}
+use lib.ListN.{length}
 use borrow.Author.Tests.{not-true, not-false}
-use Rattle.settings.specs.Checked.{given-of}
+use Rattle.theory.specs.Settings.{Settings, allowed}
+use Rattle.settings.specs.declared.Settings as code
+use Rattle.settings.specs.Checked.{paper, given-of}
 use Rattle.settings.proofs.Laws.{allowed-arm, refused-arm, allowed-settings}
 use Rattle.lookup.specs.Tallies.{totals-of}
-use Rattle.lookup.proofs.TallyLaws.{tally-1, tally-2, tally-lent, tally-on}
+use Rattle.lookup.proofs.TallyLaws.{tally-1, lengths-by, Checked, tally-2, tally-on, tally-lent}
 use borrow.Author.Needs.{needs}
 use Rattle.lookup.proofs.tallying.tally.Statement.{statement}
 use Rattle.lookup.proofs.tallying.tally.Tie as tie
 
-new-requires : tie.Need-new-requires
-new-requires c κs = search needs
+-- ---- what the call is given
+module _ (c : tie.After-new) where
+  abbrev start : tie.Start
+  start = c .before .before .before .before .before
 
-enum-known-checked : tie.Need-enum-known-checked
-enum-known-checked c = search needs
-
-enum-told : tie.Need-enum-told
-enum-told c = search needs
-
-no-totals-requires : tie.Need-no-totals-requires
-no-totals-requires c κs = search needs
+  abbrev t : Settings
+  t = given-of (start .args .given)
 
 returns : tie.Need-returns
 returns c =
-    let start = c .before .before .before .before .before .before .before .before in
-    let new = c .before .before .before .new in
-    tally-1 (given-of (start .args .given)) (start .args .ledger .now) (start .args .clipped .now) (start .args .buckets .now) (start .args .side .now) (refused-arm (given-of (start .args .given)) (new .result) (new .ensures) (c .before .enum-told .given .1)) (totals-of (c .no-totals .result)) (c .no-totals .ensures)
+    let new = c .before .before .before in
+    let a = start new .args in
+    tally-1 (t new) (a .ledger .now) (a .clipped .now) (a .buckets .now) (a .side .now)
+    (refused-arm (t new) (new .new .result) (new .new .ensures) (c .before .enum-told .given .1)) (totals-of (c .no-totals .result)) (c .no-totals .ensures)
 
-ledger-length-requires : tie.Need-ledger-length-requires
-ledger-length-requires c κs =
-    let start = c .before .before .before .before .before .before .before .before in
-    let new = c .before .before .before .new in
-    let checked = c .before .checked in
-    allowed-settings (given-of (start .args .given)) (new .result) (new .ensures) (checked .given .0 .0) (checked .given .1)
+-- ---- the settings are allowed
+module _ (c : tie.After-known-told) where
+  abbrev new : tie.After-new
+  new = c .before .before .before
 
-clipped-length-requires : tie.Need-clipped-length-requires
-clipped-length-requires c κs =
-    let start = c .before .before .before .before .before .before .before .before .before in
-    let new = c .before .before .before .before .new in
-    let checked = c .before .before .checked in
-    allowed-settings (given-of (start .args .given)) (new .result) (new .ensures) (checked .given .0 .0) (checked .given .1)
+  abbrev s : code.Settings
+  s = c .before .checked .given .0 .0
 
-buckets-length-requires : tie.Need-buckets-length-requires
-buckets-length-requires c κs =
-    let start = c .before .before .before .before .before .before .before .before .before .before in
-    let new = c .before .before .before .before .before .new in
-    let checked = c .before .before .before .checked in
-    allowed-settings (given-of (start .args .given)) (new .result) (new .ensures) (checked .given .0 .0) (checked .given .1)
+  fine : (allowed (t new) ≡ true) × (paper s ≡ t new)
+  fine = allowed-arm (t new) (new .new .result) (new .new .ensures) s (c .before .checked .given .1)
 
-side-length-requires : tie.Need-side-length-requires
-side-length-requires c κs =
-    let start = c .before .before .before .before .before .before .before .before .before .before .before in
-    let new = c .before .before .before .before .before .before .new in
-    let checked = c .before .before .before .before .checked in
-    allowed-settings (given-of (start .args .given)) (new .result) (new .ensures) (checked .given .0 .0) (checked .given .1)
+  ok : allowed (paper s) ≡ true
+  ok = allowed-settings (t new) (new .new .result) (new .new .ensures) s (c .before .checked .given .1)
 
-no-totals-requires-2 : tie.Need-no-totals-requires-2
-no-totals-requires-2 c κs = search needs
+-- ---- and the lengths are judged
+module _ (c : tie.After-areas-right) where
+  abbrev known : tie.After-known-told
+  known = c .before .before
+
+  judged : Checked (t (new known)) (start (new known) .args .ledger .now) (start (new known) .args .clipped .now) (start (new known) .args .buckets .now)
+      (start (new known) .args .side .now) (s known) (eqb (length (start (new known) .args .ledger .now)) (c .before .ledger-length .result) && c .areas-right .result)
+  judged =
+      let a = start (new known) .args in
+      record {
+        ok = fine known .0;
+        same = fine known .1;
+        lengths-are = lengths-by (t (new known)) (a .ledger .now) (a .clipped .now) (a .buckets .now) (a .side .now) (s known) (fine known .1)
+            (c .before .ledger-length .result) (c .before .ledger-length .ensures) (c .areas-right .result) (c .areas-right .ensures);
+      }
 
 returns-2 : tie.Need-returns-2
-returns-2 c =
-    let start = c .before .before .before .before .before .before .before .before .before .before .before .before .before .before in
-    let new = c .before .before .before .before .before .before .before .before .before .new in
-    let checked = c .before .before .before .before .before .before .before .checked in
-    let ledger-length = c .before .before .before .before .before .ledger-length in
-    let clipped-length = c .before .before .before .before .clipped-length in
-    let buckets-length = c .before .before .before .buckets-length in
-    let side-length = c .before .before .side-length in
-    let arm = allowed-arm (given-of (start .args .given)) (new .result) (new .ensures) (checked .given .0 .0) (checked .given .1) in tally-2 (given-of (start .args .given)) (start .args .ledger .now) (start .args .clipped .now) (start .args .buckets .now) (start .args .side .now) (arm .0) (checked .given .0 .0) (arm .1) (ledger-length .result) (clipped-length .result) (buckets-length .result) (side-length .result) (ledger-length .ensures) (clipped-length .ensures) (buckets-length .ensures) (side-length .ensures) (not-true _ (c .before .if1 .taken)) (totals-of (c .no-totals2 .result)) (c .no-totals2 .ensures)
-
-tally-lent-requires : tie.Need-tally-lent-requires
-tally-lent-requires c κs =
-    let start = c .before .before .before .before .before .before .before .before .before .before .before .before .before in
-    let new = c .before .before .before .before .before .before .before .before .new in
-    let checked = c .before .before .before .before .before .before .checked in
-    let ledger-length = c .before .before .before .before .ledger-length in
-    let clipped-length = c .before .before .before .clipped-length in
-    let buckets-length = c .before .before .buckets-length in
-    let side-length = c .before .side-length in
-    let arm = allowed-arm (given-of (start .args .given)) (new .result) (new .ensures) (checked .given .0 .0) (checked .given .1) in tally-lent (given-of (start .args .given)) (start .args .ledger .now) (start .args .clipped .now) (start .args .buckets .now) (start .args .side .now) (arm .0) (checked .given .0 .0) (arm .1) (ledger-length .result) (clipped-length .result) (buckets-length .result) (side-length .result) (ledger-length .ensures) (clipped-length .ensures) (buckets-length .ensures) (side-length .ensures) (not-false _ (c .if1 .left))
+returns-2 c = tally-2 _ _ _ _ _ (judged (c .before .before)) (not-true _ (c .before .if1 .taken)) (totals-of (c .no-totals2 .result)) (c .no-totals2 .ensures)
 
 returns-3 : tie.Need-returns-3
-returns-3 c =
-    let start = c .before .before .before .before .before .before .before .before .before .before .before .before .before .before in
-    let new = c .before .before .before .before .before .before .before .before .before .new in
-    let checked = c .before .before .before .before .before .before .before .checked in
-    let ledger-length = c .before .before .before .before .before .ledger-length in
-    let clipped-length = c .before .before .before .before .clipped-length in
-    let buckets-length = c .before .before .before .buckets-length in
-    let side-length = c .before .before .side-length in
-    let arm = allowed-arm (given-of (start .args .given)) (new .result) (new .ensures) (checked .given .0 .0) (checked .given .1) in tally-on (given-of (start .args .given)) (start .args .ledger .now) (start .args .clipped .now) (start .args .buckets .now) (start .args .side .now) (arm .0) (checked .given .0 .0) (arm .1) (ledger-length .result) (clipped-length .result) (buckets-length .result) (side-length .result) (ledger-length .ensures) (clipped-length .ensures) (buckets-length .ensures) (side-length .ensures) (not-false _ (c .before .if1 .left)) (totals-of (c .tally-lent .result)) (c .tally-lent .ensures)
+returns-3 c = tally-on _ _ _ _ _ (judged (c .before .before)) (not-false _ (c .before .if1 .left)) (totals-of (c .tally-lent .result)) (c .tally-lent .ensures)
 
 pub tally-spec : {M : Type 1} → statement M
 tally-spec =
     tie.close
     (tie.spec
-    new-requires
-    enum-known-checked
-    enum-told
-    no-totals-requires
+    (λ c κs. search needs)
+    (λ c. search needs)
+    (λ c. search needs)
+    (λ c κs. search needs)
     returns
-    ledger-length-requires
-    clipped-length-requires
-    buckets-length-requires
-    side-length-requires
-    no-totals-requires-2
+    (λ c κs. ok c)
+    (λ c κs. ok (c .before))
+    (λ c κs. search needs)
     returns-2
-    tally-lent-requires
+    (λ c κs. tally-lent _ _ _ _ _ (judged (c .before)) (not-false _ (c .if1 .left)))
     returns-3)
