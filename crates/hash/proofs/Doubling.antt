@@ -10,7 +10,8 @@ use lib.Seq.{length-take-le}
 use Rattle.theory.specs.Lists.{flat, upto}
 use Rattle.theory.specs.Hash.{if-set, rows-of}
 use Rattle.theory.proofs.ListLaws.{all-every, map-cong}
-use Rattle.hash.specs.Table.{xor-set, table-entries-at}
+use Rattle.hash.specs.Digits.{table-entries-at}
+use Rattle.hash.specs.Table.{xor-set}
 use Rattle.hash.proofs.RowLaws.{From, from-drop, xor-set-rows}
 
 -- each entry, and its xor with row r

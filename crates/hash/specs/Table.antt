@@ -1,26 +1,11 @@
--- The constant table of document 01, 'Hash', for a key cut into digits of some number of bits: an entry for each digit position and digit value.
-use mathlib.Core.Path.{_≡_}
-use mathlib.Core.List.{List, [], _∷_, map}
-use Prim.Native.Nat.{ℕ, suc, _+_, _*_, _/_, _%_, _^_, _<_}
+-- A table that is lent for keys of some width, and what it gives for a key, document 01, 'Hash'.
+use mathlib.Core.List.{List, [], _∷_}
+use Prim.Native.Nat.{ℕ, suc, _+_, _*_, _/_, _%_}
 use lib.Bits.{bitXor}
 use lib.ListN.{getD}
-use Rattle.theory.specs.Lists.{flat, upto}
-use Rattle.theory.specs.Hash.{if-set, rows-of}
-
--- "its entries follow the rows": entry a * 2^bits + v is the xor of the rows of the set bits of value v at position a, whose rows are those from bits * a on
-pub record TableRight (bits places : ℕ) (t : List ℕ) : Type 0 where
-  pub entry : (a v : ℕ) → a < places → v < 2 ^ bits → getD t (a * 2 ^ bits + v) 0 ≡ rows-of bits (bits * a) v
-
--- "an entry for each of 13 byte positions and 256 byte values", there with 8 bits and 13 places: how many entries
-abbrev pub table-length : ℕ → ℕ → ℕ
-table-length bits places = places * 2 ^ bits
-
--- and the entries: those of position a, and all
-unfoldable pub table-entries-at : ℕ → ℕ → List ℕ
-table-entries-at bits a = map (λ v. rows-of bits (bits * a) v) (upto 0 (2 ^ bits))
-
-unfoldable pub table-entries : ℕ → ℕ → List ℕ
-table-entries bits places = flat (table-entries-at bits) (upto 0 places)
+use Rattle.theory.specs.Hash.{if-set}
+use Rattle.hash.specs.Digits as digits
+use Rattle.hash.specs.Digits.{table-length}
 
 -- the lengths that a lent table may have for keys of w bytes: one entry for each byte position and byte value
 unfoldable pub table-lengths : ℕ → List ℕ
@@ -28,7 +13,14 @@ table-lengths w = table-length 8 w ∷ []
 
 -- a lent table is right for keys of w bytes
 abbrev pub TableFor : ℕ → List ℕ → Type 0
-TableFor w t = TableRight 8 w t
+TableFor w t = digits.TableRight 8 w t
+
+-- the names that lookup and card still cite: a right table, and its entries
+abbrev pub TableRight : ℕ → List ℕ → Type 0
+TableRight w t = TableFor w t
+
+abbrev pub table-entries : ℕ → List ℕ
+table-entries w = digits.table-entries 8 w
 
 -- "the same H with one read a byte": what a table gives for key bytes, the first of which is byte a, the xor of the entries that are read,
 -- whatever the table holds

@@ -10,7 +10,8 @@ ghost use Prim.Native.Nat.{_*_, _%_, _^_, _<_, _≤_};
 ghost use lib.ListN.{length};
 ghost use Rattle.theory.specs.Lists.{has};
 ghost use Rattle.theory.specs.Hash.{xorshift64, if-set, H as H-of, hash, hashes, numbers-of};
-ghost use Rattle.hash.specs.Table.{TableRight, table-length, table-entries, TableFor, H-by, xor-set};
+ghost use Rattle.hash.specs.Digits.{TableRight, table-length, table-entries};
+ghost use Rattle.hash.specs.Table.{TableFor, H-by, xor-set};
 ghost use Rattle.hash.specs.Numbering.{Holds};
 
 // A step of xorshift64 (Marsaglia, 2003).

@@ -19,7 +19,8 @@ use Rattle.theory.proofs.PlacingLaws.{chosen-below}
 use Rattle.settings.specs.declared.Settings.{Settings}
 use Rattle.settings.specs.Checked.{paper}
 use Rattle.settings.proofs.Laws.{width-is, top-is, bounds}
-use Rattle.hash.specs.Table.{table-length, TableFor}
+use Rattle.hash.specs.Digits.{table-length}
+use Rattle.hash.specs.Table.{TableFor}
 use Rattle.hash.proofs.TableLaws.{length-allowed, lent-length}
 use Rattle.placing.specs.Ready.{Ready}
 

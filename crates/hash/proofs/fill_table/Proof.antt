@@ -8,7 +8,7 @@ use native.Mathlib.Omega.{arith}
 use borrow.Author.Needs.{needs}
 use lib.ListN.{length, take, getD, set, length-set}
 use lib.Seq.{take-suc, take-suc-set, take-all}
-use Rattle.hash.proofs.TableLaws.{right-table-entries}
+use Rattle.hash.proofs.DigitLaws.{right-table-entries}
 use Rattle.hash.proofs.fill_table.Statement.{statement}
 use Rattle.hash.proofs.fill_table.Tie as tie
 
