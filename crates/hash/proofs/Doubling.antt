@@ -1,9 +1,8 @@
 -- A table built of rows with one xor for two entries, and what it is: the xor over set bits at each value.
--- Assumes nothing.
 use mathlib.Core.Path.{_≡_, refl, sym, ap, ap₂, _∙_, subst}
 use mathlib.Core.List.{List, [], _∷_, _++_, map}
 use Prim.Native.Nat.{ℕ, zero, suc, _+_, _*_, _/_, _%_, _^_, _≤_}
-use native.Mathlib.Nat.{pow-suc}
+use native.Mathlib.Nat.{pow-suc, mul-suc}
 use native.Mathlib.Omega.{arith}
 use lib.Bits.{bitXor}
 use lib.ListN.{length, take, drop, length-drop}
@@ -11,7 +10,8 @@ use lib.Seq.{length-take-le}
 use Rattle.theory.specs.Lists.{flat, upto}
 use Rattle.theory.specs.Hash.{if-set, rows-of}
 use Rattle.theory.proofs.ListLaws.{all-every, map-cong}
-use Rattle.hash.specs.Table.{xor-set, table-entries-at}
+use Rattle.hash.specs.Digits.{table-entries-at}
+use Rattle.hash.specs.Table.{xor-set}
 use Rattle.hash.proofs.RowLaws.{From, from-drop, xor-set-rows}
 
 -- each entry, and its xor with row r
@@ -19,15 +19,15 @@ unfoldable pub doubled : ℕ → List ℕ → List ℕ
 doubled r [] = []
 doubled r (x ∷ xs) = x ∷ bitXor r x ∷ doubled r xs
 
--- the entries of one byte position
+-- the entries of one position, a row for each of its bits
 unfoldable pub block : List ℕ → List ℕ
 block [] = 0 ∷ []
 block (r ∷ rs) = doubled r (block rs)
 
--- the entries of w byte positions, eight rows for each
-unfoldable pub built : ℕ → List ℕ → List ℕ
-built zero rs = []
-built (suc w) rs = block (take 8 rs) ++ built w (drop 8 rs)
+-- the entries of positions of some number of bits
+unfoldable pub built : ℕ → ℕ → List ℕ → List ℕ
+built bits zero rs = []
+built bits (suc places) rs = block (take bits rs) ++ built bits places (drop bits rs)
 
 -- an entry of a doubled list, by the lowest bit of its place
 abbrev lowest : ℕ → (ℕ → ℕ) → ℕ → ℕ
@@ -69,11 +69,13 @@ block-rows n i rs h e =
     ∙ ap (λ (k : ℕ). map (xor-set (take n rs)) (upto 0 (2 ^ k))) (length-take-le n rs h)
     ∙ map-cong (xor-set (take n rs)) (λ v. rows-of n i v) (upto 0 (2 ^ n)) (all-every (xor-set-rows n i rs h e) (upto 0 (2 ^ n)))
 
-pub built-is : (w a : ℕ) (rs : List ℕ) → 8 * w ≤ length rs → From (8 * a) rs → built w rs ≡ flat table-entries-at (upto a w)
+pub built-is : (bits places a : ℕ) (rs : List ℕ) → bits * places ≤ length rs → From (bits * a) rs
+    → built bits places rs ≡ flat (table-entries-at bits) (upto a places)
 unfolding built table-entries-at
-built-is zero a rs h e = refl
-built-is (suc w) a rs h e =
-    let eight : 8 ≤ length rs = omega arith in
-    let next : 8 * a + 8 ≡ 8 * suc a = omega arith in
-    ap₂ (λ (x y : List ℕ). x ++ y) (block-rows 8 (8 * a) rs eight e)
-    (built-is w (suc a) (drop 8 rs) (omega (arith, length-drop 8 rs)) (subst (λ (i : ℕ). From i (drop 8 rs)) next (from-drop 8 (8 * a) rs eight e)))
+built-is bits zero a rs h e = refl
+built-is bits (suc n) a rs h e =
+    let more = mul-suc bits n in
+    let first : bits ≤ length rs = omega arith in
+    let here = block-rows bits (bits * a) rs first e in
+    let next = subst (λ (i : ℕ). From i (drop bits rs)) (sym (mul-suc bits a)) (from-drop bits (bits * a) rs first e) in
+    ap₂ (λ (x y : List ℕ). x ++ y) here (built-is bits n (suc a) (drop bits rs) (omega (arith, length-drop bits rs)) next)

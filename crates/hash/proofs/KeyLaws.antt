@@ -11,7 +11,7 @@ use lib.Bits.{bitXor, xor-zero-r}
 use lib.ListN.{length, getD, take, drop, length-drop, drop-of-length-le}
 use lib.Seq.{drop-cons}
 use Rattle.theory.specs.Hash.{H-from, H}
-use Rattle.hash.specs.Table.{TableRight, H-by-from, H-by, xor-set}
+use Rattle.hash.specs.Table.{TableFor, H-by-from, H-by, xor-set}
 use Rattle.hash.proofs.Constants.{rows}
 use Rattle.hash.proofs.Xor.{xor-assoc}
 use Rattle.hash.proofs.RowLaws.{From, from-drop, xor-set-rows, rows-from, length-rows}
@@ -32,7 +32,7 @@ unfolding H-by-from
 by-end t key i h hi e = sym (ap (λ (l : List ℕ). bitXor h (H-by-from t i l)) (drop-of-length-le key hi) ∙ xor-zero-r h) ∙ e
 
 -- a right table gives H of a key of bytes
-module _ (w : ℕ) (t : List ℕ) (right : TableRight w t) where
+module _ (w : ℕ) (t : List ℕ) (right : TableFor w t) where
   by-right-from : (a : ℕ) (vs : List ℕ) → a + length vs ≤ w → ((j : ℕ) → getD vs j 0 < 256) → H-by-from t a vs ≡ H-from a vs
   unfolding H-by-from H-from
   by-right-from a [] fits bytes = refl

@@ -3,6 +3,7 @@ pub mod Xor
 pub mod Bounds
 pub mod RowLaws
 pub mod Doubling
+pub mod DigitLaws
 pub mod TableLaws
 pub mod KeyLaws
 pub mod NumberingLaws

@@ -10,7 +10,8 @@ ghost use Prim.Native.Nat.{_*_, _%_, _^_, _<_, _≤_};
 ghost use lib.ListN.{length};
 ghost use Rattle.theory.specs.Lists.{has};
 ghost use Rattle.theory.specs.Hash.{xorshift64, if-set, H as H-of, hash, hashes, numbers-of};
-ghost use Rattle.hash.specs.Table.{TableRight, H-by, table-entries, xor-set};
+ghost use Rattle.hash.specs.Digits.{TableRight, table-length, table-entries};
+ghost use Rattle.hash.specs.Table.{TableFor, H-by, xor-set};
 ghost use Rattle.hash.specs.Numbering.{Holds};
 
 // A step of xorshift64 (Marsaglia, 2003).
@@ -28,15 +29,15 @@ pub const TABLE_LENGTH: usize = 3328;
 // The table of H.
 // Today's compiler rebuilds a constant array on the stack at each read, so callers make the table once here and lend it.
 pub fn table() -> [u64; 3328]
-    ensures { λ r. ⌜ TableRight 13 r ⌝ }
+    ensures { λ r. ⌜ TableRight 8 13 r ⌝ }
 {
     entries::TABLE
 }
 
 // Writes the table, made once, to a lent slice.
 pub fn fill_table(out: &mut [u64])
-    requires { ⌜ length (now out) ≡ 3328 ⌝ }
-    ensures { λ _. ⌜ now (out .exit) ≡ table-entries 13 ⌝ }
+    requires { ⌜ length (now out) ≡ table-length 8 13 ⌝ }
+    ensures { λ _. ⌜ now (out .exit) ≡ table-entries 8 13 ⌝ }
 {
     let t = table();
     let mut i: usize = 0;
@@ -48,8 +49,9 @@ pub fn fill_table(out: &mut [u64])
 
 // The xor of a lent table's entries for the bytes of a key, with one read a byte; a right table gives H.
 pub fn h_lent(t: &[u64], key: &[u8]) -> u64
-    requires { ⌜ 256 * length (now key) ≤ length (now t) ⌝ }
-    ensures { λ r. ⌜ (r ≡ H-by (now (t .entry)) (now (key .entry))) × (TableRight (length (now (key .entry))) (now (t .entry)) → r ≡ H-of (now (key .entry))) ⌝ }
+    requires { ⌜ table-length 8 (length (now key)) ≤ length (now t) ⌝ }
+    ensures { λ r. ⌜ (r ≡ H-by (now (t .entry)) (now (key .entry)))
+        × (TableFor (length (now (key .entry))) (now (t .entry)) → r ≡ H-of (now (key .entry))) ⌝ }
 {
     let mut h: u64 = 0;
     let mut i: usize = 0;

@@ -3,7 +3,7 @@
 use mathlib.Core.Path.{_≡_, sym, _∙_}
 use mathlib.Core.Bool.{true, false}
 use mathlib.Core.List.{List, map}
-use Prim.Native.Nat.{ℕ, _+_, _*_, _/_, _%_, _<_}
+use Prim.Native.Nat.{ℕ, _+_, _*_, _/_, _%_, _<_, _≤_}
 use native.Mathlib.Omega.{arith}
 use lib.Dec.{eqb}
 use lib.ListN.{length}
@@ -19,7 +19,9 @@ use Rattle.theory.proofs.PlacingLaws.{chosen-below}
 use Rattle.settings.specs.declared.Settings.{Settings}
 use Rattle.settings.specs.Checked.{paper}
 use Rattle.settings.proofs.Laws.{width-is, top-is, bounds}
-use Rattle.hash.specs.Table.{TableRight}
+use Rattle.hash.specs.Digits.{table-length}
+use Rattle.hash.specs.Table.{TableFor}
+use Rattle.hash.proofs.TableLaws.{length-allowed, lent-length}
 use Rattle.placing.specs.Ready.{Ready}
 
 -- ---- a key's bucket numbers are its hashes, repeats dropped
@@ -50,17 +52,22 @@ module _ (s : Settings) (t : List ℕ) (ready : Ready s t) where
   pub sound-card : Sound (card-of (paper s))
   sound-card = sound (paper s) (ready .ok)
 
-  pub right-for : (k : List ℕ) → length k ≡ card-of (paper s) .width → TableRight (length k) t
-  right-for k e = rw e (ready .right)
+  -- the table serves a key of the card's width
+  module _ (k : List ℕ) (wide : length k ≡ card-of (paper s) .width) where
+    pub right-for : TableFor (length k) t
+    right-for = rw wide (ready .right)
+
+    pub long-for : table-length 8 (length k) ≤ length t
+    long-for = omega (arith, wide, lent-length _ _ (ready .long))
 
   pub chosen-within : (c : ℕ → ℕ) (k : List ℕ) → all-top (card-of (paper s)) c k ≡ false → chosen (card-of (paper s)) c k < card-of (paper s) .buckets
   chosen-within c k e = chosen-below (card-of (paper s)) sound-card c k e
 
 -- the table that a call makes is the right one
-pub ready : (s : Settings) → allowed (paper s) ≡ true → (t : List ℕ) → TableRight 13 t → length t ≡ 3328 → Ready s t
+pub ready : (s : Settings) → allowed (paper s) ≡ true → (t : List ℕ) → TableFor 13 t → length t ≡ table-length 8 13 → Ready s t
 ready s ok t right long =
     record {
       ok = ok;
       right = rw (width-is (paper s)) right;
-      long = rw (width-is (paper s), long) (omega arith);
+      long = rw (width-is (paper s), long) (length-allowed (table-length 8 13) 13);
     }

@@ -1,19 +1,20 @@
--- What functions ask: allowed settings and the right table of the hash, long enough for a key; and records that can be placed. Assumes nothing.
+-- What functions ask: allowed settings and the right table of the hash, of an allowed length; and records that can be placed.
 use mathlib.Core.Path.{_≡_}
 use mathlib.Core.Bool.{true}
 use mathlib.Core.List.{List}
 use Prim.Native.Nat.{ℕ, _+_, _*_, _≤_}
 use lib.ListN.{length, drop}
+use Rattle.theory.specs.Lists.{has}
 use Rattle.theory.specs.Settings.{allowed, card-of}
 use Rattle.settings.specs.declared.Settings.{Settings}
 use Rattle.settings.specs.Checked.{paper}
-use Rattle.hash.specs.Table.{TableRight}
+use Rattle.hash.specs.Table.{table-lengths, TableFor}
 use Rattle.placing.specs.Worked.{nth}
 
 pub record Ready (s : Settings) (t : List ℕ) : Type 0 where
   pub ok : allowed (paper s) ≡ true
-  pub right : TableRight (card-of (paper s) .width) t
-  pub long : 256 * card-of (paper s) .width ≤ length t
+  pub right : TableFor (card-of (paper s) .width) t
+  pub long : has (length t) (table-lengths (card-of (paper s) .width)) ≡ true
 
 -- n records of an area can choose: work has m counts and then m numbers of choosers, which can grow by n, and kept a place for each choice
 pub record Choosing (s : Settings) (t : List ℕ) (m : ℕ) (work area : List ℕ) (n : ℕ) (kept : List ℕ) : Type 0 where

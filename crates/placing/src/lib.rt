@@ -49,8 +49,8 @@ fn raise_at(s: Settings, h: u64, counts: &mut [u16])
         let b = rest % m;
         let at = b as usize;
         let more = pick(hash::repeats(h, j, m, b), 0, 1) as u16;
-        let count = TrueCount(counts[at]).raised(more);
-        counts[at] = count.0;
+        let count = TrueCount::of_number(counts[at]).raised(more);
+        counts[at] = count.number();
         rest = rest / 65536;
         j += 1;
     }
@@ -98,7 +98,7 @@ fn choose_at(s: Settings, h: u64, counts: &[u16]) -> Choice
     while j < k {
         let b = rest % m;
         let at = b as usize;
-        let rank = TrueCount(counts[at]).rank(b);
+        let rank = TrueCount::of_number(counts[at]).rank(b);
         best = lower(rank, best);
         rest = rest / 65536;
         j += 1;

@@ -75,6 +75,14 @@ module _ (t : plain.Settings) where
   unfolding record-size card-of
   record-size-is = refl
 
+  -- a record, and so a key, has at most 64 bytes
+  pub record-most : record-size (card-of t) ≤ 64
+  record-most = omega (arith, record-size-is)
+
+  pub width-most : card-of t .width ≤ 64
+  unfolding record-size
+  width-most = omega (arith, record-most)
+
   pub bucket-size-is : bucket-size (card-of t) ≡ 1 + 17 * t .room
   unfolding bucket-size record-size card-of
   bucket-size-is = refl

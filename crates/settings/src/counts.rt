@@ -1,4 +1,4 @@
-// "a clipped count is never stored as or taken for a true count": each is a type of its own. A count is compared and ranked here, and not by its bare number.
+// "a clipped count is never stored as or taken for a true count": each is a type of its own. A count is made, compared and ranked here, and not by its bare number.
 ghost use mathlib.Core.Path.{_≡_};
 ghost use mathlib.Core.Bool.{cond};
 ghost use Prim.Native.Nat.{_+_, _*_, _/_, _%_, _<_, _≤_, min};
@@ -8,7 +8,7 @@ ghost use lib.Dec.{eqb, ltb};
 pub struct ClippedCount(pub u64);
 
 // How many held keys name a bucket.
-pub struct TrueCount(pub u16);
+pub struct TrueCount(u16);
 
 fn wide(byte: u8) -> u64
     ensures { λ r. ⌜ (r ≡ byte) × (r < 256) ⌝ }
@@ -30,6 +30,13 @@ pub fn lower(a: u64, b: u64) -> u64
 }
 
 impl ClippedCount {
+    // The count of a bucket that no key names.
+    pub fn zero() -> ClippedCount
+        ensures { λ r. ⌜ r .0 ≡ 0 ⌝ }
+    {
+        ClippedCount(0)
+    }
+
     // "bucket b in byte b / 2, an even b in the low four bits". Both halves are made and one is picked, so that no branch depends on the bucket.
     pub fn of_byte(byte: u8, b: usize) -> ClippedCount
         ensures { λ r. ⌜ (r .0 ≡ cond (eqb (b % 2) 0) (byte % 16) (byte / 16)) × (r .0 < 16) ⌝ }
@@ -85,6 +92,20 @@ impl ClippedCount {
 }
 
 impl TrueCount {
+    // A number of the true counts, which an area or work holds as 16 bits.
+    pub fn of_number(number: u16) -> TrueCount
+        ensures { λ r. ⌜ r .0 ≡ number ⌝ }
+    {
+        TrueCount(number)
+    }
+
+    // The number to store.
+    pub fn number(self) -> u16
+        ensures { λ r. ⌜ r ≡ self .0 ⌝ }
+    {
+        self.0
+    }
+
     pub fn clip(self, top: usize) -> ClippedCount
         requires { ⌜ top ≤ 15 ⌝ }
         ensures { λ r. ⌜ r .0 ≡ min (self .0) top ⌝ }

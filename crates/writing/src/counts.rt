@@ -27,8 +27,8 @@ pub fn write_clipped(top: usize, clipped: &mut [u8], counts: &[u16])
     while i < clipped.len() {
         let even = 2 * i;
         let odd = even + 1;
-        let low = TrueCount(counts[even]).clip(top);
-        let high = TrueCount(counts[odd]).clip(top);
+        let low = TrueCount::of_number(counts[even]).clip(top);
+        let high = TrueCount::of_number(counts[odd]).clip(top);
         clipped[i] = ClippedCount::byte_of(low, high);
         i += 1;
     }

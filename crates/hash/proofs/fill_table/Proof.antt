@@ -8,7 +8,7 @@ use native.Mathlib.Omega.{arith}
 use borrow.Author.Needs.{needs}
 use lib.ListN.{length, take, getD, set, length-set}
 use lib.Seq.{take-suc, take-suc-set, take-all}
-use Rattle.hash.proofs.TableLaws.{right-table-entries}
+use Rattle.hash.proofs.DigitLaws.{right-table-entries}
 use Rattle.hash.proofs.fill_table.Statement.{statement}
 use Rattle.hash.proofs.fill_table.Tie as tie
 
@@ -63,7 +63,7 @@ returns c =
     let l = c .before .loop in
     let made = c .before .before .table in
     whole (l .out) (made .result) (l .i) 3328 (l .inv .1) (l .inv .2) (omega arith) (l .inv .3)
-    ∙ right-table-entries 13 (made .result) (made .ensures) (l .inv .2)
+    ∙ right-table-entries 8 13 (made .result) (made .ensures) (l .inv .2)
 
 pub fill-table-spec : {M : Type 1} → statement M
 fill-table-spec =

@@ -3,14 +3,15 @@
 use mathlib.Core.Path.{subst⁻¹}
 use mathlib.Core.List.{List}
 use Prim.Native.Nat.{ℕ}
-use Rattle.hash.specs.Table.{TableRight}
+use Rattle.hash.specs.Digits.{TableRight}
 use Rattle.hash.proofs.Constants.{table}
-use Rattle.hash.proofs.TableLaws.{table-is, table-entries-right}
+use Rattle.hash.proofs.DigitLaws.{table-entries-right}
+use Rattle.hash.proofs.TableLaws.{table-is}
 use Rattle.hash.proofs.table.Statement.{statement}
 use Rattle.hash.proofs.table.Tie as tie
 
-right : TableRight 13 table
-right = subst⁻¹ (λ (t : List ℕ). TableRight 13 t) table-is (table-entries-right 13)
+right : TableRight 8 13 table
+right = subst⁻¹ (λ (t : List ℕ). TableRight 8 13 t) table-is (table-entries-right 8 13)
 
 returns : tie.Need-returns
 unfolding table

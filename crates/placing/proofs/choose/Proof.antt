@@ -1,8 +1,11 @@
 -- `placing::choose` meets its contract: the table is right for the key's length, so the choice is that of H of the key.
 use borrow.Author.Needs.{needs}
-use Rattle.placing.proofs.ReadyLaws.{right-for}
+use Rattle.placing.proofs.ReadyLaws.{right-for, long-for}
 use Rattle.placing.proofs.choose.Statement.{statement}
 use Rattle.placing.proofs.choose.Tie as tie
+
+h-lent-requires : tie.Need-h-lent-requires
+h-lent-requires c κs = let start = c .before .before .before in long-for _ _ (start .pre .0) (start .args .key .now) (start .pre .2)
 
 returns : tie.Need-returns
 returns c =
@@ -10,4 +13,4 @@ returns c =
     c .choose-at .ensures _ (c .before .h-lent .ensures .1 (right-for _ _ (start .pre .0) (start .args .key .now) (start .pre .2)))
 
 pub choose-spec : {M : Type 1} → statement M
-choose-spec = tie.close (tie.spec (λ c κs. search needs) (λ c κs. search needs) returns)
+choose-spec = tie.close (tie.spec h-lent-requires (λ c κs. search needs) returns)

@@ -65,13 +65,13 @@ module _ (c : tie.In-loop Inv-loop μ-loop) where
 
 loop-again : tie.Need-loop-again Inv-loop μ-loop
 loop-again c =
-    let at = c .before .before .before in
+    let at = c .before .before .before .before in
     let loop = at .before .loop in
     let low = best-again _ _ _ _ (nth (counts (made at))) (loop .best) (loop .inv .so-far) (bucket at) (is-hash at) (at .loop-test .taken) in
     record {
       within = omega arith;
       rest-is = rest-next _ _ _ (loop .inv .rest-is);
-      so-far = rw (c .lower .ensures, c .before .rank .ensures) low;
+      so-far = rw (c .lower .ensures, c .before .rank .ensures, c .before .before .of-number .ensures) low;
     }
 
 returns : tie.Need-returns Inv-loop μ-loop
@@ -93,7 +93,8 @@ choose-at-spec =
     (λ c. omega (arith, some (made c)))
     (λ c. omega (arith, there c, few (made c)))
     (λ c. omega (arith, there (c .before), made (c .before) .buckets .ensures))
-    (λ c κs. omega (arith, there (c .before), few (made (c .before))))
+    (λ c κs. tt)
+    (λ c κs. omega (arith, there (c .before .before), few (made (c .before .before))))
     (λ c κs. tt)
     (λ c. omega arith)
     (λ c. omega arith)

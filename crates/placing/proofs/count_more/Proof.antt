@@ -15,7 +15,7 @@ use Rattle.settings.specs.Checked.{paper}
 use Rattle.settings.specs.declared.Settings.{Settings}
 use Rattle.placing.specs.Worked.{nth}
 use Rattle.placing.proofs.RecordLaws.{record-within, next-at, key-lent, key-length, count-none, count-bound, count-more}
-use Rattle.placing.proofs.ReadyLaws.{right-for}
+use Rattle.placing.proofs.ReadyLaws.{right-for, long-for}
 use Rattle.placing.proofs.count_more.Statement.{statement}
 use Rattle.placing.proofs.count_more.Tie as tie
 
@@ -126,7 +126,7 @@ count-more-spec =
     (λ c. omega arith)
     (λ c. omega arith)
     (λ c. omega (arith, room c .0))
-    (λ c κs. omega (arith, key-long (c .before), start (sized (c .before)) .pre .0 .long))
+    (λ c κs. long-for _ _ (start (sized (c .before)) .pre .0) (key (c .before)) (key-long (c .before)))
     raise-at-requires
     (λ c. omega (arith, room (c .before .before .before .before .before .before) .1))
     (λ c. omega arith)

@@ -2,7 +2,7 @@
 use mathlib.Core.Path.{_≡_, refl, sym, ap, _∙_}
 use mathlib.Core.Bool.{Bool, cond}
 use mathlib.Core.List.{List}
-use Prim.Native.Nat.{ℕ, _-_, _*_, _/_, _%_, _^_, _≤_, _<_}
+use Prim.Native.Nat.{ℕ, _+_, _-_, _*_, _/_, _%_, _^_, _≤_, _<_}
 use native.Mathlib.Nat.{add-zero, mod-lt}
 use native.Mathlib.Omega.{arith}
 use borrow.Author.Needs.{needs}
@@ -77,21 +77,23 @@ module _ (c : tie.After-pick Inv-loop μ-loop) where
 
 raised-requires : tie.Need-raised-requires Inv-loop μ-loop
 raised-requires c κs =
-    let picked = c .before in
+    let picked = c .before .before in
     let loop = at picked .before .loop in
     let old = start (made (at picked)) in
     let count = raised-few (loop .inv .so-far) (bucket (at picked)) in
-    omega (arith, count, old .pre .2 (bucket (at picked)), small picked)
+    omega (arith, c .of-number .ensures, count, old .pre .2 (bucket (at picked)), small picked)
 
 loop-again : tie.Need-loop-again Inv-loop μ-loop
 loop-again c =
-    let picked = c .before .before in
+    let read = c .before .before in
+    let picked = read .before .before in
     let loop = at picked .before .loop in
+    let stored = c .number .ensures ∙ c .before .raised .ensures ∙ ap (λ (n : ℕ). n + picked .pick .result) (read .of-number .ensures) in
     record {
       within = omega arith;
       rest-is = rest-next _ _ _ (loop .inv .rest-is);
       same = simp length-set (loop .inv .same);
-      so-far = raise-next (loop .inv .so-far) _ _ _ (is-hash (at picked)) (more-is picked) (c .raised .ensures) (there (at picked));
+      so-far = raise-next (loop .inv .so-far) _ _ _ (is-hash (at picked)) (more-is picked) stored (there (at picked));
     }
 
 returns : tie.Need-returns Inv-loop μ-loop
@@ -115,9 +117,11 @@ raise-at-spec =
     (λ c. omega (arith, small c))
     (λ c. omega (arith, below (at c), few (made (at c))))
     (λ c. there (at (c .before)))
+    (λ c κs. tt)
     raised-requires
-    (λ c. omega (arith, below (at (c .before .before)), few (made (at (c .before .before)))))
-    (λ c. there (at (c .before .before)))
+    (λ c κs. tt)
+    (λ c. let picked = c .before .before .before .before in omega (arith, below (at picked), few (made (at picked))))
+    (λ c. there (at (c .before .before .before .before)))
     (λ c. omega arith)
     (λ c. omega arith)
     loop-again

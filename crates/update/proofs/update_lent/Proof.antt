@@ -8,7 +8,7 @@ use Rattle.theory.specs.Settings.{Settings, card-of}
 use Rattle.theory.specs.Layout.{Areas}
 use Rattle.theory.proofs.SettingsLaws.{ranges}
 use Rattle.settings.specs.Checked.{paper}
-use Rattle.settings.proofs.Laws.{width-is, capacity-is}
+use Rattle.settings.proofs.Laws.{record-most, capacity-is}
 use Rattle.update.specs.Editing.{Planned}
 use Rattle.update.proofs.EditLaws.{size-is}
 use Rattle.update.proofs.WriteLaws.{double, updated-3, updated-refused, updated-made}
@@ -43,7 +43,7 @@ module _ (c : tie.After-record-size) where
   size = c .record-size .ensures ∙ size-is (card-of (t start))
 
   small : c .record-size .result ≤ 64
-  small = omega (arith, size, width-is (t start))
+  small = omega (arith, c .record-size .ensures, record-most (t start))
 
 -- ---- its record is written
 module _ (c : tie.After-record-of) where
