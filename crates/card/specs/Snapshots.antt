@@ -6,7 +6,7 @@ use lib.Dec.{eqb}
 use lib.ListN.{length}
 use Rattle.theory.specs.Settings.{allowed}
 use Rattle.theory.specs.Layout.{Areas}
-use Rattle.theory.specs.Snapshot.{settings-list, file-settings, head-wrong, load}
+use Rattle.theory.specs.Snapshot.{settings-count, settings-list, file-settings, head-wrong, load}
 
 -- the number answered, and the area for the settings and the five areas at exit
 pub record LoadedInto : Type 0 where
@@ -23,5 +23,5 @@ settings-area-refusal file = cond (head-wrong file) 12 (cond (not (allowed (file
 unfoldable pub load-of : List ℕ → ℕ → Areas → List ℕ → LoadedInto
 load-of file w a settings =
     let x = load file w a in
-    cond (eqb (length settings) 6) (record { number = x .number; settings = settings-list (x .settings); areas = x .areas })
+    cond (eqb (length settings) settings-count) (record { number = x .number; settings = settings-list (x .settings); areas = x .areas })
     (record { number = settings-area-refusal file; settings = settings; areas = a })

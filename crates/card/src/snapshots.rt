@@ -2,7 +2,7 @@
 use settings::Given;
 ghost use mathlib.Core.Path.{_≡_};
 ghost use lib.ListN.{length};
-ghost use Rattle.theory.specs.Snapshot.{settings-list, Saved, save};
+ghost use Rattle.theory.specs.Snapshot.{settings-count, settings-list, Saved, save};
 ghost use Rattle.settings.specs.Checked.{given-of};
 ghost use Rattle.card.specs.Snapshots.{LoadedInto, settings-area-refusal, load-of};
 
@@ -46,7 +46,7 @@ fn refuse_settings_area(file: &[u8]) -> u32
 
 // The six settings in the paper's order.
 fn write_settings(given: Given, to: &mut [u64])
-    requires { ⌜ length (now to) ≡ 6 ⌝ }
+    requires { ⌜ length (now to) ≡ settings-count ⌝ }
     ensures { λ _. ⌜ now (to .exit) ≡ settings-list (given-of given) ⌝ }
 {
     to[0] = given.p;
@@ -72,7 +72,7 @@ pub extern "C" fn flow_load(
     ensures { λ r. ⌜ _≡_ {A = LoadedInto} (record { number = r; settings = now (settings .exit); areas = record { ledger = now (ledger .exit); true-counts = now («true_counts» .exit); clipped-counts = now (clipped .exit); buckets = now (buckets .exit); side-store = now (side .exit) } })
         (load-of (now (file .entry)) (length (now (work .entry))) (record { ledger = now (ledger .entry); true-counts = now («true_counts» .entry); clipped-counts = now (clipped .entry); buckets = now (buckets .entry); side-store = now (side .entry) }) (now (settings .entry))) ⌝ }
 {
-    if settings.len() != 6 {
+    if settings.len() != snapshot::SETTINGS {
         return refuse_settings_area(file);
     }
     let loaded = snapshot::loading::load(

@@ -7,10 +7,10 @@ use lib.Dec.{ltb, eqb}
 use lib.ListN.{length, take, drop}
 use Rattle.theory.specs.Settings as plain
 use Rattle.theory.specs.Settings.{allowed, card-of, record-size}
-use Rattle.theory.specs.Records.{Record, to-bytes, records, rising}
+use Rattle.theory.specs.Records.{Record, to-bytes, class-width, records, rising}
 use Rattle.theory.specs.Layout.{Areas}
 use Rattle.theory.specs.Snapshot as snapshots
-use Rattle.theory.specs.Snapshot.{file-settings, file-count, head-wrong}
+use Rattle.theory.specs.Snapshot.{head-size, file-settings, file-count, head-wrong}
 use Rattle.settings.specs.declared.Settings.{Settings}
 use Rattle.settings.specs.Checked.{paper, given-of}
 use Rattle.placing.specs.Ready.{Ready}
@@ -26,7 +26,7 @@ loaded-of r a = record { number = r .number; settings = given-of (r .settings); 
 
 -- the records of a file under settings
 abbrev pub listed : plain.Settings → List ℕ → List Record
-listed t f = records (card-of t .width) (file-count f) (drop 16 f)
+listed t f = records (card-of t .width) (file-count f) (drop head-size f)
 
 -- what placing n records of an area asks, with room in work and kept
 pub record PlacingRecords (s : Settings) (t : List ℕ) (m : ℕ) (work kept area : List ℕ) (n : ℕ) : Type 0 where
@@ -34,7 +34,7 @@ pub record PlacingRecords (s : Settings) (t : List ℕ) (m : ℕ) (work kept are
   pub buckets : m ≡ card-of (paper s) .buckets
   pub halves : length work ≡ m + m
   pub choices : n ≤ length kept
-  pub room : n * (card-of (paper s) .width + 4) ≤ length area
+  pub room : n * (card-of (paper s) .width + class-width) ≤ length area
   pub few : n ≤ 4096
 
 -- 12 for the head, 1 for its settings, or 0
@@ -45,4 +45,4 @@ by-head f = cond (head-wrong f) 12 (cond (not (allowed (file-settings f))) 1 0)
 unfoldable pub by-file : plain.Settings → List ℕ → ℕ
 by-file t f =
     cond (ltb (t .capacity) (file-count f)) 8
-    (cond (not (eqb (length f) (16 + record-size (card-of t) * file-count f))) 12 (cond (not (rising (listed t f))) 13 0))
+    (cond (not (eqb (length f) (head-size + record-size (card-of t) * file-count f))) 12 (cond (not (rising (listed t f))) 13 0))

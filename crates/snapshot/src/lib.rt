@@ -13,10 +13,12 @@ pub mod loading; // loading.rt: a file into every area
 pub mod reading; // reading.rt: what a file says, and the refusals that it alone decides
 pub mod saving; // saving.rt: settings and ledger into a file
 
-// "two sections, each after its two-byte count": the first count, and the bytes before the first record.
+// "two sections, each after its two-byte count: 6 settings of two bytes": the first count, the place of the second, and the bytes before the first record.
 pub const SETTINGS: usize = 6;
 
-pub const HEAD: usize = 16;
+pub const SECOND_COUNT_AT: usize = 2 + 2 * SETTINGS;
+
+pub const HEAD: usize = SECOND_COUNT_AT + 2;
 
 // The side need of the n records that an area starts with, their work area and their choices.
 fn place_records(

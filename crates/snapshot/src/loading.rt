@@ -121,7 +121,7 @@ fn load_lent(
     if number != 0 {
         return not_loaded(number);
     }
-    let n = count_at(&file[14..]);
+    let n = count_at(&file[crate::SECOND_COUNT_AT..]);
     let m = s.buckets();
     let area = &file[crate::HEAD..];
     let mut kept = [0u16; Settings::CAPACITY_MOST as usize];

@@ -10,13 +10,13 @@ ghost use Prim.Native.Nat.{_≤_, _<_};
 ghost use lib.ListN.{length};
 ghost use Rattle.theory.specs.Settings.{allowed};
 ghost use Rattle.theory.specs.Snapshot as plain;
-ghost use Rattle.theory.specs.Snapshot.{file-settings, head-wrong};
+ghost use Rattle.theory.specs.Snapshot.{settings-count, head-size, file-settings, head-wrong};
 ghost use Rattle.settings.specs.Checked.{paper, checked-of};
 ghost use Rattle.snapshot.specs.Files.{by-head, by-file};
 
 // Setting i of a file, from 0.
 fn setting(file: &[u8], i: usize) -> u64
-    requires { ⌜ (16 ≤ length (now file)) × (i < 6) ⌝ }
+    requires { ⌜ (head-size ≤ length (now file)) × (i < settings-count) ⌝ }
     ensures { λ r. ⌜ r ≡ plain.setting (now (file .entry)) i ⌝ }
 {
     let at = 2 + 2 * i;
@@ -24,7 +24,7 @@ fn setting(file: &[u8], i: usize) -> u64
 }
 
 pub fn read_settings(file: &[u8]) -> Checked
-    requires { ⌜ 16 ≤ length (now file) ⌝ }
+    requires { ⌜ head-size ≤ length (now file) ⌝ }
     ensures { λ r. ⌜ r ≡ checked-of (file-settings (now (file .entry))) ⌝ }
 {
     Settings::new(Given {
@@ -63,10 +63,10 @@ pub fn refusal_by_head(file: &[u8]) -> u32
 
 // 8, 12 for a cut or overlong file, 13; else 0.
 pub fn refusal_by_file(s: Settings, file: &[u8]) -> u32
-    requires { ⌜ (allowed (paper s) ≡ true) × (16 ≤ length (now file)) ⌝ }
+    requires { ⌜ (allowed (paper s) ≡ true) × (head-size ≤ length (now file)) ⌝ }
     ensures { λ r. ⌜ r ≡ by-file (paper s) (now (file .entry)) ⌝ }
 {
-    let n = count_at(&file[14..]);
+    let n = count_at(&file[crate::SECOND_COUNT_AT..]);
     if s.capacity < n {
         return 8;
     }

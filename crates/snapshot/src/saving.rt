@@ -15,7 +15,7 @@ ghost use Rattle.theory.specs.Settings.{allowed, card-of, record-size, ledger-l
 ghost use Rattle.theory.specs.Records.{to-bytes, count-of};
 ghost use Rattle.theory.specs.Calls.{ledger-records};
 ghost use Rattle.theory.specs.Snapshot as plain;
-ghost use Rattle.theory.specs.Snapshot.{Saved, snapshot};
+ghost use Rattle.theory.specs.Snapshot.{head-size, Saved, snapshot};
 ghost use Rattle.theory.proofs.SnapshotLaws.{head};
 ghost use Rattle.settings.specs.Checked.{paper, given-of};
 ghost use Rattle.ledger.specs.Edits.{ValidLedger};
@@ -31,7 +31,7 @@ fn put_number(to: &mut [u8], at: usize, n: usize)
 
 // "6 settings of two bytes in the order above", after their count; then the count of the records.
 fn write_head(s: Settings, to: &mut [u8], n: usize)
-    requires { ⌜ (allowed (paper s) ≡ true) × (length (now to) ≡ 16) × (n < 65536) ⌝ }
+    requires { ⌜ (allowed (paper s) ≡ true) × (length (now to) ≡ head-size) × (n < 65536) ⌝ }
     ensures { λ _. ⌜ now (to .exit) ≡ flat (to-bytes 2) (head (paper s) n) ⌝ }
 {
     put_number(&mut to[..], 0, crate::SETTINGS);
@@ -41,12 +41,12 @@ fn write_head(s: Settings, to: &mut [u8], n: usize)
     put_number(&mut to[..], 8, s.top);
     put_number(&mut to[..], 10, s.capacity);
     put_number(&mut to[..], 12, s.side_places);
-    put_number(&mut to[..], 14, n);
+    put_number(&mut to[..], crate::SECOND_COUNT_AT, n);
 }
 
 // The snapshot of the n records of a ledger.
 fn write_snapshot(s: Settings, target: &mut [u8], ledger: &[u8], n: usize)
-    requires { ⌜ ValidLedger s (now ledger) × (n ≡ count-of (now ledger)) × (length (now target) ≡ 16 + record-size (card-of (paper s)) * n) ⌝ }
+    requires { ⌜ ValidLedger s (now ledger) × (n ≡ count-of (now ledger)) × (length (now target) ≡ head-size + record-size (card-of (paper s)) * n) ⌝ }
     ensures { λ _. ⌜ now (target .exit) ≡ snapshot (paper s) (ledger-records (card-of (paper s)) (now (ledger .entry))) ⌝ }
 {
     write_head(s, &mut target[..crate::HEAD], n);

@@ -15,7 +15,8 @@ use Rattle.theory.specs.Settings.{Settings, allowed, Card, card-of, reco
 use Rattle.theory.specs.Layout.{Areas, layout, layout-by, counted-places}
 use Rattle.theory.specs.Ledger.{side-short}
 use Rattle.theory.specs.Calls.{ledger-records, ledger-invalid, all-lengths}
-use Rattle.theory.specs.Snapshot.{section, snapshot, Saved, save, Loaded, setting, file-settings, file-count, file-records, head-wrong, load}
+use Rattle.theory.specs.Snapshot.{settings-count, section, snapshot, Saved, save}
+use Rattle.theory.specs.Snapshot.{Loaded, setting, file-settings, file-count, file-records, head-wrong, load}
 use Rattle.theory.specs.Demands.{Byte, HasLayout, Sized, LoadSave, SaveLoad}
 use Rattle.theory.proofs.ListLaws.{all-every, all-each, all-map, all-drop, length-flat, or-left, or-right}
 use Rattle.theory.proofs.SettingsLaws.{ranges, sound}
@@ -34,7 +35,7 @@ abbrev word : List ℕ → ℕ
 word a = of-bytes (take 2 a)
 
 abbrev pub head : Settings → ℕ → List ℕ
-head t n = 6 ∷ t .p ∷ t .k ∷ t .room ∷ t .top ∷ t .capacity ∷ t .side-places ∷ n ∷ []
+head t n = settings-count ∷ t .p ∷ t .k ∷ t .room ∷ t .top ∷ t .capacity ∷ t .side-places ∷ n ∷ []
 
 abbrev settings-in : List ℕ → Settings
 settings-in h =

@@ -27,9 +27,13 @@ of-bytes l = number-after 0 l
 abbrev pub count-of : List ℕ → ℕ
 count-of a = of-bytes (take 2 a)
 
--- a record: the key, then the class in four bytes
+-- "a class an unsigned 32-bit number": its bytes
+abbrev pub class-width : ℕ
+class-width = 4
+
+-- a record: the key, then the class
 unfoldable pub record-bytes : Record → List ℕ
-record-bytes r = r .key ++ to-bytes 4 (r .class)
+record-bytes r = r .key ++ to-bytes class-width (r .class)
 
 -- n entries of z bytes each, one after the other, each as `read` takes it from the bytes that start with it
 unfoldable pub entries : {A : Type 0} → ℕ → (List ℕ → A) → ℕ → List ℕ → List A
@@ -38,10 +42,10 @@ entries z read (suc n) a = read a ∷ entries z read n (drop z a)
 
 -- the record that bytes start with, for keys of w bytes; and the first n records
 unfoldable pub record-at : ℕ → List ℕ → Record
-record-at w a = record { key = take w a; class = of-bytes (take 4 (drop w a)) }
+record-at w a = record { key = take w a; class = of-bytes (take class-width (drop w a)) }
 
 unfoldable pub records : ℕ → ℕ → List ℕ → List Record
-records w n a = entries (w + 4) (record-at w) n a
+records w n a = entries (w + class-width) (record-at w) n a
 
 -- keys: equal; in order, byte by byte from the first
 abbrev pub same-key : List ℕ → List ℕ → Bool
@@ -78,4 +82,4 @@ comparisons k (r ∷ rs) = cond (same-key k (r .key)) 1 (suc (comparisons k rs))
 -- the bytes themselves of the record of a key, among the first n records; none if no record has the key
 unfoldable pub find-bytes : ℕ → ℕ → List ℕ → List ℕ → List ℕ
 find-bytes w zero a k = []
-find-bytes w (suc n) a k = cond (same-key k (take w a)) (take (w + 4) a) (find-bytes w n (drop (w + 4) a) k)
+find-bytes w (suc n) a k = cond (same-key k (take w a)) (take (w + class-width) a) (find-bytes w n (drop (w + class-width) a) k)

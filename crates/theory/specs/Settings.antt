@@ -5,6 +5,7 @@ use Prim.Native.Nat.{ℕ, _+_, _*_, _/_, _^_}
 use lib.Dec.{leb}
 use Rattle.theory.specs.Lists.{all}
 use Rattle.theory.specs.Hash.{H, numbers-of}
+use Rattle.theory.specs.Records.{class-width}
 
 -- in the paper's order and letters: p, k, B (records a bucket), T (top count), N (capacity), S (side places)
 pub record Settings : Type 0 where
@@ -54,9 +55,9 @@ card-of t =
     }
 
 module _ (s : Card) where
-  -- a record: the key, then four bytes of class
+  -- a record: the key, then the class
   unfoldable pub record-size : ℕ
-  record-size = s .width + 4
+  record-size = s .width + class-width
 
   -- one bucket: a mark, then B record places
   unfoldable pub bucket-size : ℕ

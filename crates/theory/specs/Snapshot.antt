@@ -18,7 +18,18 @@ section f l = to-bytes 2 (length l) ++ flat f l
 abbrev pub settings-list : Settings → List ℕ
 settings-list t = t .p ∷ t .k ∷ t .room ∷ t .top ∷ t .capacity ∷ t .side-places ∷ []
 
--- two sections: 6 settings of two bytes, then the records
+-- "two sections, each after its two-byte count: 6 settings of two bytes .., then the records; 16 + 17 × n bytes": how many settings; where the second
+-- count stands, after the first and the settings; and the bytes of the head, up to the first record
+abbrev pub settings-count : ℕ
+settings-count = 6
+
+abbrev pub second-count-at : ℕ
+second-count-at = 2 + 2 * settings-count
+
+abbrev pub head-size : ℕ
+head-size = second-count-at + 2
+
+-- the settings, then the records
 unfoldable pub snapshot : Settings → List Record → List ℕ
 snapshot t l = section (to-bytes 2) (settings-list t) ++ section record-bytes l
 
@@ -35,7 +46,7 @@ save t ledger w target =
     (cond (not (all (λ x. x) (eqb w (work-length s) ∷ eqb (length ledger) (ledger-length s) ∷ []))) (record { number = 2; target = target })
     (cond (ledger-invalid s ledger) (record { number = 4; target = target })
     (cond (side-short s l) (record { number = 9; target = target })
-    (cond (not (eqb (length target) (16 + record-size s * length l))) (record { number = 12; target = target })
+    (cond (not (eqb (length target) (head-size + record-size s * length l))) (record { number = 12; target = target })
     (record { number = 0; target = snapshot t l })))))
 
 -- ---- load: the answer's number, the settings handed back, and the areas after the call
@@ -61,14 +72,14 @@ file-settings f =
 
 -- the second count, and the records after it
 unfoldable pub file-count : List ℕ → ℕ
-file-count f = count-of (drop 14 f)
+file-count f = count-of (drop second-count-at f)
 
 unfoldable pub file-records : List ℕ → List Record
-file-records f = records (card-of (file-settings f) .width) (file-count f) (drop 16 f)
+file-records f = records (card-of (file-settings f) .width) (file-count f) (drop head-size f)
 
 -- "12, a cut .. file, a first count not 6": no allowed first count, its settings and the second count are there, and nothing else is judged
 unfoldable pub head-wrong : List ℕ → Bool
-head-wrong f = ltb (length f) 16 || not (eqb (count-of f) 6)
+head-wrong f = ltb (length f) head-size || not (eqb (count-of f) settings-count)
 
 -- refused: settings handed back are zeros, areas unaltered
 abbrev pub not-loaded : ℕ → Areas → Loaded
@@ -83,6 +94,6 @@ load f w a =
     (cond (not (allowed t)) (not-loaded 1 a)
     (cond (not (all (λ x. x) (eqb w (work-length s) ∷ all-lengths s a))) (not-loaded 2 a)
     (cond (ltb (t .capacity) (file-count f)) (not-loaded 8 a)
-    (cond (not (eqb (length f) (16 + record-size s * file-count f))) (not-loaded 12 a)
+    (cond (not (eqb (length f) (head-size + record-size s * file-count f))) (not-loaded 12 a)
     (cond (not (rising (file-records f))) (not-loaded 13 a)
     (cond (side-short s (file-records f)) (not-loaded 9 a) (record { number = 0; settings = t; areas = layout s (file-records f) })))))))
