@@ -6,7 +6,7 @@ ghost use Prim.Native.Nat.{_+_, _<_, _≤_};
 ghost use lib.Dec.{eqb};
 ghost use lib.ListN.{length, take, drop, replicate};
 ghost use Rattle.theory.specs.Lists.{any};
-ghost use Rattle.theory.specs.Records.{to-bytes, of-bytes, count-of, record-bytes};
+ghost use Rattle.theory.specs.Records.{class-width, to-bytes, of-bytes, count-of, record-bytes};
 ghost use Rattle.ledger.specs.Words.{low-first};
 
 fn wide(x: u8) -> usize
@@ -31,8 +31,8 @@ pub fn count_at(area: &[u8]) -> usize
 
 // The class in the four bytes from a place on.
 pub fn class_at(area: &[u8], at: usize) -> u32
-    requires { ⌜ at + 4 ≤ length (now area) ⌝ }
-    ensures { λ r. ⌜ r ≡ of-bytes (take 4 (drop at (now (area .entry)))) ⌝ }
+    requires { ⌜ at + class-width ≤ length (now area) ⌝ }
+    ensures { λ r. ⌜ r ≡ of-bytes (take class-width (drop at (now (area .entry)))) ⌝ }
 {
     let high = wide32(area[at]) * 256 + wide32(area[at + 1]);
     (high * 256 + wide32(area[at + 2])) * 256 + wide32(area[at + 3])
@@ -119,7 +119,7 @@ pub fn write_class(to: &mut [u8], class: u32)
 
 // "a record .. the key, then the class, high byte first"
 pub fn write_record(to: &mut [u8], key: &[u8], class: u32)
-    requires { ⌜ length (now to) ≡ length (now key) + 4 ⌝ }
+    requires { ⌜ length (now to) ≡ length (now key) + class-width ⌝ }
     ensures { λ _. ⌜ now (to .exit) ≡ record-bytes (record { key = now (key .entry); class = class }) ⌝ }
 {
     let width = key.len();

@@ -1,9 +1,10 @@
 // "Keys are ordered byte by byte from the first, unsigned."
 use super::bytes::low_word_at;
+use settings::Settings;
 ghost use mathlib.Core.Path.{_≡_};
 ghost use Prim.Native.Nat.{_+_, _*_, _≤_};
 ghost use lib.ListN.{length, take, drop};
-ghost use Rattle.theory.specs.Records.{records, same-key, key-below, rising};
+ghost use Rattle.theory.specs.Records.{class-width, records, same-key, key-below, rising};
 
 // Byte by byte.
 fn same_bytes(a: &[u8], b: &[u8]) -> bool
@@ -72,13 +73,13 @@ pub fn below_key(a: &[u8], b: &[u8]) -> bool
 
 // The keys of n records rise.
 pub fn keys_rise(places: &[u8], n: usize, width: usize) -> bool
-    requires { ⌜ n * (width + 4) ≤ length (now places) ⌝ }
+    requires { ⌜ n * (width + class-width) ≤ length (now places) ⌝ }
     ensures { λ r. ⌜ r ≡ rising (records width n (now (places .entry))) ⌝ }
 {
     if n == 0 {
         return true;
     }
-    let size = width + 4;
+    let size = width + Settings::CLASS_WIDTH;
     let mut left = n;
     let mut at: usize = 0;
     while 1 < left {

@@ -1,11 +1,12 @@
 // Where a key's record stands among records in rising key order, or belongs.
 use super::keys::below_key;
 use super::keys::same_key;
+use settings::Settings;
 ghost use mathlib.Core.Path.{_≡_};
 ghost use mathlib.Core.Bool.{true};
 ghost use Prim.Native.Nat.{_+_, _*_, _≤_};
 ghost use lib.ListN.{length};
-ghost use Rattle.theory.specs.Records.{records, rising};
+ghost use Rattle.theory.specs.Records.{class-width, records, rising};
 ghost use Rattle.ledger.specs.Spots.{SpotOf};
 
 // Whether the key is held, and how many records stand before its place.
@@ -16,11 +17,11 @@ pub struct Spot {
 
 // By halves: every record before low is below the key, and none from high on is.
 pub fn find_spot(places: &[u8], n: usize, key: &[u8]) -> Spot
-    requires { ⌜ (n * (length (now key) + 4) ≤ length (now places)) × (rising (records (length (now key)) n (now places)) ≡ true) ⌝ }
+    requires { ⌜ (n * (length (now key) + class-width) ≤ length (now places)) × (rising (records (length (now key)) n (now places)) ≡ true) ⌝ }
     ensures { λ r. ⌜ SpotOf (records (length (now (key .entry))) n (now (places .entry))) (now (key .entry)) r ⌝ }
 {
     let width = key.len();
-    let size = width + 4;
+    let size = width + Settings::CLASS_WIDTH;
     let mut low: usize = 0;
     let mut high = n;
     while low < high {

@@ -5,6 +5,7 @@ use mathlib.Core.List.{List}
 use Prim.Native.Nat.{ℕ, _+_, _*_, _≤_}
 use lib.ListN.{length, drop}
 use Rattle.theory.specs.Lists.{has}
+use Rattle.theory.specs.Records.{class-width}
 use Rattle.theory.specs.Settings.{allowed, card-of}
 use Rattle.settings.specs.declared.Settings.{Settings}
 use Rattle.settings.specs.Checked.{paper}
@@ -21,7 +22,7 @@ pub record Choosing (s : Settings) (t : List ℕ) (m : ℕ) (work area : List �
   pub ready : Ready s t
   pub buckets : m ≡ card-of (paper s) .buckets
   pub halves : length work ≡ m + m
-  pub there : n * (card-of (paper s) .width + 4) ≤ length area
+  pub there : n * (card-of (paper s) .width + class-width) ≤ length area
   pub few : (b : ℕ) → nth (drop m work) b + n ≤ 60000
   pub places : length kept ≡ n
 
@@ -30,8 +31,8 @@ pub record Placing (s : Settings) (t : List ℕ) (m : ℕ) (work a : List ℕ) (
   pub ready : Ready s t
   pub buckets : m ≡ card-of (paper s) .buckets
   pub halves : length work ≡ m + m
-  pub before : n * (card-of (paper s) .width + 4) ≤ length a
-  pub middle : k * (card-of (paper s) .width + 4) ≤ length mid
-  pub after : j * (card-of (paper s) .width + 4) ≤ length b
+  pub before : n * (card-of (paper s) .width + class-width) ≤ length a
+  pub middle : k * (card-of (paper s) .width + class-width) ≤ length mid
+  pub after : j * (card-of (paper s) .width + class-width) ≤ length b
   pub few : n + k + j ≤ 60000
   pub places : length kept ≡ n + k + j

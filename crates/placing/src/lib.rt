@@ -9,7 +9,7 @@ ghost use Prim.Native.Nat.{ℕ, _+_, _*_, _<_, _≤_};
 ghost use lib.Dec.{eqb};
 ghost use lib.ListN.{length, drop, replicate};
 ghost use Rattle.theory.specs.Lists.{has};
-ghost use Rattle.theory.specs.Records.{Record, records};
+ghost use Rattle.theory.specs.Records.{class-width, Record, records};
 ghost use Rattle.theory.specs.Hash.{H as H-of};
 ghost use Rattle.theory.specs.Settings.{allowed, card-of};
 ghost use Rattle.theory.specs.Placing.{true-count, all-top, chosen};
@@ -58,7 +58,7 @@ fn raise_at(s: Settings, h: u64, counts: &mut [u16])
 
 // The true counts of n records, on top of what is there.
 pub fn count_more(s: Settings, t: &[u64], counts: &mut [u16], area: &[u8], n: usize)
-    requires { ⌜ Ready s (now t) × (length (now counts) ≡ card-of (paper s) .buckets) × (n * (card-of (paper s) .width + 4) ≤ length (now area)) × ((b : ℕ) → nth (now counts) b + n ≤ 60000) ⌝ }
+    requires { ⌜ Ready s (now t) × (length (now counts) ≡ card-of (paper s) .buckets) × (n * (card-of (paper s) .width + class-width) ≤ length (now area)) × ((b : ℕ) → nth (now counts) b + n ≤ 60000) ⌝ }
     ensures { λ _. ⌜ ((b : ℕ) → nth (now (counts .exit)) b ≡ nth (now (counts .entry)) b + true-count (card-of (paper s)) (records (card-of (paper s) .width) n (now (area .entry))) b) ⌝ }
 {
     let width = s.width();
@@ -191,7 +191,7 @@ fn count_parts(
     b: &[u8],
     j: usize,
 )
-    requires { ⌜ Ready s (now t) × (length (now counts) ≡ card-of (paper s) .buckets) × (n * (card-of (paper s) .width + 4) ≤ length (now a)) × (k * (card-of (paper s) .width + 4) ≤ length (now mid)) × (j * (card-of (paper s) .width + 4) ≤ length (now b)) × (n + k + j ≤ 60000) × ((x : ℕ) → nth (now counts) x ≡ 0) ⌝ }
+    requires { ⌜ Ready s (now t) × (length (now counts) ≡ card-of (paper s) .buckets) × (n * (card-of (paper s) .width + class-width) ≤ length (now a)) × (k * (card-of (paper s) .width + class-width) ≤ length (now mid)) × (j * (card-of (paper s) .width + class-width) ≤ length (now b)) × (n + k + j ≤ 60000) × ((x : ℕ) → nth (now counts) x ≡ 0) ⌝ }
     ensures { λ _. ⌜ ((x : ℕ) → nth (now (counts .exit)) x ≡ true-count (card-of (paper s)) (parts (card-of (paper s) .width) (now (a .entry)) n (now (mid .entry)) k (now (b .entry)) j) x) ⌝ }
 {
     count_more(s, t, &mut counts[..], a, n);

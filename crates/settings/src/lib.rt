@@ -63,7 +63,7 @@ impl Settings {
     // "A key is 13 bytes, a class an unsigned 32-bit number"
     pub const KEY_WIDTH: usize = 13;
 
-    pub const CLASS_BYTES: usize = 4;
+    pub const CLASS_WIDTH: usize = 4;
 
     pub fn new(given: Given) -> Checked
         ensures { λ r. ⌜ r ≡ checked-of (given-of given) ⌝ }
@@ -131,7 +131,7 @@ impl Settings {
     pub fn record_size(self) -> usize
         ensures { λ r. ⌜ r ≡ record-size (card-of (paper self)) ⌝ }
     {
-        Settings::KEY_WIDTH + Settings::CLASS_BYTES
+        Settings::KEY_WIDTH + Settings::CLASS_WIDTH
     }
 
     // "one bucket of 1 + 17 × B bytes, a mark, then record places"

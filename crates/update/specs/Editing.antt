@@ -9,7 +9,7 @@ use denote.Ref.{RefT, now}
 use denote.Triple.Both.{Both}
 use Rattle.theory.specs.Settings as plain
 use Rattle.theory.specs.Settings.{Card, allowed, card-of, ledger-length}
-use Rattle.theory.specs.Records.{Record, record-bytes}
+use Rattle.theory.specs.Records.{class-width, Record, record-bytes}
 use Rattle.theory.specs.Layout.{Areas}
 use Rattle.theory.specs.Lookup.{bare}
 use Rattle.theory.specs.Ledger.{Call, add, change, remove, refusal, next, side-need-of, Step, answered}
@@ -91,10 +91,10 @@ pub record PlacingNew (s : Settings) (t : List ℕ) (m : ℕ) (work kept ledger 
   pub buckets : m ≡ card-of (paper s) .buckets
   pub halves : length work ≡ m + m
   pub choices : n - leaves-out edit + brings edit ≤ length kept
-  pub room : 2 + n * (card-of (paper s) .width + 4) ≤ length ledger
+  pub room : 2 + n * (card-of (paper s) .width + class-width) ≤ length ledger
   pub few : n ≤ 4096
   pub place : Fits edit at n
-  pub wide : length bytes ≡ card-of (paper s) .width + 4
+  pub wide : length bytes ≡ card-of (paper s) .width + class-width
 
 -- what judging asks: settings and a table that are ready, work, kept and ledger long enough, and the record of a key of the right width
 pub record Judging (s : Settings) (t : List ℕ) (m : ℕ) (work kept ledger k : List ℕ) (x : ℕ) (bytes : List ℕ) : Type 0 where

@@ -8,7 +8,7 @@ ghost use mathlib.Core.Path.{_≡_};
 ghost use Prim.Native.Nat.{_+_, _-_, _≤_};
 ghost use lib.ListN.{length, take, drop};
 ghost use Rattle.theory.specs.Settings.{card-of, record-size, work-length};
-ghost use Rattle.theory.specs.Records.{Record, records, record-bytes};
+ghost use Rattle.theory.specs.Records.{class-width, Record, records, record-bytes};
 ghost use Rattle.theory.specs.Ledger.{side-need-of};
 ghost use Rattle.theory.specs.Calls.{ledger-records};
 ghost use Rattle.theory.specs.Calls as calls;
@@ -230,7 +230,7 @@ fn new_buffer() -> [u8; 64]
 
 // The record of a call, at the start of a buffer.
 fn record_of(key: &[u8], class: u32, size: usize) -> [u8; 64]
-    requires { ⌜ (size ≡ length (now key) + 4) × (size ≤ 64) ⌝ }
+    requires { ⌜ (size ≡ length (now key) + class-width) × (size ≤ 64) ⌝ }
     ensures { λ r. ⌜ (take size r ≡ record-bytes (record { key = now (key .entry); class = class })) × (length r ≡ 64) ⌝ }
 {
     let mut buffer = new_buffer();
