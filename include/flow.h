@@ -71,7 +71,7 @@ uint32_t flow_hash(const uint8_t *key, size_t key_length, uint64_t *h, size_t h_
 
 /* H of a key, with a lent table: one read for each byte of the key. Lent: table, of 3328 numbers, which flow_hash_table filled, and key, of
  * 13 bytes, which are only read; h, of 1 number.
- * 0: h[0] is H of the key. On another table h[0] is some number, and the call is safe.
+ * 0: h[0] is H of the key. On another table h[0] is the xor of the entries that are read, and the call is safe.
  * 2: table is not of 3328 numbers, or h not of 1. 3: key is not of 13 bytes. */
 uint32_t flow_hash_lent(const uint64_t *table, size_t table_length, const uint8_t *key, size_t key_length, uint64_t *h,
                         size_t h_length);
@@ -96,7 +96,7 @@ uint64_t flow_search(uint64_t p, uint64_t k, uint64_t room, uint64_t top, uint64
                      const uint8_t *side, size_t side_length, const uint8_t *key, size_t key_length);
 
 /* flow_search with a lent table: faster, for a driver that keeps one. Lent: table, of 3328 numbers, which flow_hash_table filled; the rest
- * as for flow_search. On another table of 3328 numbers the call is safe and alters nothing.
+ * as for flow_search. On another table of 3328 numbers it is the search by the xor of the entries that are read, and the call is safe.
  * 2 also: table is not of 3328 numbers. */
 uint64_t flow_search_lent(const uint64_t *table, size_t table_length, uint64_t p, uint64_t k, uint64_t room, uint64_t top,
                           uint64_t capacity, uint64_t side_places, const uint8_t *clipped, size_t clipped_length,

@@ -1,27 +1,15 @@
 -- Laws of the doors of search and tally: each answer is `perform`'s. Assumes nothing.
-use mathlib.Core.Path.{_≡_, sym, ap, _∙_}
+use mathlib.Core.Path.{_≡_, sym, ap}
 use mathlib.Core.List.{List, [], _∷_}
 use Prim.Native.Nat.{ℕ}
 use borrow.Author.Tests.{eq-eqb, ne-eqb}
 use lib.ListN.{length}
 use Rattle.theory.specs.Settings.{Settings}
 use Rattle.theory.specs.Layout.{Areas}
-use Rattle.theory.specs.Lookup.{Answer, driver-number}
-use Rattle.theory.specs.Ledger.{search, tally, Totals, Step, answered, totalled}
+use Rattle.theory.specs.Ledger.{tally, Totals, Step, totalled}
 use Rattle.theory.specs.Calls.{perform}
-use Rattle.lookup.specs.Answers.{driver-of, lookup-areas, search-of, LentAnswer}
 use Rattle.lookup.specs.Tallies.{read-areas}
-use Rattle.card.specs.Reading.{SearchedLent, totals-in, tally-of}
-
-module _ (t : Settings) (clipped buckets side key : List ℕ) (x : Answer) (n : ℕ) (number : n ≡ driver-number x) where
-  pub searched : record { reply = answered x; state = lookup-areas clipped buckets side } ≡ perform t 0 (search key) (lookup-areas clipped buckets side)
-      → n ≡ search-of t clipped buckets side key
-  unfolding search-of
-  searched e = number ∙ ap (λ (s : Step Areas). driver-of (s .reply)) e
-
-  pub searched-lent : (table : List ℕ) → LentAnswer table t clipped buckets side key x → SearchedLent table t clipped buckets side key n
-  searched-lent table a =
-      record { other-length = λ o. number ∙ ap driver-number (a .other-length o); right-table = λ l right. searched (a .right-table l right) }
+use Rattle.card.specs.Reading.{totals-in, tally-of}
 
 module _ (t : Settings) (ledger clipped buckets side totals : List ℕ) (x : Totals)
     (e : record { reply = totalled x; state = read-areas ledger clipped buckets side } ≡ perform t 0 tally (read-areas ledger clipped buckets side)) where

@@ -4,10 +4,11 @@ use settings::Given;
 ghost use mathlib.Core.Path.{_≡_};
 ghost use mathlib.Core.List.{[], _∷_};
 ghost use lib.ListN.{length};
-ghost use Rattle.lookup.specs.Answers.{search-of};
+ghost use Rattle.theory.specs.Lookup.{driver-number};
+ghost use Rattle.lookup.specs.Answers.{search-of, search-with};
 ghost use Rattle.lookup.specs.Bursts.{Burst, burst-of};
 ghost use Rattle.card.specs.Doors.{Filled};
-ghost use Rattle.card.specs.Reading.{SearchedLent, tally-of};
+ghost use Rattle.card.specs.Reading.{tally-of};
 
 // The forwarding driver's search, whole by itself.
 #[no_mangle]
@@ -51,7 +52,9 @@ pub extern "C" fn flow_search_lent(
     side: &[u8],
     key: &[u8],
 ) -> u64
-    ensures { λ r. ⌜ SearchedLent (now (table .entry)) (record { p = p; k = k; room = room; top = top; capacity = capacity; side-places = «side_places» }) (now (clipped .entry)) (now (buckets .entry)) (now (side .entry)) (now (key .entry)) r ⌝ }
+    ensures { λ r. ⌜ r ≡ driver-number (search-with (now (table .entry))
+        (record { p = p; k = k; room = room; top = top; capacity = capacity; side-places = «side_places» })
+        (now (clipped .entry)) (now (buckets .entry)) (now (side .entry)) (now (key .entry))) ⌝ }
 {
     let given = Given {
         p,
