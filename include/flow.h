@@ -116,6 +116,16 @@ uint32_t flow_search_burst(const uint64_t *table, size_t table_length, uint64_t 
                            const uint8_t *buckets, size_t buckets_length, const uint8_t *side, size_t side_length,
                            const uint8_t *keys, size_t keys_length, uint64_t *answers, size_t answers_length);
 
+/* flow_search, with the place of the record. Lent: as for flow_search; place, of 2 numbers, with any contents.
+ * It returns what flow_search returns.
+ *   0: place[0] is 1 for a record in buckets, 2 for one in side, and place[1] the byte of that area where its 17 bytes start.
+ *   100: place holds 0 and 0. 2 also: place is not of 2 numbers.
+ * Refused (1, 2, 3 or 5), place is as it was. */
+uint64_t flow_search_place(uint64_t p, uint64_t k, uint64_t room, uint64_t top, uint64_t capacity, uint64_t side_places,
+                           const uint8_t *clipped, size_t clipped_length, const uint8_t *buckets, size_t buckets_length,
+                           const uint8_t *side, size_t side_length, const uint8_t *key, size_t key_length, uint64_t *place,
+                           size_t place_length);
+
 /* Counts what a table holds. Lent: ledger and the lookup areas, of their lengths under the settings, which are only read; totals, of 4
  * numbers.
  * 0: totals holds how many records are in buckets, how many in the side store, how many buckets are marked 255, and the fill: 100 * the

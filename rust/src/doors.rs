@@ -105,6 +105,10 @@ doors! {
     /// table is not of 3,328 numbers or an area not of its length; 3 if `keys` is not of 13 bytes for each answer.
     fn search_burst = flow_search_burst(table: &[u64], settings: [u64; 6], clipped: &[u8], buckets: &[u8], side: &[u8], keys: &[u8], answers: &mut [u64]) -> u32;
 
+    /// [`search`], and where the record lies: in `place` 1 for the buckets or 2 for the side store, and the byte of that area where its 17 bytes
+    /// start; 0 and 0 for an absent flow; 2 also if `place` is not of 2 numbers. Refused, `place` is as it was.
+    fn search_place = flow_search_place(settings: [u64; 6], clipped: &[u8], buckets: &[u8], side: &[u8], key: &[u8], place: &mut [u64]) -> u64;
+
     /// Records in buckets, records in the side store, buckets marked 255, and fill; 1; 2 if an area is not of its length, or `totals` not of
     /// 4 numbers; 4 if the ledger is damaged; 5 if a lookup area is.
     fn tally = flow_tally(settings: [u64; 6], ledger: &[u8], clipped: &[u8], buckets: &[u8], side: &[u8], totals: &mut [u32]) -> u32;

@@ -2,7 +2,7 @@
 use mathlib.Core.Path.{_≡_, sym, ap, _∙_}
 use mathlib.Core.Bool.{Bool, true, false, cond, not, _&&_}
 use mathlib.Core.List.{List, []}
-use Prim.Native.Nat.{ℕ, _*_}
+use Prim.Native.Nat.{ℕ, _*_, _≤_}
 use native.Mathlib.Omega.{arith}
 use lib.Dec.{eqb}
 use borrow.Author.Tests.{eqb-true, eq-eqb, ne-eqb}
@@ -129,6 +129,16 @@ module _ (t : plain.Settings) (clipped buckets side key : List ℕ) where
       (λ w. let e′ = rw (a, l, w) at e in let q : 3 ≡ n = cc in rw (a, l, w, q)))
       (λ l. let e′ = rw (a, l) at e in let q : 2 ≡ n = cc in rw (a, l, q)))
       (λ a. let e′ = rw a at e in let q : 1 ≡ n = cc in rw (a, q))
+
+  pub refused-low : (n : ℕ) → judged-of t clipped buckets side key ≡ Refused n → (1 ≤ n) × (n ≤ 3)
+  unfolding judged-of
+  refused-low n e =
+      by-test (allowed t)
+      (λ a. by-test (lengths-right t clipped buckets side)
+      (λ l. by-test (eqb (length key) (card-of t .width)) (λ w. let e′ = rw (a, l, w) at e in let z : _≡_ {A = ℕ} 0 1 = cc in absurd (omega arith))
+      (λ w. let e′ = rw (a, l, w) at e in let q : 3 ≡ n = cc in (omega arith, omega arith)))
+      (λ l. let e′ = rw (a, l) at e in let q : 2 ≡ n = cc in (omega arith, omega arith)))
+      (λ a. let e′ = rw a at e in let q : 1 ≡ n = cc in (omega arith, omega arith))
 
   -- the settings are those of the numbers, the areas have their lengths, the key its width
   pub record Fine (c : Settings) : Type 0 where
