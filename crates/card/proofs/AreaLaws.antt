@@ -14,6 +14,12 @@ one-stored (u ∷ []) a h = refl
 one-stored [] a h = absurd (omega arith)
 one-stored (u ∷ v ∷ r) a h = absurd (omega arith)
 
+pub two-stored : (l : List ℕ) (a b : ℕ) → length l ≡ 2 → set (set l 0 a) 1 b ≡ a ∷ b ∷ []
+two-stored (u ∷ v ∷ []) a b h = refl
+two-stored [] a b h = absurd (omega arith)
+two-stored (u ∷ []) a b h = absurd (omega arith)
+two-stored (u ∷ v ∷ w ∷ r) a b h = absurd (omega arith)
+
 pub four-stored : (l : List ℕ) (a b c d : ℕ) → length l ≡ 4 → set (set (set (set l 0 a) 1 b) 2 c) 3 d ≡ a ∷ b ∷ c ∷ d ∷ []
 four-stored (u ∷ v ∷ w ∷ x ∷ []) a b c d h = refl
 four-stored [] a b c d h = absurd (omega arith)

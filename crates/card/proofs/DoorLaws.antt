@@ -1,10 +1,12 @@
 -- What each door's definition gives at each outcome. Assumes nothing.
-use mathlib.Core.Path.{_≡_, refl, ap, subst, _∙_}
+use mathlib.Core.Path.{_≡_, sym, ap, subst, _∙_}
 use mathlib.Core.Bool.{true, false}
 use mathlib.Core.List.{List, [], _∷_}
-use Prim.Native.Nat.{ℕ, _^_}
-use lib.ListN.{length}
-use borrow.Author.Tests.{eq-eqb, ne-eqb}
+use Prim.Native.Nat.{ℕ, _^_, _<_}
+use native.Mathlib.Omega.{arith}
+use lib.Dec.{eqb}
+use lib.ListN.{length, getD}
+use borrow.Author.Tests.{eq-eqb, ne-eqb, eqb-true}
 use Rattle.theory.specs.Hash.{H, numbers-of}
 use Rattle.theory.specs.Settings.{Settings, allowed, card-of}
 use Rattle.theory.proofs.ListLaws.{by-test}
@@ -12,7 +14,9 @@ use Rattle.settings.specs.declared.Settings as code
 use Rattle.settings.specs.Checked.{paper, checked-of, number-of}
 use Rattle.hash.specs.declared.Numbers.{Numbers}
 use Rattle.hash.specs.Numbering.{Holds}
-use Rattle.hash.specs.Table.{TableRight, table-entries}
+use Rattle.theory.proofs.ListLaws.{by-test}
+use Rattle.hash.specs.Table.{TableRight, H-by, table-entries}
+use Rattle.hash.proofs.KeyLaws.{by-right}
 use Rattle.hash.proofs.TableLaws.{table-entries-right}
 use Rattle.card.proofs.AreaLaws.{counted-is}
 use Rattle.card.specs.Doors.{
@@ -23,9 +27,9 @@ use Rattle.card.specs.Doors.{
   lengths-of,
   area-lengths-of,
   hash-table-of,
+  hash-as,
   hash-of,
   hash-lent-of,
-  HashedLent,
   Numbered,
   first-hashes,
   counted,
@@ -64,49 +68,34 @@ module _ (table : List ℕ) where
   pub table-right : length table ≡ 3328 → TableRight 13 (hash-table-of table .area)
   table-right right = subst (λ (f : Filled). TableRight 13 (f .area)) (hash-table-0 right) (table-entries-right 13)
 
-module _ (key h : List ℕ) where
-  pub hash-2 : (length h ≡ 1 → ⊥) → refused 2 h ≡ hash-of key h
-  unfolding hash-of
+module _ (x : ℕ) (key h : List ℕ) where
+  pub hash-2 : (length h ≡ 1 → ⊥) → refused 2 h ≡ hash-as x key h
+  unfolding hash-as
   hash-2 wrong = rw (ne-eqb (length h) 1 wrong)
 
-  pub hash-3 : length h ≡ 1 → (length key ≡ 13 → ⊥) → refused 3 h ≡ hash-of key h
-  unfolding hash-of
+  pub hash-3 : length h ≡ 1 → (length key ≡ 13 → ⊥) → refused 3 h ≡ hash-as x key h
+  unfolding hash-as
   hash-3 right wrong = rw (eq-eqb (length h) 1 right, ne-eqb (length key) 13 wrong)
 
-  pub hash-0 : length h ≡ 1 → length key ≡ 13 → filled (H key ∷ []) ≡ hash-of key h
-  unfolding hash-of
+  pub hash-0 : length h ≡ 1 → length key ≡ 13 → filled (x ∷ []) ≡ hash-as x key h
+  unfolding hash-as
   hash-0 right long = rw (eq-eqb (length h) 1 right, eq-eqb (length key) 13 long)
 
-  module _ (table : List ℕ) where
-    lent-wrong : (length table ≡ 3328 → ⊥) → refused 2 h ≡ hash-lent-of table key h
-    unfolding hash-lent-of
-    lent-wrong wrong = rw (ne-eqb (length table) 3328 wrong)
+module _ (table key h : List ℕ) where
+  pub lent-wrong : (length table ≡ 3328 → ⊥) → refused 2 h ≡ hash-lent-of table key h
+  unfolding hash-lent-of
+  lent-wrong wrong = rw (ne-eqb (length table) 3328 wrong)
 
-    lent-right : length table ≡ 3328 → hash-of key h ≡ hash-lent-of table key h
-    unfolding hash-lent-of
-    lent-right right = rw (eq-eqb (length table) 3328 right)
+  pub lent-long : length table ≡ 3328 → hash-as (H-by table key) key h ≡ hash-lent-of table key h
+  unfolding hash-lent-of
+  lent-long long = rw (eq-eqb (length table) 3328 long)
 
-    -- a refusal meets the whole promise
-    lent-refused : (n : ℕ) → refused n h ≡ hash-lent-of table key h → HashedLent table key h n h
-    lent-refused n e = record { number-is = ap (λ (f : Filled). f .number) e; unaltered = λ _. refl; hashed = λ _. e }
-
-    pub lent-2-table : (length table ≡ 3328 → ⊥) → HashedLent table key h 2 h
-    lent-2-table wrong = lent-refused 2 (lent-wrong wrong)
-
-    pub lent-2 : length table ≡ 3328 → (length h ≡ 1 → ⊥) → HashedLent table key h 2 h
-    lent-2 right wrong = lent-refused 2 (hash-2 wrong ∙ lent-right right)
-
-    pub lent-3 : length table ≡ 3328 → length h ≡ 1 → (length key ≡ 13 → ⊥) → HashedLent table key h 3 h
-    lent-3 right one wrong = lent-refused 3 (hash-3 one wrong ∙ lent-right right)
-
-    pub lent-0 : length table ≡ 3328 → length h ≡ 1 → length key ≡ 13 → (x : ℕ) → (TableRight 13 table → x ≡ H key) → HashedLent table key h 0 (x ∷ [])
-    lent-0 right one long x gives =
-        let e = hash-0 one long ∙ lent-right right in
-        record {
-          number-is = ap (λ (f : Filled). f .number) e;
-          unaltered = λ no. absurd (no refl);
-          hashed = λ good. rw (gives good) e;
-        }
+  -- with a right table of its length it is the door without a table
+  pub lent-right : length table ≡ 3328 → TableRight 13 table → ((i : ℕ) → getD key i 0 < 256) → hash-lent-of table key h ≡ hash-of key h
+  unfolding hash-as
+  lent-right long right bytes =
+      sym (lent-long long)
+      ∙ by-test (eqb (length key) 13) (λ e. rw (by-right 13 table right key (omega (arith, eqb-true (length key) 13 e)) bytes)) (λ e. rw e)
 
 -- both areas as they were
 abbrev pub kept : ℕ → List ℕ → List ℕ → Numbered

@@ -1,28 +1,67 @@
 -- Laws of the doors of search and tally: each answer is `perform`'s. Assumes nothing.
-use mathlib.Core.Path.{_≡_, sym, ap, _∙_}
+use mathlib.Core.Path.{_≡_, refl, sym, ap}
+use mathlib.Core.Bool.{Bool, true, false, not, _&&_, _||_}
 use mathlib.Core.List.{List, [], _∷_}
 use Prim.Native.Nat.{ℕ}
 use borrow.Author.Tests.{eq-eqb, ne-eqb}
 use lib.ListN.{length}
 use Rattle.theory.specs.Settings.{Settings}
 use Rattle.theory.specs.Layout.{Areas}
-use Rattle.theory.specs.Lookup.{Answer, driver-number}
-use Rattle.theory.specs.Ledger.{search, tally, Totals, Step, answered, totalled}
+use Rattle.theory.specs.Ledger.{search, tally, Totals, Step, totalled}
 use Rattle.theory.specs.Calls.{perform}
-use Rattle.lookup.specs.Answers.{driver-of, lookup-areas, search-of, LentAnswer}
+use Rattle.theory.specs.Lookup.{Answer, bare, accepted, RecordPlace, driver-number}
+use Rattle.theory.proofs.ListLaws.{by-test}
+use Rattle.lookup.specs.declared.locating.Located.{Located}
+use Rattle.lookup.specs.Answers.{answer-of, lookup-areas}
+use Rattle.lookup.specs.Locating.{lies-at, LocatedCall}
 use Rattle.lookup.specs.Tallies.{read-areas}
-use Rattle.card.specs.Reading.{SearchedLent, totals-in, tally-of}
+use Rattle.lookup.proofs.LocateLaws.{place-accepted}
+use Rattle.card.specs.Doors.{refused}
+use Rattle.card.specs.Reading.{answer-in, place-given, search-place-of, totals-in, tally-of}
 
-module _ (t : Settings) (clipped buckets side key : List ℕ) (x : Answer) (n : ℕ) (number : n ≡ driver-number x) where
-  pub searched : record { reply = answered x; state = lookup-areas clipped buckets side } ≡ perform t 0 (search key) (lookup-areas clipped buckets side)
-      → n ≡ search-of t clipped buckets side key
-  unfolding search-of
-  searched e = number ∙ ap (λ (s : Step Areas). driver-of (s .reply)) e
+-- ---- search with the place of the record
+module _ (t : Settings) (clipped buckets side key place : List ℕ) (r : Located) (call : LocatedCall t clipped buckets side key r) where
+  pub placed : place-given (answer-of (r .answer)) (lies-at r) place ≡ search-place-of t clipped buckets side key place
+  unfolding place-given search-place-of
+  placed =
+      let is : answer-in (perform t 0 (search key) (lookup-areas clipped buckets side) .reply) ≡ answer-of (r .answer)
+      = ap (λ (s : Step Areas). answer-in (s .reply)) (sym (call .answers)) in
+      rw is
+      (by-test (accepted (r .answer .number))
+      (λ ok. ap (λ (x : RecordPlace). place-given (answer-of (r .answer)) x place) (place-accepted t clipped buckets side key r call ok))
+      (λ away. rw away))
 
-  pub searched-lent : (table : List ℕ) → LentAnswer table t clipped buckets side key x → SearchedLent table t clipped buckets side key n
-  searched-lent table a =
-      record { other-length = λ o. number ∙ ap driver-number (a .other-length o); right-table = λ l right. searched (a .right-table l right) }
+-- one of two tests holds, by the opposites of both
+pub either-holds : (a b : Bool) → (not a && not b) ≡ false → (a || b) ≡ true
+either-holds true b e = refl
+either-holds false true e = refl
+either-holds false false e = sym e
 
+pub neither-holds : (a b : Bool) → (not a && not b) ≡ true → (a || b) ≡ false
+neither-holds true b e = sym e
+neither-holds false true e = sym e
+neither-holds false false e = refl
+
+module _ (x : Answer) (lies : RecordPlace) (place : List ℕ) where
+  pub place-1 : x .number ≡ 1 → refused (driver-number x) place ≡ place-given x lies place
+  unfolding place-given
+  place-1 e = rw (eq-eqb (x .number) 1 e)
+
+  module _ (not-1 : x .number ≡ 1 → ⊥) where
+    pub place-2 : (length place ≡ 2 → ⊥) → refused (driver-number (bare 2)) place ≡ place-given x lies place
+    unfolding place-given
+    place-2 wrong = rw (ne-eqb (x .number) 1 not-1, ne-eqb (length place) 2 wrong)
+
+    module _ (two : length place ≡ 2) where
+      pub place-refused : accepted (x .number) ≡ false → refused (driver-number x) place ≡ place-given x lies place
+      unfolding place-given
+      place-refused away = rw (ne-eqb (x .number) 1 not-1, eq-eqb (length place) 2 two, away)
+
+      pub place-there : accepted (x .number) ≡ true → record { number = driver-number x; area = lies .area ∷ lies .start ∷ [] } ≡ place-given x lies place
+      unfolding place-given
+      place-there ok = rw (ne-eqb (x .number) 1 not-1, eq-eqb (length place) 2 two, ok)
+
+-- ---- tally
 module _ (t : Settings) (ledger clipped buckets side totals : List ℕ) (x : Totals)
     (e : record { reply = totalled x; state = read-areas ledger clipped buckets side } ≡ perform t 0 tally (read-areas ledger clipped buckets side)) where
   is : totals-in (perform t 0 tally (read-areas ledger clipped buckets side) .reply) ≡ x

@@ -1,5 +1,4 @@
 -- What each door answers on every input: its number, and each lent area as the call leaves it. Assumes nothing.
-use mathlib.Core.Path.{_≡_}
 use mathlib.Core.Bool.{Bool, cond}
 use mathlib.Core.List.{List, [], _∷_, _++_, map}
 use Prim.Native.Nat.{ℕ, _-_, _*_, _^_}
@@ -20,7 +19,7 @@ use Rattle.theory.specs.Settings.{
   side-length,
   work-length,
 }
-use Rattle.hash.specs.Table.{TableRight, table-entries}
+use Rattle.hash.specs.Table.{H-by, table-entries}
 
 -- a refusal unless a test holds; else what follows
 abbrev pub unless : {A : Type 0} → Bool → A → A → A
@@ -56,21 +55,17 @@ area-lengths-of t lengths =
 unfoldable pub hash-table-of : List ℕ → Filled
 hash-table-of table = unless (eqb (length table) (256 * key-width)) (refused 2 table) (filled (table-entries key-width))
 
--- 2 when the area is not of 1 number; 3 when the key is not of 13 bytes; else H of the key
-unfoldable pub hash-of : List ℕ → List ℕ → Filled
-hash-of key h = unless (eqb (length h) 1) (refused 2 h) (unless (eqb (length key) key-width) (refused 3 h) (filled (H key ∷ [])))
+-- 2 when the area is not of 1 number; 3 when the key is not of 13 bytes; else the number x
+unfoldable pub hash-as : ℕ → List ℕ → List ℕ → Filled
+hash-as x key h = unless (eqb (length h) 1) (refused 2 h) (unless (eqb (length key) key-width) (refused 3 h) (filled (x ∷ [])))
 
--- the same with a lent table: 2 also when the table is not of 3,328 numbers
+-- H of the key
+abbrev pub hash-of : List ℕ → List ℕ → Filled
+hash-of key h = hash-as (H key) key h
+
+-- with a lent table, whatever it holds: 2 also when it is not of 3,328 numbers; else the xor of its entries for the bytes of the key
 unfoldable pub hash-lent-of : List ℕ → List ℕ → List ℕ → Filled
-hash-lent-of table key h = unless (eqb (length table) (256 * key-width)) (refused 2 h) (hash-of key h)
-
--- what the door with a lent table promises of its number and of the area at exit
-pub record HashedLent (table key before : List ℕ) (number : ℕ) (after : List ℕ) : Type 0 where
-  -- on every input, whatever the table holds: the number, and a refused call alters nothing
-  pub number-is : number ≡ hash-lent-of table key before .number
-  pub unaltered : (number ≡ 0 → ⊥) → after ≡ before
-  -- with the right table: the number and the area
-  pub hashed : TableRight key-width table → _≡_ {A = Filled} (record { number = number; area = after }) (hash-lent-of table key before)
+hash-lent-of table key h = unless (eqb (length table) (256 * key-width)) (refused 2 h) (hash-as (H-by table key) key h)
 
 -- the number answered, and both lent areas at exit
 pub record Numbered : Type 0 where

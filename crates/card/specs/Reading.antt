@@ -1,24 +1,35 @@
 -- What the doors of search and tally answer on every input. Assumes nothing.
-use mathlib.Core.Path.{_≡_}
 use mathlib.Core.Bool.{cond}
 use mathlib.Core.List.{List, [], _∷_}
-use Prim.Native.Nat.{ℕ, _*_}
+use Prim.Native.Nat.{ℕ}
 use lib.Dec.{eqb}
 use lib.ListN.{length}
-use Rattle.theory.specs.Settings.{Settings, allowed, card-of}
-use Rattle.theory.specs.Lookup.{bare, driver-number}
-use Rattle.theory.specs.Ledger.{tally, Totals, no-totals, Reply, answered, handed, totalled}
+use Rattle.theory.specs.Settings.{Settings, card-of}
+use Rattle.theory.specs.Lookup.{Answer, bare, accepted, RecordPlace, record-place, driver-number}
+use Rattle.theory.specs.Ledger.{search, tally, Totals, no-totals, Reply, answered, handed, totalled}
 use Rattle.theory.specs.Calls.{perform}
-use Rattle.hash.specs.Table.{TableRight}
-use Rattle.lookup.specs.Answers.{search-of}
+use Rattle.lookup.specs.Answers.{lookup-areas}
 use Rattle.lookup.specs.Tallies.{read-areas}
 use Rattle.card.specs.Doors.{Filled, refused, filled, unless}
 
--- the search door with a lent table: a table of another length is refused with 2 (after 1); with the right table it is the search door's number. On another
--- table of the right length the number is some number, and nothing is altered
-pub record SearchedLent (table : List ℕ) (t : Settings) (clipped buckets side key : List ℕ) (number : ℕ) : Type 0 where
-  pub other-length : (length table ≡ 256 * card-of t .width → ⊥) → number ≡ driver-number (bare (cond (allowed t) 2 1))
-  pub right-table : length table ≡ 256 * card-of t .width → TableRight (card-of t .width) table → number ≡ search-of t clipped buckets side key
+-- what the search call gives back
+abbrev pub answer-in : Reply → Answer
+answer-in (answered x) = x
+answer-in (handed x) = bare 0
+answer-in (totalled x) = bare 0
+
+-- the number of a search's answer, and the place of its record in a lent area: 1; 2 also when that area is not of 2 numbers; then the search's own refusal;
+-- else the place, which is 0 and 0 for an absent flow
+unfoldable pub place-given : Answer → RecordPlace → List ℕ → Filled
+place-given x lies place =
+    cond (eqb (x .number) 1) (refused (driver-number x) place)
+    (unless (eqb (length place) 2) (refused (driver-number (bare 2)) place)
+    (unless (accepted (x .number)) (refused (driver-number x) place) (record { number = driver-number x; area = lies .area ∷ lies .start ∷ [] })))
+
+-- the search call's answer, with where the record of the key lies
+unfoldable pub search-place-of : Settings → List ℕ → List ℕ → List ℕ → List ℕ → List ℕ → Filled
+search-place-of t clipped buckets side key place =
+    place-given (answer-in (perform t 0 (search key) (lookup-areas clipped buckets side) .reply)) (record-place (card-of t) clipped buckets side key) place
 
 -- what the tally call gives back
 abbrev pub totals-in : Reply → Totals

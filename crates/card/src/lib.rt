@@ -11,7 +11,8 @@ ghost use Prim.Native.Nat.{_^_, _≤_};
 ghost use lib.ListN.{length};
 ghost use Rattle.theory.specs.Settings.{allowed, card-of};
 ghost use Rattle.settings.specs.Checked.{paper};
-ghost use Rattle.card.specs.Doors.{Filled, settings-check-of, lengths-of, area-lengths-of, hash-table-of, hash-of, HashedLent, first-hashes, Numbered, key-buckets-of};
+ghost use Rattle.card.specs.Doors.{Filled, settings-check-of, lengths-of, area-lengths-of, hash-table-of, hash-of, hash-lent-of};
+ghost use Rattle.card.specs.Doors.{first-hashes, Numbered, key-buckets-of};
 
 pub mod packets; // packets.rt: the door that reads a packet
 pub mod reading; // reading.rt: the doors of search and tally
@@ -118,10 +119,10 @@ pub extern "C" fn flow_hash(key: &[u8], h: &mut [u64]) -> u32
     0
 }
 
-// H of a key, with a lent table: 2 if the table is not of 3,328 numbers, or `h` not of 1; 3 if the key is not of 13 bytes.
+// What a lent table gives for a key, H where the table is right: 2 if the table is not of 3,328 numbers, or `h` not of 1; 3 if the key is not of 13 bytes.
 #[no_mangle]
 pub extern "C" fn flow_hash_lent(lent: &[u64], key: &[u8], h: &mut [u64]) -> u32
-    ensures { λ r. ⌜ HashedLent (now (lent .entry)) (now (key .entry)) (now (h .entry)) r (now (h .exit)) ⌝ }
+    ensures { λ r. ⌜ _≡_ {A = Filled} (record { number = r; area = now (h .exit) }) (hash-lent-of (now (lent .entry)) (now (key .entry)) (now (h .entry))) ⌝ }
 {
     if lent.len() != hash::TABLE_LENGTH {
         return 2;

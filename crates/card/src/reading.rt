@@ -1,13 +1,18 @@
 // The doors that only read: search and tally.
+use lookup::locating::Located;
+use lookup::searching::bare;
+use lookup::searching::driver_number;
 use lookup::tallying::Totals;
 use settings::Given;
 ghost use mathlib.Core.Path.{_≡_};
 ghost use mathlib.Core.List.{[], _∷_};
 ghost use lib.ListN.{length};
-ghost use Rattle.lookup.specs.Answers.{search-of};
+ghost use Rattle.theory.specs.Lookup.{driver-number};
+ghost use Rattle.lookup.specs.Answers.{search-of, search-with, answer-of};
 ghost use Rattle.lookup.specs.Bursts.{Burst, burst-of};
+ghost use Rattle.lookup.specs.Locating.{lies-at};
 ghost use Rattle.card.specs.Doors.{Filled};
-ghost use Rattle.card.specs.Reading.{SearchedLent, tally-of};
+ghost use Rattle.card.specs.Reading.{place-given, search-place-of, tally-of};
 
 // The forwarding driver's search, whole by itself.
 #[no_mangle]
@@ -51,7 +56,9 @@ pub extern "C" fn flow_search_lent(
     side: &[u8],
     key: &[u8],
 ) -> u64
-    ensures { λ r. ⌜ SearchedLent (now (table .entry)) (record { p = p; k = k; room = room; top = top; capacity = capacity; side-places = «side_places» }) (now (clipped .entry)) (now (buckets .entry)) (now (side .entry)) (now (key .entry)) r ⌝ }
+    ensures { λ r. ⌜ r ≡ driver-number (search-with (now (table .entry))
+        (record { p = p; k = k; room = room; top = top; capacity = capacity; side-places = «side_places» })
+        (now (clipped .entry)) (now (buckets .entry)) (now (side .entry)) (now (key .entry))) ⌝ }
 {
     let given = Given {
         p,
@@ -61,14 +68,7 @@ pub extern "C" fn flow_search_lent(
         capacity,
         side_places,
     };
-    lookup::searching::driver_number(lookup::searching::search_lent(
-        table,
-        given,
-        clipped,
-        buckets,
-        side,
-        key,
-    ))
+    driver_number(lookup::searching::search_lent(table, given, clipped, buckets, side, key))
 }
 
 // Many keys at once, with a table that the driver keeps: 1; 2; 3 if `keys` is not of as many keys as there are answers; else each answer is the number of its key.
@@ -100,6 +100,59 @@ pub extern "C" fn flow_search_burst(
         side_places,
     };
     lookup::bursts::search_burst(table, given, clipped, buckets, side, keys, answers)
+}
+
+// The number of an answer, and its record's place in a lent area of 2 numbers.
+fn give_place(found: Located, place: &mut [u64]) -> u64
+    ensures { λ r. ⌜ _≡_ {A = Filled} (record { number = r; area = now (place .exit) })
+        (place-given (answer-of (found .answer)) (lies-at found) (now (place .entry))) ⌝ }
+{
+    let answer = found.answer;
+    let number = answer.number;
+    if number == 1 {
+        return driver_number(answer);
+    }
+    if place.len() != 2 {
+        return driver_number(bare(2));
+    }
+    if (number != 0) & (number != 100) {
+        return driver_number(answer);
+    }
+    place[0] = found.area;
+    place[1] = found.start;
+    driver_number(answer)
+}
+
+// Search, with the place of the record: 1; 2, also if `place` is not of 2 numbers; 3; 5; else `place` holds the area, 1 for the buckets, 2 for the side store,
+// and the byte of it where the record starts; for an absent flow 0 and 0.
+#[no_mangle]
+pub extern "C" fn flow_search_place(
+    p: u64,
+    k: u64,
+    room: u64,
+    top: u64,
+    capacity: u64,
+    side_places: u64,
+    clipped: &[u8],
+    buckets: &[u8],
+    side: &[u8],
+    key: &[u8],
+    place: &mut [u64],
+) -> u64
+    ensures { λ r. ⌜ _≡_ {A = Filled} (record { number = r; area = now (place .exit) })
+        (search-place-of (record { p = p; k = k; room = room; top = top; capacity = capacity; side-places = «side_places» })
+        (now (clipped .entry)) (now (buckets .entry)) (now (side .entry)) (now (key .entry)) (now (place .entry))) ⌝ }
+{
+    let given = Given {
+        p,
+        k,
+        room,
+        top,
+        capacity,
+        side_places,
+    };
+    let found = lookup::locating::locate(given, clipped, buckets, side, key);
+    give_place(found, place)
 }
 
 // Records in buckets, records in the side store, buckets marked 255, fill.

@@ -68,12 +68,7 @@ fn main() {
     let mut side = [0u8; 138];
     let mut work = [0u16; 128];
     update::clear(
-        lines::P,
-        lines::K,
-        lines::ROOM,
-        lines::TOP,
-        lines::CAPACITY,
-        lines::SIDE_PLACES,
+        lines::given(),
         &mut ledger,
         &mut true_counts,
         &mut clipped,

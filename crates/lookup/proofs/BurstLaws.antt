@@ -17,12 +17,9 @@ use Rattle.theory.specs.Settings as plain
 use Rattle.theory.specs.Settings.{card-of}
 use Rattle.theory.specs.Placing.{least-count, chosen}
 use Rattle.theory.specs.Lookup.{Answer, bare, counter, answer-at, search-areas, driver-number}
-use Rattle.theory.specs.Layout.{Areas}
-use Rattle.theory.specs.Ledger.{Step}
 use Rattle.theory.proofs.ListLaws.{and-right, by-test, length-upto, getD-map-upto, all-upto, map-cong, least-le}
 use Rattle.theory.proofs.SettingsLaws.{ranges}
 use Rattle.hash.specs.Table.{TableRight, H-by}
-use Rattle.hash.proofs.KeyLaws.{by-right}
 use Rattle.settings.specs.declared.Settings.{Settings}
 use Rattle.settings.specs.Checked.{paper}
 use Rattle.lookup.specs.declared.counters.Choice.{Choice}
@@ -30,9 +27,10 @@ use Rattle.lookup.specs.Choosing.{card-at, ChoiceOf}
 use Rattle.lookup.specs.Places.{ChoiceFits, place-by}
 use Rattle.lookup.specs.declared.judging.Judged.the-variants.{Ready, Refused}
 use Rattle.lookup.specs.Bursts.{key-at, each, judged-burst, packed-of, unpacked-of, choice-at, number-by, number-at, burst-of}
-use Rattle.lookup.specs.Answers.{driver-of, search-of, judged-of}
+use Rattle.lookup.specs.Answers.{search-of, judged-of, search-with}
 use Rattle.lookup.proofs.PlaceLaws.{choice-fits, place-by-is, search-is, hashed}
-use Rattle.lookup.proofs.JudgeLaws.{lengths-right, burst-lengths, fine-burst, refused-or, refused-is, fine, passes, search-performs}
+use Rattle.lookup.proofs.JudgeLaws.{lengths-right, burst-lengths, fine-burst, refused-is, fine, passes, search-number, lent-judged}
+use Rattle.lookup.proofs.TableLaws.{with-ready, with-number}
 
 -- ---- a number for each key: one of them, how many, and two alike
 pub each-at : (f : ℕ → ℕ) (n j : ℕ) → j < n → getD (each f n) j 0 ≡ f j
@@ -198,16 +196,11 @@ module _ (table clipped buckets side keys before : List ℕ) (t : plain.Settings
 
 -- ---- one key by itself, judged as a search
 module _ (t : plain.Settings) (clipped buckets side key : List ℕ) where
-  searched : (x : Answer) → refused-or t clipped buckets side key bare (search-areas (card-of t) clipped buckets side key) ≡ x
-      → driver-number x ≡ search-of t clipped buckets side key
-  unfolding search-of
-  searched x e = ap (λ (s : Step Areas). driver-of (s .reply)) (search-performs t clipped buckets side key x e)
-
   pub refused-number : (n : ℕ) → judged-of t clipped buckets side key ≡ Refused n → (x : Answer) {r : ℕ} → r ≡ driver-number x → x ≡ bare n
       → r ≡ search-of t clipped buckets side key
   refused-number n e x is-number is-bare =
       is-number ∙ ap driver-number is-bare
-      ∙ searched (bare n) (refused-is t clipped buckets side key bare (search-areas (card-of t) clipped buckets side key) n e)
+      ∙ search-number t clipped buckets side key (bare n) (refused-is t clipped buckets side key bare (search-areas (card-of t) clipped buckets side key) n e)
 
   pub one-number : (c : Settings) → judged-of t clipped buckets side key ≡ Ready c → (h : ℕ) → h ≡ H key
       → number-at (paper c) clipped buckets side (key-at (card-of (paper c) .width) key 0) h ≡ search-of t clipped buckets side key
@@ -220,10 +213,10 @@ module _ (t : plain.Settings) (clipped buckets side key : List ℕ) where
       ap (λ (k : List ℕ). driver-number (search-areas (card-at (paper c) h) clipped buckets side k)) whole
       ∙ ap driver-number (hashed (paper c) clipped buckets side key h is-H)
       ∙ ap (λ (u : plain.Settings). driver-number (search-areas (card-of u) clipped buckets side key)) (right .same)
-      ∙ searched (search-areas (card-of t) clipped buckets side key)
+      ∙ search-number t clipped buckets side key (search-areas (card-of t) clipped buckets side key)
       (passes t clipped buckets side key c e bare (search-areas (card-of t) clipped buckets side key))
 
--- ---- with the right table each answer of an accepted burst is the search door's number of its key
+-- ---- each answer of an accepted burst is the number of a search with its key alone
 module _ (table clipped buckets side keys before : List ℕ) (t : plain.Settings) (c : Settings)
     (ready : judged-burst table t clipped buckets side keys (length before) ≡ Ready c) where
   abbrev key : ℕ → List ℕ
@@ -235,6 +228,11 @@ module _ (table clipped buckets side keys before : List ℕ) (t : plain.Settings
       let w = card-of t .width in
       let size : length keys ≡ length before * w = good .keys-size ∙ ap (λ (u : plain.Settings). length before * card-of u .width) (good .same) in
       length-take-le w (drop (j * w) keys) (rw length-drop (omega (arith, size, suc-mul j w, mul-le-mul-right w lt)))
+
+  table-long : length table ≡ 256 * card-of t .width
+  table-long =
+      let good = fine-burst table clipped buckets side keys (length before) t c ready in
+      good .table-size ∙ ap (λ (u : plain.Settings). 256 * card-of u .width) (good .same)
 
   judged-alone : (j : ℕ) → j < length before → judged-of t clipped buckets side (key j) ≡ Ready c
   unfolding judged-of judged-burst
@@ -248,6 +246,25 @@ module _ (table clipped buckets side keys before : List ℕ) (t : plain.Settings
       (λ l. let e′ = rw (a, l) at ready in let z : _≡_ {A = ℕ} 0 1 = cc in absurd (omega arith)))
       (λ a. let e′ = rw a at ready in let z : _≡_ {A = ℕ} 0 1 = cc in absurd (omega arith))
 
+  -- the number of key j, under settings that are t
+  abbrev number : plain.Settings → ℕ → ℕ
+  number u j = number-at u clipped buckets side (key-at (card-of u .width) keys j) (H-by table (key-at (card-of u .width) keys j))
+
+  number-with : (j : ℕ) → j < length before → driver-number (search-with table t clipped buckets side (key j)) ≡ number t j
+  unfolding number-at
+  number-with j lt =
+      let alone = lent-judged table t clipped buckets side (key j) table-long ∙ judged-alone j lt in
+      sym (ap driver-number (with-ready table t clipped buckets side (key j) c alone))
+
+  -- on every table each answer is that of a search with it
+  pub burst-with : burst-of table t clipped buckets side keys before
+      ≡ record { number = 0; answers = each (λ j. driver-number (search-with table t clipped buckets side (key j))) (length before) }
+  burst-with =
+      let same = fine-burst table clipped buckets side keys (length before) t c ready .same in
+      sym (burst-answered table clipped buckets side keys before t c ready same _
+      (each-same _ (number t) (length before) number-with ∙ ap (λ (u : plain.Settings). each (number u) (length before)) (sym same)))
+
+  -- with the right table it is the search door's number of its key
   module _ (right : TableRight (card-of t .width) table) (bytes : (i : ℕ) → getD keys i 0 < 256) where
     key-bytes : (j : ℕ) → j < length before → (i : ℕ) → getD (key j) i 0 < 256
     key-bytes j lt i =
@@ -257,20 +274,9 @@ module _ (table clipped buckets side keys before : List ℕ) (t : plain.Settings
         (λ e. let long = right-length j lt in
         rw (List·getD-eq-default (key j) 0 {n = i} (omega (arith, long, ltb-false i w e))) (omega arith))
 
-    by-key : (j : ℕ) → j < length before → number-at t clipped buckets side (key j) (H-by table (key j)) ≡ search-of t clipped buckets side (key j)
-    unfolding number-at
-    by-key j lt =
-        let w = card-of t .width in
-        let h = by-right w table right (key j) (omega (arith, right-length j lt)) (key-bytes j lt) in
-        ap driver-number (hashed t clipped buckets side (key j) (H-by table (key j)) h)
-        ∙ searched t clipped buckets side (key j) (search-areas (card-of t) clipped buckets side (key j))
-        (passes t clipped buckets side (key j) c (judged-alone j lt) bare (search-areas (card-of t) clipped buckets side (key j)))
-
     pub burst-searches : burst-of table t clipped buckets side keys before
         ≡ record { number = 0; answers = each (λ j. search-of t clipped buckets side (key j)) (length before) }
     burst-searches =
-        let same = fine-burst table clipped buckets side keys (length before) t c ready .same in
-        let of : plain.Settings → ℕ → ℕ = λ u j. number-at u clipped buckets side (key-at (card-of u .width) keys j) (H-by table (key-at (card-of u .width) keys j)) in
-        sym (burst-answered table clipped buckets side keys before t c ready same (each (λ j. search-of t clipped buckets side (key j)) (length before))
-        (each-same (λ j. search-of t clipped buckets side (key j)) (of t) (length before)
-        (λ j lt. sym (by-key j lt)) ∙ ap (λ (u : plain.Settings). each (of u) (length before)) (sym same)))
+        burst-with
+        ∙ ap (λ (l : List ℕ). record { number = 0; answers = l })
+        (each-same _ _ (length before) (λ j lt. with-number table t clipped buckets side (key j) table-long right (key-bytes j lt)))

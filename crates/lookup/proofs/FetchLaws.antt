@@ -1,91 +1,110 @@
--- Laws of the part that the second search call hands back: a part of a part lies in the whole, and the part at the place where the search looks. Assumes nothing.
+-- Laws of the second search call: where the record lies nowhere its part is empty, and else the bytes of that place.
 use mathlib.Core.Path.{_≡_, refl, sym, ap, _∙_}
-use mathlib.Core.Bool.{Bool}
-use mathlib.Core.List.{List, [], _∷_}
-use Prim.Native.Nat.{ℕ, zero, suc, _+_, _≤_}
-use native.Mathlib.Omega.{arith}
-use lib.ListN.{length, take, drop, length-take, length-drop}
-use lib.Seq.{take-take, drop-drop}
+use mathlib.Core.Bool.{Bool, true, false, cond}
+use mathlib.Core.List.{List, []}
+use Prim.Native.Nat.{ℕ, _+_, _≤_}
+use lib.Dec.{eqb}
+use borrow.Author.Tests.{eqb-true, eqb-false}
+use lib.ListN.{length, take, drop}
 use denote.Ref.{RefT, now}
-use Rattle.theory.specs.Settings.{Settings, Card, card-of, record-size}
-use Rattle.theory.specs.Hash.{H}
-use Rattle.theory.specs.Records.{find-bytes}
-use Rattle.theory.specs.Lookup.{place, part-at, fetch-areas}
-use Rattle.lookup.specs.Choosing.{card-at}
-use Rattle.lookup.specs.Places.{place-of, goes-to-bucket}
-use Rattle.lookup.specs.Parts.{one-of, Found, InPart, Fetched, FetchedCall}
-use Rattle.lookup.specs.declared.placing.Place.{Place}
+use Rattle.theory.specs.Settings.{Settings, card-of, record-size, buckets-length, side-length}
+use Rattle.theory.specs.Lookup.{RecordPlace, search-areas, fetch-areas, record-place}
+use Rattle.theory.proofs.ListLaws.{by-test}
+use Rattle.theory.proofs.SettingsLaws.{sound}
+use Rattle.theory.proofs.RecordPlaceLaws.{held-bytes, held-area, not-held, held-inside}
+use Rattle.lookup.specs.declared.locating.Located.{Located}
+use Rattle.lookup.specs.declared.judging.Judged.{Judged}
 use Rattle.lookup.specs.declared.judging.Judged.the-variants.{Ready, Refused}
+use Rattle.lookup.specs.Places.{Lent}
 use Rattle.lookup.specs.Answers.{judged-of}
-use Rattle.settings.specs.declared.Settings as settings
-use Rattle.lookup.proofs.PlaceLaws.{fetch-is, fetch-hashed, goes-hashed}
-use Rattle.lookup.proofs.JudgeLaws.{refused-is, passes, fetch-performs}
+use Rattle.lookup.specs.Locating.{lies-at, LocatedCall}
+use Rattle.lookup.specs.Parts.{PartAt, one-of, FetchedCall}
+use Rattle.lookup.proofs.JudgeLaws.{refused-or, refused-is, fine, passes, fetch-performs}
+use Rattle.lookup.proofs.LocateLaws.{place-refused, place-ready}
 
--- a part of a part
-part-of-part : (size at len : ℕ) (l : List ℕ) → at + size ≤ len → take size (drop at (take len l)) ≡ take size (drop at l)
-part-of-part size zero len l h = take-take size len l (omega arith)
-part-of-part size (suc at) zero l h = absurd (omega arith)
-part-of-part size (suc at) (suc len) [] h = refl
-part-of-part size (suc at) (suc len) (x ∷ xs) h = part-of-part size at len xs (omega arith)
+module _ (t : Settings) (clipped : List ℕ) (buckets side : RefT (List ℕ)) (key : List ℕ) (r : Located)
+    (call : LocatedCall t clipped (now buckets) (now side) key r) where
+  abbrev lies : RecordPlace
+  lies = record-place (card-of t) clipped (now buckets) (now side) key
 
-pub in-part : (s : Card) (slice part r : RefT (List ℕ)) (from len n : ℕ) (key : List ℕ) → length key ≡ s .width → part .ptr ≡ (slice .ptr .0, from + slice .ptr .1)
-    → now part ≡ take len (drop from (now slice)) → Found (length key) n part key r → InPart s (now part) n slice key r
-unfolding record-size
-in-part s slice part r from len n key wide there is f =
-    record {
-      is = rw wide at (f .is);
-      lies = λ some. let g = f .lies some in
-          let p = g .part in
-          let inside : g .at + (length key + 4) ≤ length (take len (drop from (now slice))) = rw is at (p .inside) in
-          let long = rw (length-take, length-drop) at inside in
+  abbrev number : ℕ
+  number = search-areas (card-of t) clipped (now buckets) (now side) key .number
+
+  abbrev fetched : List ℕ
+  fetched = fetch-areas (card-of t) clipped (now buckets) (now side) key
+
+  -- ---- nowhere: the empty part
+  no-part : r .area ≡ 0 → (j : Judged) → judged-of t clipped (now buckets) (now side) key ≡ j
+      → refused-or t clipped (now buckets) (now side) key (λ n. []) fetched ≡ []
+  no-part none (Refused n) e = refused-is t clipped (now buckets) (now side) key (λ n. []) _ n e
+  no-part none (Ready c) e =
+      let there = call .lies ∙ place-ready t clipped (now buckets) (now side) key c e in
+      let away : number ≡ 0 → ⊥
+      = λ held. held-area (card-of t) clipped (now buckets) (now side) key held (sym (ap (λ (x : RecordPlace). x .area) there) ∙ none) in
+      passes t clipped (now buckets) (now side) key c e (λ n. []) _ ∙ not-held (card-of t) clipped (now buckets) (now side) key away .1
+
+  pub fetched-none : r .area ≡ 0 → (x : RefT (List ℕ)) → now x ≡ [] → FetchedCall t clipped buckets side key x
+  fetched-none none x e =
+      record {
+        is = fetch-performs t clipped (now buckets) (now side) key (now x) (no-part none _ refl ∙ sym e);
+        lies = λ some. absurd (some e);
+      }
+
+  -- ---- somewhere: the key is held, and its record lies there
+  record Held : Type 0 where
+    lent : Lent t clipped (now buckets) (now side)
+    held : number ≡ 0
+    there : lies-at r ≡ lies
+    passed : refused-or t clipped (now buckets) (now side) key (λ n. []) fetched ≡ fetched
+
+  module _ (some : r .area ≡ 0 → ⊥) where
+    known : (j : Judged) → judged-of t clipped (now buckets) (now side) key ≡ j → Held
+    known (Refused n) e = absurd (some (ap (λ (x : RecordPlace). x .area) (call .lies ∙ place-refused t clipped (now buckets) (now side) key n e)))
+    known (Ready c) e =
+        let good = fine t clipped (now buckets) (now side) key c e in
+        let at = call .lies ∙ place-ready t clipped (now buckets) (now side) key c e in
+        record {
+          lent = rw (good .same) at (good .lent);
+          held = by-test (eqb number 0) (λ z. eqb-true number 0 z)
+              (λ z. let away = not-held (card-of t) clipped (now buckets) (now side) key (eqb-false number 0 z) .0 in
+              absurd (some (ap (λ (x : RecordPlace). x .area) (at ∙ away))));
+          there = at;
+          passed = passes t clipped (now buckets) (now side) key c e (λ n. []) fetched;
+        }
+
+    known-here : Held
+    known-here = known _ refl
+
+    start-is : r .start ≡ lies .start
+    start-is = ap (λ (x : RecordPlace). x .start) (known-here .there)
+
+    module _ (g : Bool) (which : eqb (r .area) 1 ≡ g) where
+      area-is : eqb (lies .area) 1 ≡ g
+      area-is = sym (ap (λ (x : RecordPlace). eqb (x .area) 1) (known-here .there)) ∙ which
+
+      lent-length : (b : Bool) → cond b (buckets-length (card-of t)) (side-length (card-of t)) ≡ length (now (one-of b buckets side))
+      lent-length true = sym (known-here .lent .buckets-size)
+      lent-length false = sym (known-here .lent .side-size)
+
+      pub record-inside : r .start + record-size (card-of t) ≤ length (now (one-of g buckets side))
+      record-inside =
+          rw (start-is, ← lent-length g, ← area-is)
+          (held-inside (card-of t) clipped (now buckets) (now side) key (sound t (known-here .lent .ok)) (known-here .held))
+
+      lent-area : (b : Bool) → cond b (now buckets) (now side) ≡ now (one-of b buckets side)
+      lent-area true = refl
+      lent-area false = refl
+
+      pub fetched-there : (x : RefT (List ℕ)) → PartAt (record-size (card-of t)) (r .start) (one-of g buckets side) x → FetchedCall t clipped buckets side key x
+      fetched-there x part =
+          let size = record-size (card-of t) in
+          let bytes = held-bytes (card-of t) clipped (now buckets) (now side) key (known-here .held) in
           record {
-            at = from + g .at;
-            part = record {
-              inside = omega (arith, long, wide);
-              bytes = p .bytes ∙ rw (is, wide, part-of-part (s .width + 4) (g .at) len (drop from (now slice)) (omega (arith, long, wide)), drop-drop (g .at) from (now slice));
-              there = p .there ∙ rw there (ap (λ (x : ℕ). (slice .ptr .0, x)) (omega arith));
-            };
-          };
-    }
-
--- ---- what is handed back at the place where a search of a key with this H looks
-module _ (t : Settings) (h : ℕ) (clipped : List ℕ) (buckets side : RefT (List ℕ)) (key : List ℕ) (r : RefT (List ℕ)) where
-  pub fetched-none : now r ≡ [] → (x : Place) → part-at (card-of t) key (place-of (card-of t) (now buckets) (now side) x) ≡ []
-      → place-of (card-of t) (now buckets) (now side) x ≡ place (card-at t h) clipped (now buckets) (now side) key → Fetched (card-at t h) clipped buckets side key r
-  fetched-none e x none is =
-      record {
-        is = e ∙ sym none ∙ fetch-is t h clipped (now buckets) (now side) key (place-of (card-of t) (now buckets) (now side) x) is;
-        lies = λ some. absurd (some e);
-      }
-
-  pub fetched-in : (x : Place) (bytes : List ℕ) (n : ℕ) (b : Bool) → goes-to-bucket (card-at t h) clipped (now buckets) key ≡ b
-      → place-of (card-of t) (now buckets) (now side) x ≡ place (card-at t h) clipped (now buckets) (now side) key
-      → part-at (card-of t) key (place-of (card-of t) (now buckets) (now side) x) ≡ find-bytes (card-of t .width) n bytes key
-      → InPart (card-of t) bytes n (one-of b buckets side) key r → Fetched (card-at t h) clipped buckets side key r
-  unfolding record-size card-at
-  fetched-in x bytes n b goes is part p =
-      record {
-        is = p .is ∙ sym part ∙ fetch-is t h clipped (now buckets) (now side) key (place-of (card-of t) (now buckets) (now side) x) is;
-        lies = λ some. rw goes (p .lies some);
-      }
-
--- ---- the call: refused, the empty part; else by the key's own H
-module _ (t : Settings) (clipped : List ℕ) (buckets side : RefT (List ℕ)) (key : List ℕ) (r : RefT (List ℕ)) where
-  pub call-refused : now r ≡ [] → (n : ℕ) → judged-of t clipped (now buckets) (now side) key ≡ Refused n → FetchedCall t clipped buckets side key r
-  call-refused e n judged =
-      record {
-        is = fetch-performs t clipped (now buckets) (now side) key (now r)
-            (refused-is t clipped (now buckets) (now side) key (λ n. []) (fetch-areas (card-of t) clipped (now buckets) (now side) key) n judged ∙ sym e);
-        lies = λ some. absurd (some e);
-      }
-
-  pub call-fetched : (c : settings.Settings) → judged-of t clipped (now buckets) (now side) key ≡ Ready c → (h : ℕ) → h ≡ H key
-      → Fetched (card-at t h) clipped buckets side key r → FetchedCall t clipped buckets side key r
-  unfolding record-size card-at
-  call-fetched c judged h e f =
-      record {
-        is = fetch-performs t clipped (now buckets) (now side) key (now r)
-            (passes t clipped (now buckets) (now side) key c judged (λ n. []) (fetch-areas (card-of t) clipped (now buckets) (now side) key)
-            ∙ sym (f .is ∙ fetch-hashed t clipped (now buckets) (now side) key h e));
-        lies = λ some. rw (← goes-hashed t clipped (now buckets) (now side) key h e) (f .lies some);
-      }
+            is = fetch-performs t clipped (now buckets) (now side) key (now x)
+                (known-here .passed ∙ bytes
+                ∙ ap (λ (b : Bool). take size (drop (lies .start) (cond b (now buckets) (now side)))) area-is
+                ∙ ap (λ (l : List ℕ). take size (drop (lies .start) l)) (lent-area g)
+                ∙ ap (λ (n : ℕ). take size (drop n (now (one-of g buckets side)))) (sym start-is)
+                ∙ sym (part .bytes));
+            lies = λ _. rw (area-is, ← start-is) part;
+          }

@@ -2,7 +2,7 @@
 use mathlib.Core.Path.{_≡_, sym, ap, _∙_}
 use mathlib.Core.Bool.{Bool, true, false, cond, not, _&&_}
 use mathlib.Core.List.{List, []}
-use Prim.Native.Nat.{ℕ, _*_}
+use Prim.Native.Nat.{ℕ, _*_, _≤_}
 use native.Mathlib.Omega.{arith}
 use lib.Dec.{eqb}
 use borrow.Author.Tests.{eqb-true, eq-eqb, ne-eqb}
@@ -10,16 +10,16 @@ use lib.ListN.{length}
 use Rattle.theory.specs.Lists.{all}
 use Rattle.theory.specs.Settings as plain
 use Rattle.theory.specs.Settings.{allowed, card-of}
-use Rattle.theory.specs.Lookup.{Answer, bare, search-areas, fetch-areas}
-use Rattle.theory.specs.Ledger.{search, fetch, answered, handed, key-wrong}
+use Rattle.theory.specs.Layout.{Areas}
+use Rattle.theory.specs.Lookup.{Answer, bare, search-areas, fetch-areas, driver-number}
+use Rattle.theory.specs.Ledger.{search, fetch, Step, answered, handed, key-wrong}
 use Rattle.theory.specs.Calls.{call, lookup-lengths, lent-lengths, perform}
 use Rattle.theory.proofs.ListLaws.{and-left, and-right, by-test, all-each}
-use Rattle.hash.specs.Table.{TableRight}
 use Rattle.settings.specs.declared.Settings.{Settings}
 use Rattle.settings.specs.Checked.{paper, code}
 use Rattle.lookup.specs.declared.judging.Judged.the-variants.{Ready, Refused}
 use Rattle.lookup.specs.Places.{Lent}
-use Rattle.lookup.specs.Answers.{lookup-areas, judged-of, judged-lent, LentAnswer}
+use Rattle.lookup.specs.Answers.{lookup-areas, driver-of, search-of, judged-of, judged-lent}
 use Rattle.lookup.specs.Bursts.{judged-burst}
 
 module _ (t : plain.Settings) (clipped buckets side : List ℕ) where
@@ -130,6 +130,16 @@ module _ (t : plain.Settings) (clipped buckets side key : List ℕ) where
       (λ l. let e′ = rw (a, l) at e in let q : 2 ≡ n = cc in rw (a, l, q)))
       (λ a. let e′ = rw a at e in let q : 1 ≡ n = cc in rw (a, q))
 
+  pub refused-low : (n : ℕ) → judged-of t clipped buckets side key ≡ Refused n → (1 ≤ n) × (n ≤ 3)
+  unfolding judged-of
+  refused-low n e =
+      by-test (allowed t)
+      (λ a. by-test (lengths-right t clipped buckets side)
+      (λ l. by-test (eqb (length key) (card-of t .width)) (λ w. let e′ = rw (a, l, w) at e in let z : _≡_ {A = ℕ} 0 1 = cc in absurd (omega arith))
+      (λ w. let e′ = rw (a, l, w) at e in let q : 3 ≡ n = cc in (omega arith, omega arith)))
+      (λ l. let e′ = rw (a, l) at e in let q : 2 ≡ n = cc in (omega arith, omega arith)))
+      (λ a. let e′ = rw a at e in let q : 1 ≡ n = cc in (omega arith, omega arith))
+
   -- the settings are those of the numbers, the areas have their lengths, the key its width
   pub record Fine (c : Settings) : Type 0 where
     pub same : paper c ≡ t
@@ -173,6 +183,11 @@ module _ (t : plain.Settings) (clipped buckets side key : List ℕ) where
   search-performs x e =
       rw (← e) (by-test (allowed t) (λ a. rw a (by-test (lengths-right t clipped buckets side) (λ l. rw l) (λ l. rw l))) (λ a. rw a))
 
+  pub search-number : (x : Answer) → refused-or bare (search-areas (card-of t) clipped buckets side key) ≡ x
+      → driver-number x ≡ search-of t clipped buckets side key
+  unfolding search-of
+  search-number x e = ap (λ (s : Step Areas). driver-of (s .reply)) (search-performs x e)
+
   pub fetch-performs : (x : List ℕ) → refused-or (λ n. []) (fetch-areas (card-of t) clipped buckets side key) ≡ x
       → record { reply = handed x; state = lookup-areas clipped buckets side } ≡ perform t 0 (fetch key) (lookup-areas clipped buckets side)
   unfolding perform call lent-lengths
@@ -184,37 +199,15 @@ module _ (table : List ℕ) (t : plain.Settings) (clipped buckets side key : Lis
   abbrev long : ℕ
   long = 256 * card-of t .width
 
-  lent-judged : length table ≡ long → judged-lent table t clipped buckets side key ≡ judged-of t clipped buckets side key
+  pub lent-judged : length table ≡ long → judged-lent table t clipped buckets side key ≡ judged-of t clipped buckets side key
   unfolding judged-lent judged-of
   lent-judged l = by-test (allowed t) (λ a. rw (a, eq-eqb (length table) long l)) (λ a. rw a)
 
-  pub lent-refused : (n : ℕ) → judged-lent table t clipped buckets side key ≡ Refused n → LentAnswer table t clipped buckets side key (bare n)
+  pub lent-ready : (c : Settings) → judged-lent table t clipped buckets side key ≡ Ready c
+      → (length table ≡ long) × (judged-of t clipped buckets side key ≡ Ready c)
   unfolding judged-lent
-  lent-refused n e =
-      record {
-        other-length = λ o.
-            by-test (allowed t)
-            (λ a. let e′ = rw (a, ne-eqb (length table) long o) at e in let q : 2 ≡ n = cc in rw (a, q))
-            (λ a. let e′ = rw a at e in let q : 1 ≡ n = cc in rw (a, q));
-        right-table = λ l right.
-            search-performs t clipped buckets side key (bare n)
-            (refused-is t clipped buckets side key bare (search-areas (card-of t) clipped buckets side key) n (sym (lent-judged l) ∙ e));
-      }
-
-  module _ (c : Settings) (e : judged-lent table t clipped buckets side key ≡ Ready c) where
-    pub lent-ready : (length table ≡ long) × (judged-of t clipped buckets side key ≡ Ready c)
-    unfolding judged-lent
-    lent-ready =
-        by-test (allowed t)
-        (λ a. by-test (eqb (length table) long) (λ l. (eqb-true (length table) long l, rw (a, l) at e))
-        (λ l. let e′ = rw (a, l) at e in let z : _≡_ {A = ℕ} 0 1 = cc in absurd (omega arith)))
-        (λ a. let e′ = rw a at e in let z : _≡_ {A = ℕ} 0 1 = cc in absurd (omega arith))
-
-    pub lent-answers : (x : Answer) → (TableRight (card-of t .width) table → x ≡ search-areas (card-of t) clipped buckets side key) → LentAnswer table t clipped buckets side key x
-    lent-answers x f =
-        record {
-          other-length = λ o. absurd (o (lent-ready .0));
-          right-table = λ l right.
-              search-performs t clipped buckets side key x
-              (passes t clipped buckets side key c (lent-ready .1) bare (search-areas (card-of t) clipped buckets side key) ∙ sym (f right));
-        }
+  lent-ready c e =
+      by-test (allowed t)
+      (λ a. by-test (eqb (length table) long) (λ l. (eqb-true (length table) long l, rw (a, l) at e))
+      (λ l. let e′ = rw (a, l) at e in let z : _≡_ {A = ℕ} 0 1 = cc in absurd (omega arith)))
+      (λ a. let e′ = rw a at e in let z : _≡_ {A = ℕ} 0 1 = cc in absurd (omega arith))

@@ -6,7 +6,7 @@ use Prim.Native.Nat.{ℕ, zero, suc, _+_, _-_, _*_, _^_, _≤_, _<_}
 use native.Mathlib.Nat.{add-zero, mul-comm, mul-le-mul-right}
 use native.Mathlib.Omega.{arith}
 use lib.Dec.{eqb, ltb, leb}
-use borrow.Author.Tests.{lt-ltb, le-ltb, ltb-false, eq-eqb, ne-eqb, leb-true, leb-false}
+use borrow.Author.Tests.{lt-ltb, le-ltb, eq-eqb, ne-eqb}
 use lib.ListN.{length, take, drop, getD, length-take, length-drop}
 use lib.Seq.{take-all, getD-take, getD-drop, drop-drop}
 use Rattle.theory.specs.Lists.{any, least}
@@ -14,14 +14,16 @@ use Rattle.theory.specs.Hash.{H, numbers-of}
 use Rattle.theory.specs.Records.{count-of}
 use Rattle.theory.specs.Settings.{Settings, allowed, card-of, record-size, bucket-size, side-length}
 use Rattle.theory.specs.Placing.{all-top, least-count, chosen}
-use Rattle.theory.specs.Lookup.{counter, Place, invalid, nowhere, among, bucket-part, side-place, bucket-place, by-counters, reads-bucket, place, answer-at, part-at, search-areas, fetch-areas}
+use Rattle.theory.specs.Lookup.{counter, Place, invalid, nowhere, among, bucket-part, side-place, bucket-place, by-counters, reads-bucket}
+use Rattle.theory.specs.Lookup.{goes-to-bucket, place, answer-at, search-areas, record-place}
 use Rattle.theory.proofs.ListLaws.{by-test, all-map, all-cong, any-none, least-zero, least-top}
 use Rattle.theory.proofs.SettingsLaws.{ranges, Sound, sound, numbers-of-below}
 use Rattle.theory.proofs.PlacingLaws.{chosen-below}
+use Rattle.theory.proofs.RecordPlaceLaws.{not-above}
 use Rattle.settings.proofs.Laws.{top-is, bounds}
 use Rattle.lookup.specs.declared.counters.Choice.{Choice}
 use Rattle.lookup.specs.Choosing.{card-at, ChoiceOf}
-use Rattle.lookup.specs.Places.{place-by, goes-by, ChoiceFits, goes-to-bucket}
+use Rattle.lookup.specs.Places.{place-by, goes-by, ChoiceFits}
 
 -- ---- the side store
 module _ (t : Settings) (side : List ℕ) (read : ℕ) where
@@ -127,11 +129,6 @@ module _ (t : Settings) (ok : allowed t ≡ true) (h : ℕ) where
     unfolding goes-to-bucket reads-bucket by-counters card-at card-of
     goes-above e = rw e
 
-    not-above : (n : ℕ) → ltb (t .top) n ≡ false → eqb n (t .top) ≡ leb (t .top) n
-    not-above n e =
-        by-test (leb (t .top) n) (λ q. rw q (eq-eqb n (t .top) (omega (arith, ltb-false (t .top) n e, leb-true (t .top) n q))))
-        (λ q. rw q (ne-eqb n (t .top) (omega (arith, leb-false (t .top) n q))))
-
     module _ (none : above ≡ false) where
       -- with no counter above T, the least tells whether one is zero and whether all are T
       by-least : {X : Type 0} (refused absent side′ bucket : X)
@@ -143,7 +140,7 @@ module _ (t : Settings) (ok : allowed t ≡ true) (h : ℕ) where
             none,
             least-zero (counter clipped) (t .top) ns (let r = ranges t ok in omega arith),
             all-cong (λ b. eqb (counter clipped b) (t .top)) (λ b. leb (t .top) (counter clipped b)) ns
-                (all-map (λ b q. not-above (counter clipped b) q) ns (any-none (λ b. ltb (t .top) (counter clipped b)) ns none)),
+                (all-map (λ b q. not-above (t .top) (counter clipped b) q) ns (any-none (λ b. ltb (t .top) (counter clipped b)) ns none)),
             least-top (counter clipped) (t .top) ns,
           )
 
@@ -186,15 +183,11 @@ module _ (t : Settings) (ok : allowed t ≡ true) (h : ℕ) where
           by-test (c .above) (λ a. rw a (sym (goes-above clipped buckets side key (sym (of .above) ∙ a))))
           (λ a. rw (a, of .least key, of .bucket key, top-is t) (sym (goes-by-least clipped buckets side key (sym (of .above) ∙ a))))
 
--- ---- the answer, and the part, of the place where a search of a key with this H ends
+-- ---- the answer of the place where a search of a key with this H ends
 module _ (t : Settings) (h : ℕ) (clipped buckets side key : List ℕ) where
   pub search-is : (x : Place) → x ≡ place (card-at t h) clipped buckets side key → answer-at (card-of t) key x ≡ search-areas (card-at t h) clipped buckets side key
   unfolding search-areas answer-at card-at
   search-is x e = rw (← e)
-
-  pub fetch-is : (x : Place) → x ≡ place (card-at t h) clipped buckets side key → part-at (card-of t) key x ≡ fetch-areas (card-at t h) clipped buckets side key
-  unfolding fetch-areas part-at card-at
-  fetch-is x e = rw (← e)
 
 -- ---- with its own H, a key is looked for as the card says
 module _ (t : Settings) (clipped buckets side key : List ℕ) where
@@ -202,16 +195,12 @@ module _ (t : Settings) (clipped buckets side key : List ℕ) where
   unfolding search-areas answer-at place by-counters side-place bucket-place bucket-part chosen least-count bucket-size record-size card-at card-of
   search-by-H = refl
 
-  fetch-by-H : fetch-areas (card-at t (H key)) clipped buckets side key ≡ fetch-areas (card-of t) clipped buckets side key
-  unfolding fetch-areas part-at place by-counters side-place bucket-place bucket-part chosen least-count bucket-size record-size card-at card-of
-  fetch-by-H = refl
-
   pub hashed : (h : ℕ) → h ≡ H key → search-areas (card-at t h) clipped buckets side key ≡ search-areas (card-of t) clipped buckets side key
   hashed h e = ap (λ (x : ℕ). search-areas (card-at t x) clipped buckets side key) e ∙ search-by-H
 
-  pub fetch-hashed : (h : ℕ) → h ≡ H key → fetch-areas (card-at t h) clipped buckets side key ≡ fetch-areas (card-of t) clipped buckets side key
-  fetch-hashed h e = ap (λ (x : ℕ). fetch-areas (card-at t x) clipped buckets side key) e ∙ fetch-by-H
+  place-by-H : record-place (card-at t (H key)) clipped buckets side key ≡ record-place (card-of t) clipped buckets side key
+  unfolding goes-to-bucket reads-bucket by-counters bucket-part chosen least-count bucket-size record-size record-place card-at card-of
+  place-by-H = rw search-by-H
 
-  pub goes-hashed : (h : ℕ) → h ≡ H key → goes-to-bucket (card-at t h) clipped buckets key ≡ goes-to-bucket (card-of t) clipped buckets key
-  unfolding goes-to-bucket reads-bucket by-counters bucket-part chosen least-count bucket-size record-size card-at card-of
-  goes-hashed h e = rw e
+  pub place-hashed : (h : ℕ) → h ≡ H key → record-place (card-at t h) clipped buckets side key ≡ record-place (card-of t) clipped buckets side key
+  place-hashed h e = ap (λ (x : ℕ). record-place (card-at t x) clipped buckets side key) e ∙ place-by-H

@@ -1,17 +1,18 @@
--- Laws of a scan of records: what is left of it finds, hands out and compares what the whole does. Assumes nothing.
+-- Laws of a scan of records: what is left of it finds and compares what the whole does. Assumes nothing.
 use mathlib.Core.Path.{_≡_, refl, sym, ap, _∙_, subst}
 use mathlib.Core.Bool.{Bool, true, false, cond, false≢true}
-use mathlib.Core.List.{List, []}
+use mathlib.Core.List.{List}
 use mathlib.Core.Option.{none, some}
-use Prim.Native.Nat.{ℕ, zero, suc, _+_, _-_, _*_, _≤_, _<_}
+use Prim.Native.Nat.{ℕ, suc, _+_, _-_, _*_, _≤_, _<_}
 use native.Mathlib.Nat.{add-zero, zero-add, zero-mul, sub-zero, mul-le-mul-right, add-sub-cancel-left}
 use native.Mathlib.Omega.{arith}
 use lib.Dec.{ltb}
 use borrow.Author.Tests.{le-ltb, ltb-true, ltb-false}
 use lib.ListN.{length, take, drop, length-take, length-drop}
 use lib.Seq.{drop-drop}
-use Rattle.theory.specs.Records.{entries, record-at, records, same-key, find, comparisons, find-bytes}
+use Rattle.theory.specs.Records.{entries, record-at, records, same-key, find, comparisons}
 use Rattle.theory.proofs.ListLaws.{by-test}
+use Rattle.theory.proofs.RecordPlaceLaws.{one-back}
 use Rattle.ledger.proofs.RecordLaws.{room-next, records-next}
 use Rattle.lookup.specs.Scanning.{HitOf}
 
@@ -19,31 +20,24 @@ use Rattle.lookup.specs.Scanning.{HitOf}
 pub length-part : (a : List ℕ) (at w : ℕ) → at + (w + 4) ≤ length a → length (take (at + w - at) (drop at a)) ≡ w
 length-part a at w h = rw (length-take, length-drop) (omega arith)
 
-find-bytes-next : (w n : ℕ) (a k : List ℕ) → 0 < n → find-bytes w n a k ≡ cond (same-key k (take w a)) (take (w + 4) a) (find-bytes w (n - 1) (drop (w + 4) a) k)
-unfolding find-bytes
-find-bytes-next w zero a k h = absurd (omega arith)
-find-bytes-next w (suc n) a k h = let e : suc n - 1 ≡ n = omega arith in rw e
-
 -- so many records are left, from a byte offset on, and so many were compared
 pub record Scanning (k : List ℕ) (w n : ℕ) (a : List ℕ) (left compared at : ℕ) : Type 0 where
   pub room : at + left * (w + 4) ≤ length a
   pub count : compared + left ≡ n
   pub finds : find k (records w left (drop at a)) ≡ find k (records w n a)
   pub compares : compared + comparisons k (records w left (drop at a)) ≡ comparisons k (records w n a)
-  pub part : find-bytes w left (drop at a) k ≡ find-bytes w n a k
 
 module _ (k : List ℕ) (w n : ℕ) (a : List ℕ) where
   pub scanning-start : n * (w + 4) ≤ length a → Scanning k w n a n 0 0
-  scanning-start h = record { room = omega (arith, h); count = omega arith; finds = refl; compares = zero-add (comparisons k (records w n a)); part = refl }
+  scanning-start h = record { room = omega (arith, h); count = omega arith; finds = refl; compares = zero-add (comparisons k (records w n a)) }
 
   module _ (left compared at : ℕ) (g : Scanning k w n a left compared at) where
     pub scanning-end : left ≡ 0 → HitOf w n a k (record { found = false; at = 0; compared = compared })
-    unfolding records entries find-bytes
+    unfolding records entries
     scanning-end e =
         record {
           finds = sym (rw e at (g .finds));
           compares = sym (rw (e, add-zero) at (g .compares));
-          part = sym (rw e at (g .part));
           room = λ q. absurd (false≢true q);
           few = omega (arith, g .count);
         }
@@ -55,7 +49,6 @@ module _ (k : List ℕ) (w n : ℕ) (a : List ℕ) where
           record {
             finds = sym (rw (records-next w left (drop at a) p, e) at (g .finds));
             compares = sym (rw (records-next w left (drop at a) p, e) at (g .compares));
-            part = sym (rw (find-bytes-next w left (drop at a) k p, e) at (g .part));
             room = λ q. room-next at left (w + 4) (length a) (g .room) p .0;
             few = omega (arith, g .count);
           }
@@ -68,17 +61,12 @@ module _ (k : List ℕ) (w n : ℕ) (a : List ℕ) where
             count = omega (arith, g .count);
             finds = rw (← drop-drop (w + 4) at a) (rw (records-next w left (drop at a) p, e) at (g .finds));
             compares = rw (← drop-drop (w + 4) at a) (move (comparisons k (records w (left - 1) (drop (w + 4) (drop at a)))) (rw (records-next w left (drop at a) p, e) at (g .compares)));
-            part = rw (← drop-drop (w + 4) at a) (rw (find-bytes-next w left (drop at a) k p, e) at (g .part));
           }
         where
           move : (x : ℕ) → compared + suc x ≡ comparisons k (records w n a) → compared + 1 + x ≡ comparisons k (records w n a)
           move x q = omega arith
 
 -- ---- all places, from the last to the first
-pub one-back : (left z : ℕ) → 0 < left → left * z ≡ (left - 1) * z + z
-one-back zero z h = absurd (omega arith)
-one-back (suc m) z h = let e : suc m - 1 ≡ m = omega arith in rw e (omega arith)
-
 -- the place before the last `left` ends inside
 pub place-inside : (left room z len : ℕ) → 0 < left → left ≤ room → room * z ≤ len → (left - 1) * z + z ≤ len
 place-inside left room z len p q r = let m = mul-le-mul-right {m = left} {n = room} z q in omega (arith, m, r, one-back left z p)
@@ -89,11 +77,10 @@ pub record First (k : List ℕ) (w n : ℕ) (a : List ℕ) (room left first : �
   pub high : first ≤ room
   pub finds : find k (records w (n - left) (drop (left * (w + 4)) a)) ≡ cond (ltb first n) (some (record-at w (drop (first * (w + 4)) a))) none
   pub compares : comparisons k (records w (n - left) (drop (left * (w + 4)) a)) ≡ cond (ltb first n) (suc first) n - left
-  pub part : find-bytes w (n - left) (drop (left * (w + 4)) a) k ≡ cond (ltb first n) (take (w + 4) (drop (first * (w + 4)) a)) []
 
 module _ (k : List ℕ) (w n : ℕ) (a : List ℕ) (room : ℕ) where
   pub first-start : n ≤ room → First k w n a room room room
-  unfolding records entries find-bytes
+  unfolding records entries
   first-start h =
       let e : n - room ≡ 0 = omega arith in
       record {
@@ -101,7 +88,6 @@ module _ (k : List ℕ) (w n : ℕ) (a : List ℕ) (room : ℕ) where
         high = omega arith;
         finds = rw (e, le-ltb room n h);
         compares = rw (le-ltb room n h, e);
-        part = rw (e, le-ltb room n h);
       }
 
   module _ (i first : ℕ) (g : First k w n a room (suc i) first) where
@@ -112,7 +98,7 @@ module _ (k : List ℕ) (w n : ℕ) (a : List ℕ) (room : ℕ) where
 
     -- the place i has the key
     pub first-here : same-key k (take w (drop (i * (w + 4)) a)) ≡ true → First k w n a room i i
-    unfolding record-at records entries find-bytes
+    unfolding record-at records entries
     first-here q =
         record {
           low = omega arith;
@@ -122,9 +108,6 @@ module _ (k : List ℕ) (w n : ℕ) (a : List ℕ) (room : ℕ) where
               (λ e. rw (e, none-left e));
           compares = by-test (ltb i n)
               (λ e. rw (e, records-next w (n - i) (drop (i * (w + 4)) a) (less e), q) (omega arith))
-              (λ e. rw (e, none-left e));
-          part = by-test (ltb i n)
-              (λ e. rw (e, find-bytes-next w (n - i) (drop (i * (w + 4)) a) k (less e), q))
               (λ e. rw (e, none-left e));
         }
       where
@@ -136,7 +119,7 @@ module _ (k : List ℕ) (w n : ℕ) (a : List ℕ) (room : ℕ) where
 
     -- the place i has another key
     pub first-on : same-key k (take w (drop (i * (w + 4)) a)) ≡ false → First k w n a room i first
-    unfolding record-at records entries find-bytes
+    unfolding record-at records entries
     first-on q =
         record {
           low = omega (arith, g .low);
@@ -147,9 +130,6 @@ module _ (k : List ℕ) (w n : ℕ) (a : List ℕ) (room : ℕ) where
           compares = by-test (ltb i n)
               (λ e. rw (records-next w (n - i) (drop (i * (w + 4)) a) (less e), q, one-less, next-off, g .compares) (count e))
               (λ e. rw (none-left e) (none-more e));
-          part = by-test (ltb i n)
-              (λ e. rw (find-bytes-next w (n - i) (drop (i * (w + 4)) a) k (less e), q, one-less, next-off) (g .part))
-              (λ e. rw (none-left e) (rw (none-after e) at (g .part)));
         }
       where
         less : ltb i n ≡ true → 0 < n - i
@@ -200,7 +180,6 @@ module _ (k : List ℕ) (w n : ℕ) (a : List ℕ) (room : ℕ) where
       record {
         finds = rw (zero-mul, sub-zero) at (g .finds) ∙ by-test (ltb first n) (λ e. rw e) (λ e. rw e);
         compares = rw (zero-mul, sub-zero) at (g .compares) ∙ by-test (ltb first n) (λ e. rw e (omega arith)) (λ e. rw (e, sub-zero));
-        part = rw (zero-mul, sub-zero) at (g .part) ∙ by-test (ltb first n) (λ e. rw e) (λ e. rw e);
         room = λ e. rw e (first-inside first (ltb-true first n e) few h);
         few = by-test (ltb first n) (λ e. let f = ltb-true first n e in rw e (omega arith)) (λ e. rw e (omega arith));
       }

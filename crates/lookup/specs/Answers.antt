@@ -1,5 +1,4 @@
 -- What the search calls answer, as the code holds it. Assumes nothing.
-use mathlib.Core.Path.{_≡_}
 use mathlib.Core.Bool.{cond, not}
 use mathlib.Core.List.{List, []}
 use Prim.Native.Nat.{ℕ, _*_}
@@ -9,10 +8,11 @@ use Rattle.theory.specs.Lists.{all}
 use Rattle.theory.specs.Settings as plain
 use Rattle.theory.specs.Layout.{Areas}
 use Rattle.theory.specs.Lookup as plain-lookup
-use Rattle.theory.specs.Ledger.{search, Step, Reply, answered, handed, totalled}
+use Rattle.theory.specs.Ledger.{search, Reply, answered, handed, totalled}
 use Rattle.theory.specs.Calls.{lookup-lengths, perform}
-use Rattle.hash.specs.Table.{TableRight}
+use Rattle.hash.specs.Table.{H-by}
 use Rattle.settings.specs.Checked.{code}
+use Rattle.lookup.specs.Choosing.{card-at}
 use Rattle.lookup.specs.declared.searching.Answer.{Answer}
 use Rattle.lookup.specs.declared.judging.Judged.{Judged}
 use Rattle.lookup.specs.declared.judging.Judged.the-variants.{Ready, Refused}
@@ -48,9 +48,10 @@ judged-lent table t clipped buckets side key =
     cond (not (plain.allowed t)) (Refused 1)
     (cond (not (eqb (length table) (256 * plain.card-of t .width))) (Refused 2) (judged-of t clipped buckets side key))
 
--- what a search with a lent table answers: a table of another length is refused with 2 (after 1); with the right table it is the search call's answer.
--- On another table of the right length it answers some way, and alters nothing
-pub record LentAnswer (table : List ℕ) (t : plain.Settings) (clipped buckets side key : List ℕ) (x : plain-lookup.Answer) : Type 0 where
-  pub other-length : (length table ≡ 256 * plain.card-of t .width → ⊥) → x ≡ plain-lookup.bare (cond (plain.allowed t) 2 1)
-  pub right-table : length table ≡ 256 * plain.card-of t .width → TableRight (plain.card-of t .width) table
-      → _≡_ {A = Step Areas} (record { reply = answered x; state = lookup-areas clipped buckets side }) (perform t 0 (search key) (lookup-areas clipped buckets side))
+-- what a search with a lent table answers, whatever the table holds: refused, the number alone; else the search by the H that the table gives for the key
+unfoldable pub search-with : List ℕ → plain.Settings → List ℕ → List ℕ → List ℕ → List ℕ → plain-lookup.Answer
+search-with table t clipped buckets side key = by (judged-lent table t clipped buckets side key)
+  where
+    by : Judged → plain-lookup.Answer
+    by (Refused n) = plain-lookup.bare n
+    by (Ready s) = plain-lookup.search-areas (card-at t (H-by table key)) clipped buckets side key

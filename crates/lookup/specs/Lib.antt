@@ -3,5 +3,6 @@ pub mod Scanning
 pub mod Places
 pub mod Answers
 pub mod Bursts
+pub mod Locating
 pub mod Parts
 pub mod Tallies

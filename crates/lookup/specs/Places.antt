@@ -1,11 +1,10 @@
 -- Where a search looks, as the code holds it. Assumes nothing.
 use mathlib.Core.Path.{_≡_}
-use mathlib.Core.Bool.{Bool, true, false, cond, not, _&&_}
+use mathlib.Core.Bool.{Bool, true, false, cond, not}
 use mathlib.Core.List.{List}
-use Prim.Native.Nat.{ℕ, _+_, _-_, _≤_, _<_}
+use Prim.Native.Nat.{ℕ, _+_, _-_, _*_, _≤_, _<_}
 use lib.Dec.{eqb}
 use lib.ListN.{length, take, drop, getD}
-use Rattle.theory.specs.Placing.{chosen}
 use Rattle.theory.specs.Settings.{Settings, Card, card-of, allowed, bucket-size, clipped-length, buckets-length, side-length}
 use Rattle.theory.specs.Lookup as plain
 use Rattle.lookup.specs.declared.counters.Choice.{Choice}
@@ -57,14 +56,9 @@ goes-by s c buckets =
 pub record ChoiceFits (t : Settings) (c : Choice) : Type 0 where
   pub there : (c .least .0 ≡ t .top → ⊥) → c .bucket < card-of t .buckets
 
--- a search ends in a bucket: the counters send the key to one, and its mark is not 255
-unfoldable pub goes-to-bucket : Card → List ℕ → List ℕ → List ℕ → Bool
-goes-to-bucket s clipped buckets key =
-    plain.reads-bucket s clipped key && not (eqb (getD (plain.bucket-part s buckets (chosen s (plain.counter clipped) key)) 0 0) 255)
-
--- a place in the buckets or in the side store, as the test says
-abbrev pub Goes : Bool → Place → Type 0
-Goes b Invalid = Unit {0}
-Goes b Nowhere = Unit {0}
-Goes b (Bucket from records) = b ≡ true
-Goes b (Side records read) = b ≡ false
+-- a place in bucket b, after its mark, or in the side store, as the test says
+abbrev pub Goes : Card → ℕ → Bool → Place → Type 0
+Goes s b in-bucket Invalid = Unit {0}
+Goes s b in-bucket Nowhere = Unit {0}
+Goes s b in-bucket (Bucket from records) = (in-bucket ≡ true) × (from ≡ b * bucket-size s + 1)
+Goes s b in-bucket (Side records read) = in-bucket ≡ false

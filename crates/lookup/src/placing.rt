@@ -12,7 +12,7 @@ ghost use Rattle.theory.specs.Settings.{allowed, card-of, buckets-length, side-
 ghost use Rattle.theory.specs.Lookup as plain;
 ghost use Rattle.settings.specs.Checked.{paper};
 ghost use Rattle.lookup.specs.Choosing.{card-at};
-ghost use Rattle.lookup.specs.Places.{Lent, Judged, place-of, place-by, Inside, ChoiceFits, goes-by, goes-to-bucket, Goes};
+ghost use Rattle.lookup.specs.Places.{Lent, Judged, place-of, place-by, Inside, ChoiceFits, goes-by, Goes};
 
 // What a search comes to: refused with 5; absent by a zero counter; records of a bucket, which start at a byte of the buckets; records of the side store, with
 // so many buckets read.
@@ -26,7 +26,9 @@ pub enum Place {
 // The side store is compared: 5 for a side count above S.
 fn side_place(s: Settings, side: &[u8], read: u32) -> Place
     requires { ⌜ (allowed (paper s) ≡ true) × (length (now side) ≡ side-length (card-of (paper s))) × (read ≤ 1) ⌝ }
-    ensures { λ r. ⌜ ((buckets : List ℕ) → place-of (card-of (paper s)) buckets (now (side .entry)) r ≡ plain.side-place (card-of (paper s)) (now (side .entry)) read) × Inside (paper s) r × Goes false r ⌝ }
+    ensures { λ r. ⌜ ((buckets : List ℕ) → place-of (card-of (paper s)) buckets (now (side .entry)) r
+        ≡ plain.side-place (card-of (paper s)) (now (side .entry)) read)
+        × Inside (paper s) r × ((b : ℕ) → Goes (card-of (paper s)) b false r) ⌝ }
 {
     let records = ledger::bytes::count_at(side);
     if s.side_places < records {
@@ -42,7 +44,7 @@ fn bucket_place(s: Settings, buckets: &[u8], bucket: usize, side: &[u8]) -> Plac
     ensures { λ r. ⌜ (place-of (card-of (paper s)) (now (buckets .entry)) (now (side .entry)) r
         ≡ plain.bucket-place (card-of (paper s)) (plain.bucket-part (card-of (paper s)) (now (buckets .entry)) bucket) (now (side .entry)))
         × Inside (paper s) r
-        × Goes (not (eqb (getD (plain.bucket-part (card-of (paper s)) (now (buckets .entry)) bucket) 0 0) 255)) r ⌝ }
+        × Goes (card-of (paper s)) bucket (not (eqb (getD (plain.bucket-part (card-of (paper s)) (now (buckets .entry)) bucket) 0 0) 255)) r ⌝ }
 {
     let at = bucket * s.bucket_size();
     let mark = buckets[at] as usize;
@@ -63,7 +65,7 @@ pub fn place_by(s: Settings, choice: Choice, buckets: &[u8], side: &[u8]) -> Pla
     requires { ⌜ Judged (paper s) (now buckets) (now side) × ChoiceFits (paper s) choice ⌝ }
     ensures { λ r. ⌜ (place-of (card-of (paper s)) (now (buckets .entry)) (now (side .entry)) r
         ≡ place-by (card-of (paper s)) choice (now (buckets .entry)) (now (side .entry)))
-        × Inside (paper s) r × Goes (goes-by (card-of (paper s)) choice (now (buckets .entry))) r ⌝ }
+        × Inside (paper s) r × Goes (card-of (paper s)) (choice .bucket) (goes-by (card-of (paper s)) choice (now (buckets .entry))) r ⌝ }
 {
     if choice.above {
         return Place::Invalid;
@@ -83,8 +85,7 @@ pub fn find_place(s: Settings, h: u64, clipped: &[u8], buckets: &[u8], side: &[u
     requires { ⌜ Lent (paper s) (now clipped) (now buckets) (now side) ⌝ }
     ensures { λ r. ⌜ ((key : List ℕ) → place-of (card-of (paper s)) (now (buckets .entry)) (now (side .entry)) r
         ≡ plain.place (card-at (paper s) h) (now (clipped .entry)) (now (buckets .entry)) (now (side .entry)) key)
-        × Inside (paper s) r
-        × ((key : List ℕ) → Goes (goes-to-bucket (card-at (paper s) h) (now (clipped .entry)) (now (buckets .entry)) key) r) ⌝ }
+        × Inside (paper s) r ⌝ }
 {
     place_by(s, choose(s, h, clipped), buckets, side)
 }

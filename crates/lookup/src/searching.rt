@@ -22,7 +22,7 @@ ghost use Rattle.theory.specs.Calls.{perform};
 ghost use Rattle.settings.specs.Checked.{paper, given-of};
 ghost use Rattle.lookup.specs.Choosing.{card-at};
 ghost use Rattle.lookup.specs.Places.{Lent};
-ghost use Rattle.lookup.specs.Answers.{answer-of, lookup-areas, LentAnswer};
+ghost use Rattle.lookup.specs.Answers.{answer-of, lookup-areas, search-with};
 
 // The answer's number (0 held, 100 absent, else the refusal), class, buckets read, records compared.
 pub struct Answer {
@@ -158,7 +158,7 @@ pub fn search(given: Given, clipped: &[u8], buckets: &[u8], side: &[u8], key: &[
     }
 }
 
-// Search with a lent table of the hash: the same where the table is right, and safe on any other.
+// Search with a lent table of the hash: by the H that the table gives for the key, whatever it holds; the same where it is right.
 pub fn search_lent(
     table: &[u64],
     given: Given,
@@ -167,7 +167,8 @@ pub fn search_lent(
     side: &[u8],
     key: &[u8],
 ) -> Answer
-    ensures { λ r. ⌜ LentAnswer (now (table .entry)) (given-of given) (now (clipped .entry)) (now (buckets .entry)) (now (side .entry)) (now (key .entry)) (answer-of r) ⌝ }
+    ensures { λ r. ⌜ answer-of r ≡ search-with (now (table .entry)) (given-of given)
+        (now (clipped .entry)) (now (buckets .entry)) (now (side .entry)) (now (key .entry)) ⌝ }
 {
     let judged = judge_lent(table, given, clipped, buckets, side, key);
     match judged {

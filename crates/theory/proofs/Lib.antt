@@ -6,6 +6,7 @@ pub mod ByteLaws
 pub mod LayoutLaws
 pub mod PlacingLaws
 pub mod LookupLaws
+pub mod RecordPlaceLaws
 pub mod OrderLaws
 pub mod CallLaws
 pub mod Demands

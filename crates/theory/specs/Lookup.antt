@@ -1,13 +1,13 @@
 -- Document 01, 'The calls': both search calls over the lookup areas (clipped counts, buckets, side store) with any contents. Assumes nothing.
-use mathlib.Core.Bool.{Bool, true, false, cond}
+use mathlib.Core.Bool.{Bool, true, false, cond, not, _&&_, _||_}
 use mathlib.Core.List.{List, []}
 use mathlib.Core.Option.{Option, none, some}
-use Prim.Native.Nat.{ℕ, _+_, _*_, _/_, _%_, _^_}
+use Prim.Native.Nat.{ℕ, _+_, _-_, _*_, _/_, _%_, _^_}
 use lib.Dec.{ltb, eqb}
 use lib.ListN.{take, drop, getD}
 use Rattle.theory.specs.Lists.{any, all}
 use Rattle.theory.specs.Records.{Record, record-bytes, records, count-of, find, comparisons, find-bytes}
-use Rattle.theory.specs.Settings.{Card, bucket-size}
+use Rattle.theory.specs.Settings.{Card, record-size, bucket-size}
 use Rattle.theory.specs.Placing.{chosen}
 
 -- an answer: its number (0 accepted and held, 100 absent, else the refusal), class, buckets read, records compared
@@ -20,6 +20,10 @@ pub record Answer : Type 0 where
 -- the number, with class and counts zero: a refusal, and with 0 an accepted update
 abbrev pub bare : ℕ → Answer
 bare n = record { number = n; class = 0; buckets-read = 0; records-compared = 0 }
+
+-- "An accepted call answers 0, but 100 for a search that finds nothing"
+abbrev pub accepted : ℕ → Bool
+accepted n = eqb n 0 || eqb n 100
 
 -- held with the class of the record, or absent with class zero
 abbrev pub answer : Option Record → ℕ → ℕ → Answer
@@ -41,6 +45,14 @@ pub data Place : Type 0 where
   invalid : Place
   nowhere : Place
   among : List ℕ → ℕ → ℕ → Place
+
+-- where a record lies: area 1 is the buckets, area 2 the side store, and start the byte of it where the record starts; nowhere is 0 and 0
+pub record RecordPlace : Type 0 where
+  pub area : ℕ
+  pub start : ℕ
+
+abbrev pub no-place : RecordPlace
+no-place = record { area = 0; start = 0 }
 
 module _ (s : Card) where
   -- the part of the bucket area that is bucket b
@@ -67,6 +79,11 @@ module _ (s : Card) where
   unfoldable pub reads-bucket : List ℕ → List ℕ → Bool
   reads-bucket clipped k = by-counters (counter clipped) k false false false true
 
+  -- a search ends in a bucket: the counters send the key to one, and its mark is not 255
+  unfoldable pub goes-to-bucket : List ℕ → List ℕ → List ℕ → Bool
+  goes-to-bucket clipped buckets k =
+      reads-bucket clipped k && not (eqb (getD (bucket-part buckets (chosen s (counter clipped) k)) 0 0) 255)
+
   unfoldable pub place : List ℕ → List ℕ → List ℕ → List ℕ → Place
   place clipped buckets side k =
       by-counters (counter clipped) k invalid nowhere (side-place side 0)
@@ -88,6 +105,17 @@ module _ (s : Card) where
 
   unfoldable pub fetch-areas : List ℕ → List ℕ → List ℕ → List ℕ → List ℕ
   fetch-areas clipped buckets side k = part-at k (place clipped buckets side k)
+
+  -- "the 17 bytes themselves, out of the buckets or out of the side store": where they lie. The records of the chosen bucket stand after its mark, those of the
+  -- side store after its count, and "records are compared from the first up to the equal one"
+  unfoldable pub record-place : List ℕ → List ℕ → List ℕ → List ℕ → RecordPlace
+  record-place clipped buckets side k =
+      let found = search-areas clipped buckets side k in
+      let in-bucket = goes-to-bucket clipped buckets k in
+      let first = cond in-bucket (chosen s (counter clipped) k * bucket-size s + 1) 2 in
+      cond (eqb (found .number) 0)
+      (record { area = cond in-bucket 1 2; start = first + (found .records-compared - 1) * record-size s })
+      no-place
 
 -- what the forwarding driver gets: answer x 2^32 + class
 unfoldable pub driver-number : Answer → ℕ

@@ -8,12 +8,12 @@ use Rattle.card.proofs.flow_hash.Tie as tie
 returns : tie.Need-returns
 returns c =
     let start = c .before .before .before in
-    hash-2 (start .args .key .now) (start .args .h .now) (c .if1 .taken)
+    hash-2 _ (start .args .key .now) (start .args .h .now) (c .if1 .taken)
 
 returns-2 : tie.Need-returns-2
 returns-2 c =
     let start = c .before .before .before .before in
-    hash-3 (start .args .key .now) (start .args .h .now) (c .before .if1 .left) (c .if2 .taken)
+    hash-3 _ (start .args .key .now) (start .args .h .now) (c .before .if1 .left) (c .if2 .taken)
 
 h-rows-requires : tie.Need-h-rows-requires
 h-rows-requires c κs = search needs
@@ -29,7 +29,8 @@ returns-3 c =
     let before = c .before .before .before .before .before in
     let if1 = c .before .before .if1 in
     let start = before in
-    rw (one-stored (start .args .h .now) (c .h-rows .result) (if1 .left), c .h-rows .ensures) (hash-0 (start .args .key .now) (start .args .h .now) (if1 .left) (c .before .if2 .left))
+    rw (one-stored (start .args .h .now) (c .h-rows .result) (if1 .left), c .h-rows .ensures)
+    (hash-0 _ (start .args .key .now) (start .args .h .now) (if1 .left) (c .before .if2 .left))
 
 pub flow-hash-spec : {M : Type 1} → statement M
 flow-hash-spec =

@@ -1,68 +1,75 @@
--- `lookup::fetching::fetch` meets its contract: the refusals are judged first, then the part is that of the areas by the key's own H. Assumes nothing.
-use mathlib.Core.Path.{refl, sym, _∙_, subst}
-use Rattle.theory.specs.Settings.{Settings}
-use Rattle.settings.specs.Checked.{paper, given-of}
-use Rattle.settings.proofs.Laws.{width-is}
-use Rattle.lookup.specs.Choosing.{card-at}
-use Rattle.lookup.specs.Parts.{Fetched}
-use Rattle.lookup.proofs.JudgeLaws.{fine}
-use Rattle.lookup.proofs.FetchLaws.{call-refused, call-fetched}
+-- `lookup::fetching::fetch` meets its contract: the part of 17 bytes at the place where the record lies.
+use mathlib.Core.Path.{_≡_, refl}
+use mathlib.Core.Bool.{Bool, true, false}
+use Prim.Native.Nat.{_+_, _≤_}
+use native.Mathlib.Nat.{add-sub-cancel-left}
+use native.Mathlib.Omega.{arith}
 use borrow.Author.Needs.{needs}
+use borrow.Author.Tests.{eq-eqb, ne-eqb}
+use lib.Dec.{eqb}
+use lib.ListN.{length}
+use denote.Ref.{now}
+use Rattle.theory.specs.Settings as plain
+use Rattle.theory.proofs.ListLaws.{by-test}
+use Rattle.settings.specs.Checked.{given-of}
+use Rattle.settings.proofs.Laws.{record-size-is}
+use Rattle.lookup.specs.declared.locating.Located.{Located}
+use Rattle.lookup.specs.Parts.{one-of}
+use Rattle.lookup.proofs.FetchLaws.{fetched-none, record-inside, fetched-there}
 use Rattle.lookup.proofs.fetching.fetch.Statement.{statement}
 use Rattle.lookup.proofs.fetching.fetch.Tie as tie
 
-judge-requires : tie.Need-judge-requires
-judge-requires c κs = search needs
+-- ---- the record lies somewhere
+module _ (c : tie.Else1) where
+  abbrev start : tie.Start
+  start = c .before .before .before .before .before .before
 
-enum-told : tie.Need-enum-told
-enum-told c = search needs
+  abbrev t : plain.Settings
+  t = given-of (start .args .given)
 
-slice-aggregate-result : tie.Need-slice-aggregate-result
-slice-aggregate-result c = search needs
+  abbrev found : Located
+  found = c .before .locate .result
 
-enum-known-judged : tie.Need-enum-known-judged
-enum-known-judged c = search needs
+  inside : (g : Bool) → eqb (found .area) 1 ≡ g → found .start + 17 ≤ length (now (one-of g (start .args .buckets) (start .args .side)))
+  inside g e = rw (record-size-is t) at (record-inside t _ (start .args .buckets) (start .args .side) _ found (c .before .locate .ensures) (c .if1 .left) g e)
 
-h-rows-requires : tie.Need-h-rows-requires
-h-rows-requires c κs =
-    let start = c .before .before .before .before .before .before .before .before in
-    let judge = c .before .before .before .judge in
-    let judged = c .before .judged in
-    let g = fine (given-of (start .args .given)) (start .args .clipped .now) (start .args .buckets .now) (start .args .side .now) (start .args .key .now) (judged .given .0 .0) (sym (judge .ensures) ∙ judged .given .1) in g .wide ∙ width-is (paper (judged .given .0 .0))
+  in-buckets : found .area ≡ 1 → found .start + 17 ≤ length (start .args .buckets .now)
+  in-buckets e = inside true (eq-eqb (found .area) 1 e)
 
-fetch-at-requires : tie.Need-fetch-at-requires
-fetch-at-requires c κs =
-    let start = c .before .before .before .before .before .before .before .before .before in
-    let judge = c .before .before .before .before .judge in
-    let judged = c .before .before .judged in
-    let g = fine (given-of (start .args .given)) (start .args .clipped .now) (start .args .buckets .now) (start .args .side .now) (start .args .key .now) (judged .given .0 .0) (sym (judge .ensures) ∙ judged .given .1) in (g .lent, g .wide)
+  in-side : (found .area ≡ 1 → ⊥) → found .start + 17 ≤ length (start .args .side .now)
+  in-side n = inside false (ne-eqb (found .area) 1 n)
 
-returns : tie.Need-returns
-returns c =
-    let start = c .before .before .before .before .before .before .before .before in
-    let judge = c .before .before .before .judge in
-    let enum-told = c .before .enum-told in
-    call-refused (given-of (start .args .given)) (start .args .clipped .now) (start .args .buckets) (start .args .side) (start .args .key .now) _ refl (enum-told .given .0 .0) (sym (judge .ensures) ∙ enum-told .given .1)
+add-end-2 : tie.Need-add-end-2
+add-end-2 c = by-test (eqb (found c .area) 1) (λ e. omega (arith, inside c true e)) (λ e. omega (arith, inside c false e))
 
 returns-2 : tie.Need-returns-2
 returns-2 c =
-    let start = c .before .before .before .before .before .before .before .before .before .before in
-    let judge = c .before .before .before .before .before .judge in
-    let judged = c .before .before .before .judged in
-    let h-rows = c .before .h-rows in
-    let g = fine (given-of (start .args .given)) (start .args .clipped .now) (start .args .buckets .now) (start .args .side .now) (start .args .key .now) (judged .given .0 .0) (sym (judge .ensures) ∙ judged .given .1) in
-    call-fetched (given-of (start .args .given)) (start .args .clipped .now) (start .args .buckets) (start .args .side) (start .args .key .now) (c .fetch-at .result) (judged .given .0 .0) (sym (judge .ensures) ∙ judged .given .1) (h-rows .result) (h-rows .ensures)
-    (subst (λ (t : Settings). Fetched (card-at t (h-rows .result)) (start .args .clipped .now) (start .args .buckets) (start .args .side) (start .args .key .now) (c .fetch-at .result)) (g .same) (c .fetch-at .ensures))
+    let at = c .before .before in
+    let area = eq-eqb (found at .area) 1 (c .before .if2 .taken) in
+    fetched-there (t at) _ (start at .args .buckets) (start at .args .side) _ (found at) (at .before .locate .ensures) (at .if1 .left) true area _
+    (rw (record-size-is (t at)) (record { inside = inside at true area; bytes = rw (add-sub-cancel-left (found at .start) 17); there = refl }))
+
+returns-3 : tie.Need-returns-3
+returns-3 c =
+    let at = c .before .before in
+    let area = ne-eqb (found at .area) 1 (c .before .if2 .left) in
+    fetched-there (t at) _ (start at .args .buckets) (start at .args .side) _ (found at) (at .before .locate .ensures) (at .if1 .left) false area _
+    (rw (record-size-is (t at)) (record { inside = inside at false area; bytes = rw (add-sub-cancel-left (found at .start) 17); there = refl }))
 
 pub fetch-spec : {M : Type 1} → statement M
 fetch-spec =
     tie.close
     (tie.spec
-    judge-requires
-    enum-told
-    slice-aggregate-result
-    enum-known-judged
-    h-rows-requires
-    fetch-at-requires
-    returns
-    returns-2)
+    (λ c κs. search needs)
+    (λ c. search needs)
+    (λ c. fetched-none _ _ _ _ _ _ (c .before .before .locate .ensures) (c .before .if1 .taken) _ refl)
+    (λ c. search needs)
+    add-end-2
+    (λ c. search needs)
+    (λ c. search needs)
+    (λ c. omega (arith, in-buckets (c .before) (c .if2 .taken)))
+    returns-2
+    (λ c. search needs)
+    (λ c. search needs)
+    (λ c. omega (arith, in-side (c .before) (c .if2 .left)))
+    returns-3)

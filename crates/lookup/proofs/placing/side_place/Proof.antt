@@ -1,4 +1,4 @@
--- `lookup::placing::side_place` meets its contract: by the test of the side count. Assumes nothing.
+-- `lookup::placing::side_place` meets its contract: by the test of the side count.
 use mathlib.Core.Path.{refl}
 use native.Mathlib.Omega.{arith}
 use Rattle.settings.specs.Checked.{paper}
@@ -12,15 +12,16 @@ count-at-requires c κs = let b = bounds (paper (c .before .args .s)) (c .before
 
 returns : tie.Need-returns
 returns c =
-    let start = c .before .before .before .before in
-    let count-at = c .before .before .count-at in
-    (λ buckets. side-invalid (paper (start .args .s)) (start .args .side .now) (start .args .read) (omega (arith, count-at .ensures .0)), tt, tt)
+    let args = c .before .before .before .before .args in
+    let count = c .before .before .count-at .ensures .0 in
+    (λ buckets. side-invalid (paper (args .s)) (args .side .now) (args .read) (omega (arith, count)), tt, λ b. tt)
 
 returns-2 : tie.Need-returns-2
 returns-2 c =
     let start = c .before .before .before .before in
-    let count-at = c .before .before .count-at in
-    (λ buckets. rw (count-at .ensures .0) (side-among (paper (start .args .s)) (start .args .side .now) (start .args .read) (omega (arith, count-at .ensures .0))), (omega arith, start .pre .2), refl)
+    let args = start .args in
+    let count = c .before .before .count-at .ensures .0 in
+    (λ buckets. rw count (side-among (paper (args .s)) (args .side .now) (args .read) (omega (arith, count))), (omega arith, start .pre .2), λ b. refl)
 
 pub side-place-spec : {M : Type 1} → statement M
 side-place-spec = tie.close (tie.spec count-at-requires returns returns-2)

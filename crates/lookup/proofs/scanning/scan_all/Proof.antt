@@ -3,7 +3,8 @@ use mathlib.Core.Path.{_≡_, refl, sym, subst}
 use Prim.Native.Nat.{ℕ, _+_, _-_, _*_, _≤_}
 use native.Mathlib.Omega.{arith}
 use lib.ListN.{length}
-use Rattle.lookup.proofs.ScanLaws.{First, first-start, first-next, first-end, first-offset, one-back, place-inside, length-part}
+use Rattle.theory.proofs.RecordPlaceLaws.{one-back}
+use Rattle.lookup.proofs.ScanLaws.{First, first-start, first-next, first-end, first-offset, place-inside, length-part}
 use Rattle.lookup.proofs.scanning.scan_all.Statement.{statement}
 use Rattle.lookup.proofs.scanning.scan_all.Tie as tie
 

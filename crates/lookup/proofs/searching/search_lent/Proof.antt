@@ -1,72 +1,62 @@
--- `lookup::searching::search_lent` meets its contract: as search, with H by the lent table where that is right. Assumes nothing.
-use mathlib.Core.Path.{sym, ap, _∙_, subst}
+-- `lookup::searching::search_lent` meets its contract: judged first, then the search by the H that the lent table gives.
+use mathlib.Core.Path.{_≡_, sym, ap, _∙_}
 use Prim.Native.Nat.{ℕ}
 use native.Mathlib.Omega.{arith}
-use Rattle.theory.specs.Settings.{Settings, card-of}
-use Rattle.theory.specs.Lookup.{search-areas}
-use Rattle.hash.specs.Table.{TableRight}
-use Rattle.settings.specs.Checked.{paper, given-of}
-use Rattle.lookup.specs.Answers.{answer-of}
-use Rattle.lookup.proofs.JudgeLaws.{fine, lent-refused, lent-ready, lent-answers}
-use Rattle.lookup.proofs.PlaceLaws.{hashed}
 use borrow.Author.Needs.{needs}
+use Rattle.theory.specs.Settings as plain
+use Rattle.theory.specs.Settings.{card-of}
+use Rattle.theory.specs.Lookup.{search-areas}
+use Rattle.hash.specs.Table.{H-by}
+use Rattle.settings.specs.declared.Settings.{Settings}
+use Rattle.settings.specs.Checked.{given-of}
+use Rattle.lookup.specs.declared.judging.Judged.the-variants.{Ready}
+use Rattle.lookup.specs.Choosing.{card-at}
+use Rattle.lookup.specs.Answers.{judged-lent}
+use Rattle.lookup.proofs.JudgeLaws.{Fine, fine, lent-ready}
+use Rattle.lookup.proofs.TableLaws.{with-refused, with-ready}
 use Rattle.lookup.proofs.searching.search_lent.Statement.{statement}
 use Rattle.lookup.proofs.searching.search_lent.Tie as tie
 
-judge-lent-requires : tie.Need-judge-lent-requires
-judge-lent-requires c κs = search needs
+-- ---- nothing is refused
+module _ (c : tie.After-known-told2) where
+  abbrev start : tie.Start
+  start = c .before .before .before .before .before .before .before .before .before
 
-enum-known-judged : tie.Need-enum-known-judged
-enum-known-judged c = search needs
+  abbrev t : plain.Settings
+  t = given-of (start .args .given)
 
-bare-requires : tie.Need-bare-requires
-bare-requires c κs = search needs
+  abbrev s : Settings
+  s = c .before .judged2 .given .0 .0
 
-enum-known-judged-2 : tie.Need-enum-known-judged-2
-enum-known-judged-2 c = search needs
+  ready : judged-lent (start .args .table .now) t (start .args .clipped .now) (start .args .buckets .now) (start .args .side .now) (start .args .key .now)
+      ≡ Ready s
+  ready = sym (c .before .before .before .judge-lent .ensures) ∙ c .before .judged2 .given .1
+
+  right : Fine t (start .args .clipped .now) (start .args .buckets .now) (start .args .side .now) (start .args .key .now) s
+  right = fine t _ _ _ _ s (lent-ready _ t _ _ _ _ s ready .1)
 
 h-lent-requires : tie.Need-h-lent-requires
 h-lent-requires c κs =
-    let start = c .before .before .before .before .before .before .before .before .before in
-    let judge-lent = c .before .before .before .judge-lent in
-    let judged2 = c .before .judged2 in
-    let e = sym (judge-lent .ensures) ∙ judged2 .given .1 in let q = lent-ready (start .args .table .now) (given-of (start .args .given)) (start .args .clipped .now) (start .args .buckets .now) (start .args .side .now) (start .args .key .now) (judged2 .given .0 .0) e in let g = fine (given-of (start .args .given)) (start .args .clipped .now) (start .args .buckets .now) (start .args .side .now) (start .args .key .now) (judged2 .given .0 .0) (q .1) in omega (arith, q .0, g .wide, ap (λ (t : Settings). card-of t .width) (g .same))
-
-search-at-requires : tie.Need-search-at-requires
-search-at-requires c κs =
-    let start = c .before .before .before .before .before .before .before .before .before .before in
-    let judge-lent = c .before .before .before .before .judge-lent in
-    let judged2 = c .before .before .judged2 in
-    let e = sym (judge-lent .ensures) ∙ judged2 .given .1 in let q = lent-ready (start .args .table .now) (given-of (start .args .given)) (start .args .clipped .now) (start .args .buckets .now) (start .args .side .now) (start .args .key .now) (judged2 .given .0 .0) e in let g = fine (given-of (start .args .given)) (start .args .clipped .now) (start .args .buckets .now) (start .args .side .now) (start .args .key .now) (judged2 .given .0 .0) (q .1) in (g .lent, g .wide)
-
-returns : tie.Need-returns
-returns c =
-    let start = c .before .before .before .before .before .before .before .before .before .before in
-    let judge-lent = c .before .before .before .before .judge-lent in
-    let judged = c .before .before .judged in
-    rw (c .bare .ensures) (lent-refused (start .args .table .now) (given-of (start .args .given)) (start .args .clipped .now) (start .args .buckets .now) (start .args .side .now) (start .args .key .now) (judged .given .0 .0) (sym (judge-lent .ensures) ∙ judged .given .1))
+    omega (arith, lent-ready _ (t c) _ _ _ _ (s c) (ready c) .0, right c .wide, ap (λ (u : plain.Settings). card-of u .width) (right c .same))
 
 returns-2 : tie.Need-returns-2
 returns-2 c =
-    let start = c .before .before .before .before .before .before .before .before .before .before .before in
-    let judge-lent = c .before .before .before .before .before .judge-lent in
-    let judged2 = c .before .before .before .judged2 in
-    let h-lent = c .before .h-lent in
-    let e = sym (judge-lent .ensures) ∙ judged2 .given .1 in let q = lent-ready (start .args .table .now) (given-of (start .args .given)) (start .args .clipped .now) (start .args .buckets .now) (start .args .side .now) (start .args .key .now) (judged2 .given .0 .0) e in let g = fine (given-of (start .args .given)) (start .args .clipped .now) (start .args .buckets .now) (start .args .side .now) (start .args .key .now) (judged2 .given .0 .0) (q .1) in
-    lent-answers (start .args .table .now) (given-of (start .args .given)) (start .args .clipped .now) (start .args .buckets .now) (start .args .side .now) (start .args .key .now) (judged2 .given .0 .0) e (answer-of (c .search-at .result))
-    (λ right. c .search-at .ensures
-    ∙ hashed (paper (judged2 .given .0 .0)) (start .args .clipped .now) (start .args .buckets .now) (start .args .side .now) (start .args .key .now) (h-lent .result) (h-lent .ensures .1 (subst (λ (w : ℕ). TableRight w (start .args .table .now)) (sym (g .wide ∙ ap (λ (t : Settings). card-of t .width) (g .same))) right))
-    ∙ ap (λ (t : Settings). search-areas (card-of t) (start .args .clipped .now) (start .args .buckets .now) (start .args .side .now) (start .args .key .now)) (g .same))
+    let at = c .before .before in
+    let args = start at .args in
+    let search : plain.Settings → ℕ → _ = λ u h. search-areas (card-at u h) (args .clipped .now) (args .buckets .now) (args .side .now) (args .key .now) in
+    c .search-at .ensures ∙ ap (search _) (c .before .h-lent .ensures .0)
+    ∙ ap (λ (u : plain.Settings). search u (H-by (args .table .now) (args .key .now))) (right at .same)
+    ∙ with-ready _ (t at) _ _ _ _ (s at) (ready at)
 
 pub search-lent-spec : {M : Type 1} → statement M
 search-lent-spec =
     tie.close
     (tie.spec
-    judge-lent-requires
-    enum-known-judged
-    bare-requires
-    enum-known-judged-2
+    (λ c κs. search needs)
+    (λ c. search needs)
+    (λ c κs. search needs)
+    (λ c. search needs)
     h-lent-requires
-    search-at-requires
-    returns
+    (λ c κs. (right (c .before) .lent, right (c .before) .wide))
+    (λ c. c .bare .ensures ∙ with-refused _ _ _ _ _ _ _ (sym (c .before .before .before .before .judge-lent .ensures) ∙ c .before .before .judged .given .1))
     returns-2)
