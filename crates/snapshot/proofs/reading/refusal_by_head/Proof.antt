@@ -28,7 +28,8 @@ returns-2 : tie.Need-returns-2
 unfolding by-head
 returns-2 c =
     let read = c .before .before in
-    rw (right (read .before), refused-arm (file-settings (file (read .before))) (read .read-settings .result) (read .read-settings .ensures) (c .enum-told2 .given .1))
+    let settings = file-settings (file (read .before)) in
+    rw (right (read .before), refused-arm settings (read .read-settings .result) (read .read-settings .ensures) (c .enum-told2 .given .1))
 
 returns-3 : tie.Need-returns-3
 unfolding by-head
