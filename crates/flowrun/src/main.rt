@@ -1,5 +1,6 @@
 // Program flowrun: reads calls of 18 bytes from standard input and prints a line for each. It only reads and writes, in blocks of 512 calls;
 // crate lines runs the calls and makes their lines.
+use settings::Given;
 ghost use Prim.Native.Nat.{_<_};
 
 // The next block of calls, numbered from a first number on; whether more may follow.
@@ -68,7 +69,14 @@ fn main() {
     let mut side = [0u8; 138];
     let mut work = [0u16; 128];
     update::clear(
-        lines::given(),
+        Given {
+            p: lines::P,
+            k: lines::K,
+            room: lines::ROOM,
+            top: lines::TOP,
+            capacity: lines::CAPACITY,
+            side_places: lines::SIDE_PLACES,
+        },
         &mut ledger,
         &mut true_counts,
         &mut clipped,
