@@ -15,9 +15,11 @@ use Rattle.settings.specs.Checked.{paper, checked-of, number-of}
 use Rattle.hash.specs.declared.Numbers.{Numbers}
 use Rattle.hash.specs.Numbering.{Holds}
 use Rattle.theory.proofs.ListLaws.{by-test}
-use Rattle.hash.specs.Table.{TableRight, H-by, table-entries}
+use Rattle.hash.specs.Digits.{table-entries}
+use Rattle.hash.specs.Table.{TableFor, H-by}
 use Rattle.hash.proofs.KeyLaws.{by-right}
-use Rattle.hash.proofs.TableLaws.{table-entries-right}
+use Rattle.hash.proofs.DigitLaws.{table-entries-right}
+use Rattle.hash.proofs.TableLaws.{length-allowed}
 use Rattle.card.proofs.AreaLaws.{counted-is}
 use Rattle.card.specs.Doors.{
   Filled,
@@ -60,13 +62,13 @@ module _ (table : List ℕ) where
   unfolding hash-table-of
   hash-table-2 wrong = rw (ne-eqb (length table) 3328 wrong)
 
-  pub hash-table-0 : length table ≡ 3328 → filled (table-entries 13) ≡ hash-table-of table
+  pub hash-table-0 : length table ≡ 3328 → filled (table-entries 8 13) ≡ hash-table-of table
   unfolding hash-table-of
   hash-table-0 right = rw (eq-eqb (length table) 3328 right)
 
   -- what it writes is a table that the door with a lent table takes
-  pub table-right : length table ≡ 3328 → TableRight 13 (hash-table-of table .area)
-  table-right right = subst (λ (f : Filled). TableRight 13 (f .area)) (hash-table-0 right) (table-entries-right 13)
+  pub table-right : length table ≡ 3328 → TableFor 13 (hash-table-of table .area)
+  table-right right = subst (λ (f : Filled). TableFor 13 (f .area)) (hash-table-0 right) (table-entries-right 8 13)
 
 module _ (x : ℕ) (key h : List ℕ) where
   pub hash-2 : (length h ≡ 1 → ⊥) → refused 2 h ≡ hash-as x key h
@@ -84,14 +86,14 @@ module _ (x : ℕ) (key h : List ℕ) where
 module _ (table key h : List ℕ) where
   pub lent-wrong : (length table ≡ 3328 → ⊥) → refused 2 h ≡ hash-lent-of table key h
   unfolding hash-lent-of
-  lent-wrong wrong = rw (ne-eqb (length table) 3328 wrong)
+  lent-wrong wrong = rw (length-allowed, ne-eqb (length table) 3328 wrong)
 
   pub lent-long : length table ≡ 3328 → hash-as (H-by table key) key h ≡ hash-lent-of table key h
   unfolding hash-lent-of
-  lent-long long = rw (eq-eqb (length table) 3328 long)
+  lent-long long = rw (length-allowed, eq-eqb (length table) 3328 long)
 
   -- with a right table of its length it is the door without a table
-  pub lent-right : length table ≡ 3328 → TableRight 13 table → ((i : ℕ) → getD key i 0 < 256) → hash-lent-of table key h ≡ hash-of key h
+  pub lent-right : length table ≡ 3328 → TableFor 13 table → ((i : ℕ) → getD key i 0 < 256) → hash-lent-of table key h ≡ hash-of key h
   unfolding hash-as
   lent-right long right bytes =
       sym (lent-long long)

@@ -1,10 +1,10 @@
 -- What each door answers on every input: its number, and each lent area as the call leaves it. Assumes nothing.
 use mathlib.Core.Bool.{Bool, cond}
 use mathlib.Core.List.{List, [], _∷_, _++_, map}
-use Prim.Native.Nat.{ℕ, _-_, _*_, _^_}
+use Prim.Native.Nat.{ℕ, _-_, _^_}
 use lib.Dec.{eqb}
 use lib.ListN.{length, replicate}
-use Rattle.theory.specs.Lists.{upto}
+use Rattle.theory.specs.Lists.{has, upto}
 use Rattle.theory.specs.Hash.{H, hash}
 use Rattle.theory.specs.Settings.{
   Settings,
@@ -19,7 +19,8 @@ use Rattle.theory.specs.Settings.{
   side-length,
   work-length,
 }
-use Rattle.hash.specs.Table.{H-by, table-entries}
+use Rattle.hash.specs.Digits.{table-length, table-entries}
+use Rattle.hash.specs.Table.{table-lengths, H-by}
 
 -- a refusal unless a test holds; else what follows
 abbrev pub unless : {A : Type 0} → Bool → A → A → A
@@ -53,7 +54,7 @@ area-lengths-of t lengths =
 
 -- 2 when the area is not of 3,328 numbers; else the table: for each of 13 byte positions an entry for each of 256 byte values
 unfoldable pub hash-table-of : List ℕ → Filled
-hash-table-of table = unless (eqb (length table) (256 * key-width)) (refused 2 table) (filled (table-entries key-width))
+hash-table-of table = unless (eqb (length table) (table-length 8 key-width)) (refused 2 table) (filled (table-entries 8 key-width))
 
 -- 2 when the area is not of 1 number; 3 when the key is not of 13 bytes; else the number x
 unfoldable pub hash-as : ℕ → List ℕ → List ℕ → Filled
@@ -63,9 +64,9 @@ hash-as x key h = unless (eqb (length h) 1) (refused 2 h) (unless (eqb (length k
 abbrev pub hash-of : List ℕ → List ℕ → Filled
 hash-of key h = hash-as (H key) key h
 
--- with a lent table, whatever it holds: 2 also when it is not of 3,328 numbers; else the xor of its entries for the bytes of the key
+-- with a lent table, whatever it holds: 2 also when its length is none that is allowed, 3,328 numbers; else the xor of its entries for the bytes of the key
 unfoldable pub hash-lent-of : List ℕ → List ℕ → List ℕ → Filled
-hash-lent-of table key h = unless (eqb (length table) (256 * key-width)) (refused 2 h) (hash-as (H-by table key) key h)
+hash-lent-of table key h = unless (has (length table) (table-lengths key-width)) (refused 2 h) (hash-as (H-by table key) key h)
 
 -- the number answered, and both lent areas at exit
 pub record Numbered : Type 0 where

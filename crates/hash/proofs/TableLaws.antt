@@ -8,11 +8,10 @@ use borrow.Author.Tests.{eqb-true}
 use Rattle.theory.specs.Lists.{has}
 use Rattle.theory.proofs.ListLaws.{and-left, and-right}
 use Rattle.hash.specs.Digits.{table-length, table-entries}
-use Rattle.hash.specs.Table.{table-lengths, TableFor}
+use Rattle.hash.specs.Table.{table-lengths}
 use Rattle.hash.proofs.Constants.{rows, table}
 use Rattle.hash.proofs.RowLaws.{rows-from}
 use Rattle.hash.proofs.Doubling.{doubled, block, built, built-is}
-use Rattle.hash.proofs.DigitLaws as digits
 
 -- the test: two lists have the same numbers
 unfoldable same : List ℕ → List ℕ → Bool
@@ -46,7 +45,3 @@ module _ (n w : ℕ) where
 
   pub lent-length : has n (table-lengths w) ≡ true → n ≡ table-length 8 w
   lent-length e = eqb-true n (table-length 8 w) (sym length-allowed ∙ e)
-
--- the table of the definitions, by the name that card still cites
-pub table-entries-right : (w : ℕ) → TableFor w (table-entries 8 w)
-table-entries-right w = digits.table-entries-right 8 w

@@ -4,8 +4,7 @@ use Prim.Native.Nat.{ℕ, suc, _+_, _*_, _/_, _%_}
 use lib.Bits.{bitXor}
 use lib.ListN.{getD}
 use Rattle.theory.specs.Hash.{if-set}
-use Rattle.hash.specs.Digits as digits
-use Rattle.hash.specs.Digits.{table-length}
+use Rattle.hash.specs.Digits.{TableRight, table-length}
 
 -- the lengths that a lent table may have for keys of w bytes: one entry for each byte position and byte value
 unfoldable pub table-lengths : ℕ → List ℕ
@@ -13,14 +12,7 @@ table-lengths w = table-length 8 w ∷ []
 
 -- a lent table is right for keys of w bytes
 abbrev pub TableFor : ℕ → List ℕ → Type 0
-TableFor w t = digits.TableRight 8 w t
-
--- the names that lookup and card still cite: a right table, and its entries
-abbrev pub TableRight : ℕ → List ℕ → Type 0
-TableRight w t = TableFor w t
-
-abbrev pub table-entries : ℕ → List ℕ
-table-entries w = digits.table-entries 8 w
+TableFor w t = TableRight 8 w t
 
 -- "the same H with one read a byte": what a table gives for key bytes, the first of which is byte a, the xor of the entries that are read,
 -- whatever the table holds

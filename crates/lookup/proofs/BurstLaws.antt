@@ -11,7 +11,7 @@ use borrow.Author.Tests.{eqb-true, eqb-false, eq-eqb, ne-eqb, ltb-true, ltb-fals
 use lib.Pow.{pow-mono}
 use lib.ListN.{length, take, drop, getD, set, length-drop, length-set, length-map, List·getD-eq-default}
 use lib.Seq.{getD-take, getD-drop, getD-set-same, getD-set-other, ext-getD, length-take-le, take-all}
-use Rattle.theory.specs.Lists.{filter, least, upto}
+use Rattle.theory.specs.Lists.{filter, has, least, upto}
 use Rattle.theory.specs.Hash.{H, numbers-of}
 use Rattle.theory.specs.Settings as plain
 use Rattle.theory.specs.Settings.{card-of}
@@ -19,7 +19,7 @@ use Rattle.theory.specs.Placing.{least-count, chosen}
 use Rattle.theory.specs.Lookup.{Answer, bare, counter, answer-at, search-areas, driver-number}
 use Rattle.theory.proofs.ListLaws.{and-right, by-test, length-upto, getD-map-upto, all-upto, map-cong, least-le}
 use Rattle.theory.proofs.SettingsLaws.{ranges}
-use Rattle.hash.specs.Table.{TableRight, H-by}
+use Rattle.hash.specs.Table.{table-lengths, TableFor, H-by}
 use Rattle.settings.specs.declared.Settings.{Settings}
 use Rattle.settings.specs.Checked.{paper}
 use Rattle.lookup.specs.declared.counters.Choice.{Choice}
@@ -229,10 +229,10 @@ module _ (table clipped buckets side keys before : List ℕ) (t : plain.Settings
       let size : length keys ≡ length before * w = good .keys-size ∙ ap (λ (u : plain.Settings). length before * card-of u .width) (good .same) in
       length-take-le w (drop (j * w) keys) (rw length-drop (omega (arith, size, suc-mul j w, mul-le-mul-right w lt)))
 
-  table-long : length table ≡ 256 * card-of t .width
+  table-long : has (length table) (table-lengths (card-of t .width)) ≡ true
   table-long =
       let good = fine-burst table clipped buckets side keys (length before) t c ready in
-      good .table-size ∙ ap (λ (u : plain.Settings). 256 * card-of u .width) (good .same)
+      rw (good .same) at (good .table-size)
 
   judged-alone : (j : ℕ) → j < length before → judged-of t clipped buckets side (key j) ≡ Ready c
   unfolding judged-of judged-burst
@@ -240,7 +240,7 @@ module _ (table clipped buckets side keys before : List ℕ) (t : plain.Settings
       let wide = eq-eqb (length (key j)) (card-of t .width) (right-length j lt) in
       by-test (plain.allowed t)
       (λ a. by-test (burst-lengths table clipped buckets side keys (length before) t)
-      (λ l. let l′ = and-right (eqb (length table) (256 * card-of t .width)) (lengths-right t clipped buckets side) l in
+      (λ l. let l′ = and-right (has (length table) (table-lengths (card-of t .width))) (lengths-right t clipped buckets side) l in
       rw (a, l′, wide) (by-test (eqb (length keys) (length before * card-of t .width)) (λ w. rw (a, l, w) at ready)
       (λ w. let e′ = rw (a, l, w) at ready in let z : _≡_ {A = ℕ} 0 1 = cc in absurd (omega arith))))
       (λ l. let e′ = rw (a, l) at ready in let z : _≡_ {A = ℕ} 0 1 = cc in absurd (omega arith)))
@@ -265,7 +265,7 @@ module _ (table clipped buckets side keys before : List ℕ) (t : plain.Settings
       (each-same _ (number t) (length before) number-with ∙ ap (λ (u : plain.Settings). each (number u) (length before)) (sym same)))
 
   -- with the right table it is the search door's number of its key
-  module _ (right : TableRight (card-of t .width) table) (bytes : (i : ℕ) → getD keys i 0 < 256) where
+  module _ (right : TableFor (card-of t .width) table) (bytes : (i : ℕ) → getD keys i 0 < 256) where
     key-bytes : (j : ℕ) → j < length before → (i : ℕ) → getD (key j) i 0 < 256
     key-bytes j lt i =
         let w = card-of t .width in

@@ -7,7 +7,7 @@ use native.Mathlib.Omega.{arith}
 use lib.Dec.{eqb}
 use borrow.Author.Tests.{eqb-true, eq-eqb, ne-eqb}
 use lib.ListN.{length}
-use Rattle.theory.specs.Lists.{all}
+use Rattle.theory.specs.Lists.{all, has}
 use Rattle.theory.specs.Settings as plain
 use Rattle.theory.specs.Settings.{allowed, card-of}
 use Rattle.theory.specs.Layout.{Areas}
@@ -15,6 +15,9 @@ use Rattle.theory.specs.Lookup.{Answer, bare, search-areas, fetch-areas, driver
 use Rattle.theory.specs.Ledger.{search, fetch, Step, answered, handed, key-wrong}
 use Rattle.theory.specs.Calls.{call, lookup-lengths, lent-lengths, perform}
 use Rattle.theory.proofs.ListLaws.{and-left, and-right, by-test, all-each}
+use Rattle.hash.specs.Digits.{table-length}
+use Rattle.hash.specs.Table.{table-lengths}
+use Rattle.hash.proofs.TableLaws.{length-allowed}
 use Rattle.settings.specs.declared.Settings.{Settings}
 use Rattle.settings.specs.Checked.{paper, code}
 use Rattle.lookup.specs.declared.judging.Judged.the-variants.{Ready, Refused}
@@ -48,7 +51,7 @@ module _ (t : plain.Settings) (clipped buckets side key : List ℕ) where
 -- ---- a burst
 module _ (table clipped buckets side keys : List ℕ) (n : ℕ) (t : plain.Settings) where
   abbrev pub burst-lengths : Bool
-  burst-lengths = eqb (length table) (256 * card-of t .width) && lengths-right t clipped buckets side
+  burst-lengths = has (length table) (table-lengths (card-of t .width)) && lengths-right t clipped buckets side
 
   pub burst-1 : allowed t ≡ false → Refused 1 ≡ judged-burst table t clipped buckets side keys n
   unfolding judged-burst
@@ -72,7 +75,7 @@ module _ (table clipped buckets side keys : List ℕ) (n : ℕ) (t : plain.Setti
   pub record FineBurst (c : Settings) : Type 0 where
     pub same : paper c ≡ t
     pub lent : Lent (paper c) clipped buckets side
-    pub table-size : length table ≡ 256 * card-of (paper c) .width
+    pub table-size : has (length table) (table-lengths (card-of (paper c) .width)) ≡ true
     pub keys-size : length keys ≡ n * card-of (paper c) .width
 
   pub fine-burst : (c : Settings) → judged-burst table t clipped buckets side keys n ≡ Ready c → FineBurst c
@@ -84,12 +87,12 @@ module _ (table clipped buckets side keys : List ℕ) (n : ℕ) (t : plain.Setti
       (λ w. let e′ = rw (a, l, w) at e in
       let q : c ≡ code t = cc in
       let s : paper c ≡ t = ap paper q in
-      let areas = and-right (eqb (length table) (256 * card-of t .width)) (lengths-right t clipped buckets side) l in
+      let areas = and-right (has (length table) (table-lengths (card-of t .width))) (lengths-right t clipped buckets side) l in
       let h = all-each (λ x. x) (lookup-lengths (card-of t) (lookup-areas clipped buckets side)) areas in
       record {
         same = s;
         lent = rw s (record { ok = a; clipped-size = eqb-true _ _ (h .0); buckets-size = eqb-true _ _ (h .1 .0); side-size = eqb-true _ _ (h .1 .1 .0) });
-        table-size = rw s (eqb-true _ _ (and-left (eqb (length table) (256 * card-of t .width)) (lengths-right t clipped buckets side) l));
+        table-size = rw s (and-left (has (length table) (table-lengths (card-of t .width))) (lengths-right t clipped buckets side) l);
         keys-size = rw s (eqb-true _ _ w);
       })
       (λ w. let e′ = rw (a, l, w) at e in let z : _≡_ {A = ℕ} 0 1 = cc in absurd (omega arith)))
@@ -106,13 +109,13 @@ module _ (table : List ℕ) (t : plain.Settings) (clipped buckets side key : Lis
     is-width : w ≡ card-of t .width
     is-width = wide ∙ ap (λ (u : plain.Settings). card-of u .width) same
 
-    pub lent-2 : (length table ≡ 256 * w → ⊥) → Refused 2 ≡ judged-lent table t clipped buckets side key
+    pub lent-2 : (length table ≡ table-length 8 w → ⊥) → Refused 2 ≡ judged-lent table t clipped buckets side key
     unfolding judged-lent
-    lent-2 n = rw (ok, ne-eqb (length table) (256 * card-of t .width) (λ e. n (e ∙ ap (λ (x : ℕ). 256 * x) (sym is-width))))
+    lent-2 n = rw (ok, length-allowed, ne-eqb (length table) (table-length 8 (card-of t .width)) (λ e. n (e ∙ ap (table-length 8) (sym is-width))))
 
-    pub lent-on : length table ≡ 256 * w → judged-of (paper c) clipped buckets side key ≡ judged-lent table t clipped buckets side key
+    pub lent-on : length table ≡ table-length 8 w → judged-of (paper c) clipped buckets side key ≡ judged-lent table t clipped buckets side key
     unfolding judged-lent
-    lent-on e = rw (ok, eq-eqb (length table) (256 * card-of t .width) (e ∙ ap (λ (x : ℕ). 256 * x) is-width), same)
+    lent-on e = rw (ok, length-allowed, eq-eqb (length table) (table-length 8 (card-of t .width)) (e ∙ ap (table-length 8) is-width), same)
 
 -- ---- what a judgement says
 module _ (t : plain.Settings) (clipped buckets side key : List ℕ) where
@@ -196,18 +199,18 @@ module _ (t : plain.Settings) (clipped buckets side key : List ℕ) where
 
 -- ---- the same with a lent table
 module _ (table : List ℕ) (t : plain.Settings) (clipped buckets side key : List ℕ) where
-  abbrev long : ℕ
-  long = 256 * card-of t .width
+  abbrev long : Bool
+  long = has (length table) (table-lengths (card-of t .width))
 
-  pub lent-judged : length table ≡ long → judged-lent table t clipped buckets side key ≡ judged-of t clipped buckets side key
+  pub lent-judged : long ≡ true → judged-lent table t clipped buckets side key ≡ judged-of t clipped buckets side key
   unfolding judged-lent judged-of
-  lent-judged l = by-test (allowed t) (λ a. rw (a, eq-eqb (length table) long l)) (λ a. rw a)
+  lent-judged l = by-test (allowed t) (λ a. rw (a, l)) (λ a. rw a)
 
   pub lent-ready : (c : Settings) → judged-lent table t clipped buckets side key ≡ Ready c
-      → (length table ≡ long) × (judged-of t clipped buckets side key ≡ Ready c)
+      → (long ≡ true) × (judged-of t clipped buckets side key ≡ Ready c)
   unfolding judged-lent
   lent-ready c e =
       by-test (allowed t)
-      (λ a. by-test (eqb (length table) long) (λ l. (eqb-true (length table) long l, rw (a, l) at e))
+      (λ a. by-test long (λ l. (l, rw (a, l) at e))
       (λ l. let e′ = rw (a, l) at e in let z : _≡_ {A = ℕ} 0 1 = cc in absurd (omega arith)))
       (λ a. let e′ = rw a at e in let z : _≡_ {A = ℕ} 0 1 = cc in absurd (omega arith))

@@ -1,16 +1,18 @@
 -- Laws of a search with a lent table: what it answers by its judgement, and that with the right table it is the search call.
 use mathlib.Core.Path.{_≡_, refl, sym, ap, _∙_}
 use mathlib.Core.List.{List}
-use Prim.Native.Nat.{ℕ, _*_, _<_}
+use Prim.Native.Nat.{ℕ, _<_}
+use mathlib.Core.Bool.{true}
 use native.Mathlib.Omega.{arith}
 use lib.ListN.{length, getD}
+use Rattle.theory.specs.Lists.{has}
 use Rattle.theory.specs.Settings as plain
 use Rattle.theory.specs.Settings.{card-of}
 use Rattle.theory.specs.Layout.{Areas}
 use Rattle.theory.specs.Lookup.{bare, search-areas, driver-number}
 use Rattle.theory.specs.Ledger.{search, Step, answered}
 use Rattle.theory.specs.Calls.{perform}
-use Rattle.hash.specs.Table.{TableRight, H-by}
+use Rattle.hash.specs.Table.{table-lengths, TableFor, H-by}
 use Rattle.hash.proofs.KeyLaws.{by-right}
 use Rattle.settings.specs.declared.Settings.{Settings}
 use Rattle.lookup.specs.declared.judging.Judged.{Judged}
@@ -31,7 +33,7 @@ module _ (table : List ℕ) (t : plain.Settings) (clipped buckets side key : Lis
   with-ready c e = rw e
 
   -- ---- with a right table of its length it is `perform`'s search, and its number the search door's
-  module _ (long : length table ≡ 256 * card-of t .width) (right : TableRight (card-of t .width) table) (bytes : (i : ℕ) → getD key i 0 < 256) where
+  module _ (long : has (length table) (table-lengths (card-of t .width)) ≡ true) (right : TableFor (card-of t .width) table) (bytes : (i : ℕ) → getD key i 0 < 256) where
     judged-or : (x : Judged) → judged-lent table t clipped buckets side key ≡ x
         → refused-or t clipped buckets side key bare (search-areas (card-of t) clipped buckets side key) ≡ search-with table t clipped buckets side key
     judged-or (Refused n) e =

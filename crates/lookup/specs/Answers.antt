@@ -1,16 +1,16 @@
 -- What the search calls answer, as the code holds it. Assumes nothing.
 use mathlib.Core.Bool.{cond, not}
 use mathlib.Core.List.{List, []}
-use Prim.Native.Nat.{ℕ, _*_}
+use Prim.Native.Nat.{ℕ}
 use lib.Dec.{eqb}
 use lib.ListN.{length}
-use Rattle.theory.specs.Lists.{all}
+use Rattle.theory.specs.Lists.{all, has}
 use Rattle.theory.specs.Settings as plain
 use Rattle.theory.specs.Layout.{Areas}
 use Rattle.theory.specs.Lookup as plain-lookup
 use Rattle.theory.specs.Ledger.{search, Reply, answered, handed, totalled}
 use Rattle.theory.specs.Calls.{lookup-lengths, perform}
-use Rattle.hash.specs.Table.{H-by}
+use Rattle.hash.specs.Table.{table-lengths, H-by}
 use Rattle.settings.specs.Checked.{code}
 use Rattle.lookup.specs.Choosing.{card-at}
 use Rattle.lookup.specs.declared.searching.Answer.{Answer}
@@ -42,11 +42,11 @@ judged-of t clipped buckets side key =
     (cond (not (all (λ x. x) (lookup-lengths (plain.card-of t) (lookup-areas clipped buckets side)))) (Refused 2)
     (cond (not (eqb (length key) (plain.card-of t .width))) (Refused 3) (Ready (code t))))
 
--- the same with a lent table of the hash: 256 numbers for each byte of a key, else 2
+-- the same with a lent table of the hash, of a length that is allowed for such a key, else 2
 unfoldable pub judged-lent : List ℕ → plain.Settings → List ℕ → List ℕ → List ℕ → List ℕ → Judged
 judged-lent table t clipped buckets side key =
     cond (not (plain.allowed t)) (Refused 1)
-    (cond (not (eqb (length table) (256 * plain.card-of t .width))) (Refused 2) (judged-of t clipped buckets side key))
+    (cond (not (has (length table) (table-lengths (plain.card-of t .width)))) (Refused 2) (judged-of t clipped buckets side key))
 
 -- what a search with a lent table answers, whatever the table holds: refused, the number alone; else the search by the H that the table gives for the key
 unfoldable pub search-with : List ℕ → plain.Settings → List ℕ → List ℕ → List ℕ → List ℕ → plain-lookup.Answer

@@ -4,13 +4,13 @@ use mathlib.Core.List.{List, [], map}
 use Prim.Native.Nat.{ℕ, _+_, _*_, _/_, _%_}
 use lib.Dec.{eqb, ltb}
 use lib.ListN.{length, take, drop}
-use Rattle.theory.specs.Lists.{all, any, upto}
+use Rattle.theory.specs.Lists.{all, any, has, upto}
 use Rattle.theory.specs.Hash.{numbers-of}
 use Rattle.theory.specs.Settings as plain
 use Rattle.theory.specs.Placing.{least-count, chosen}
 use Rattle.theory.specs.Lookup.{counter, driver-number, answer-at, search-areas}
 use Rattle.theory.specs.Calls.{lookup-lengths}
-use Rattle.hash.specs.Table.{H-by}
+use Rattle.hash.specs.Table.{table-lengths, H-by}
 use Rattle.settings.specs.Checked.{code}
 use Rattle.lookup.specs.declared.counters.Choice.{Choice}
 use Rattle.lookup.specs.declared.judging.Judged.{Judged}
@@ -31,7 +31,8 @@ each f n = map f (upto 0 n)
 unfoldable pub judged-burst : List ℕ → plain.Settings → List ℕ → List ℕ → List ℕ → List ℕ → ℕ → Judged
 judged-burst table t clipped buckets side keys n =
     cond (not (plain.allowed t)) (Refused 1)
-    (cond (not (eqb (length table) (256 * plain.card-of t .width) && all (λ x. x) (lookup-lengths (plain.card-of t) (lookup-areas clipped buckets side))))
+    (cond (not (has (length table) (table-lengths (plain.card-of t .width))
+    && all (λ x. x) (lookup-lengths (plain.card-of t) (lookup-areas clipped buckets side))))
     (Refused 2)
     (cond (not (eqb (length keys) (n * plain.card-of t .width))) (Refused 3) (Ready (code t))))
 

@@ -19,10 +19,11 @@ use settings::counts::ClippedCount;
 ghost use mathlib.Core.Path.{_≡_};
 ghost use mathlib.Core.Bool.{true, cond};
 ghost use Prim.Native.Nat.{ℕ, _*_, _<_};
+ghost use Rattle.theory.specs.Lists.{has};
 ghost use lib.ListN.{length, getD};
 ghost use Rattle.theory.specs.Settings.{allowed, card-of, clipped-length};
 ghost use Rattle.theory.specs.Lookup as plain;
-ghost use Rattle.hash.specs.Table.{H-by};
+ghost use Rattle.hash.specs.Table.{table-lengths, H-by};
 ghost use Rattle.settings.specs.Checked.{paper, given-of};
 ghost use Rattle.lookup.specs.Places as places;
 ghost use Rattle.lookup.specs.Places.{place-by, ChoiceFits};
@@ -69,7 +70,8 @@ fn search_chosen(s: Settings, choice: Choice, buckets: &[u8], side: &[u8], key: 
 
 // The first pass: what the table gives for each key.
 fn hash_all(s: Settings, table: &[u64], keys: &[u8], answers: &mut [u64])
-    requires { ⌜ (length (now table) ≡ 256 * card-of (paper s) .width) × (length (now keys) ≡ length (now answers) * card-of (paper s) .width) ⌝ }
+    requires { ⌜ (has (length (now table)) (table-lengths (card-of (paper s) .width)) ≡ true)
+        × (length (now keys) ≡ length (now answers) * card-of (paper s) .width) ⌝ }
     ensures { λ _. ⌜ now (answers .exit) ≡ each (λ j. H-by (now (table .entry)) (key-at (card-of (paper s) .width) (now (keys .entry)) j)) (length (now (answers .entry))) ⌝ }
 {
     let width = s.width();

@@ -35,7 +35,7 @@ pub fn choose(s: Settings, h: u64, clipped: &[u8]) -> Choice
     let m = s.buckets() as u64;
     // H from hash j on
     let mut rest = h;
-    let mut most = ClippedCount(0);
+    let mut most = ClippedCount::zero();
     let mut best: u64 = (s.top as u64) * 65536 + m;
     let mut j: usize = 0;
     while j < k {

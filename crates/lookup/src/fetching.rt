@@ -22,7 +22,7 @@ pub fn fetch<'a, 'b>(
         return &buckets[..0];
     }
     let start = found.start as usize;
-    let end = start + (Settings::KEY_WIDTH + Settings::CLASS_BYTES);
+    let end = start + (Settings::KEY_WIDTH + Settings::CLASS_WIDTH);
     if area == 1 {
         return &buckets[start..end];
     }

@@ -67,7 +67,7 @@ pub fn judge_lent(
     let Checked::Allowed(s) = checked else {
         return Judged::Refused(1);
     };
-    if table.len() != 256 * s.width() {
+    if table.len() != s.width() * 256 {
         return Judged::Refused(2);
     }
     judge_areas(s, clipped, buckets, side, key)
@@ -91,7 +91,7 @@ pub fn judge_burst(
         return Judged::Refused(1);
     };
     let width = s.width();
-    let table_right = table.len() == 256 * width;
+    let table_right = table.len() == width * 256;
     if !(table_right & areas_right(s, clipped, buckets, side)) {
         return Judged::Refused(2);
     }

@@ -5,7 +5,7 @@ ghost use Prim.Native.Nat.{_+_, _*_, _/_, _%_, _<_, _≤_, min};
 ghost use lib.Dec.{eqb, ltb};
 
 // The lower of a true count and the top count: four bits. It is held in a wide number, so that searching ranks it with no cut between.
-pub struct ClippedCount(pub u64);
+pub struct ClippedCount(u64);
 
 // How many held keys name a bucket.
 pub struct TrueCount(u16);

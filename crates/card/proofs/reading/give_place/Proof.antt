@@ -1,6 +1,11 @@
 -- `card::reading::give_place` meets its contract: each refusal in its order, then both numbers are stored.
+use mathlib.Core.Path.{ap, _∙_}
+use mathlib.Core.List.{List}
+use Prim.Native.Nat.{ℕ}
 use borrow.Author.Needs.{needs}
 use lib.Dec.{eqb}
+use Rattle.theory.specs.Lookup.{driver-number}
+use Rattle.lookup.specs.Answers.{answer-of}
 use Rattle.lookup.specs.Locating.{lies-at}
 use Rattle.card.proofs.AreaLaws.{two-stored}
 use Rattle.card.proofs.ReadingLaws.{either-holds, neither-holds, place-1, place-2, place-refused, place-there}
@@ -31,8 +36,10 @@ returns-4 c =
     let args = c .before .before .before .before .before .before .args in
     let n = args .found .answer .number in
     let two = c .before .before .if2 .left in
-    rw (c .driver-number4 .ensures, two-stored (args .place .now) (args .found .area) (args .found .start) two)
-    (place-there _ (lies-at (args .found)) (args .place .now) (c .before .before .before .if1 .left) two
+    rw (c .driver-number4 .ensures)
+    (ap (λ (l : List ℕ). record { number = driver-number (answer-of (args .found .answer)); area = l })
+    (two-stored (args .place .now) (args .found .area) (args .found .start) two)
+    ∙ place-there _ (lies-at (args .found)) (args .place .now) (c .before .before .before .if1 .left) two
     (either-holds (eqb n 0) (eqb n 100) (c .before .if3 .left)))
 
 pub give-place-spec : {M : Type 1} → statement M

@@ -7,6 +7,7 @@ use borrow.Author.Needs.{needs}
 use lib.ListN.{length}
 use Rattle.theory.specs.Settings.{card-of}
 use Rattle.hash.specs.Table.{H-by}
+use Rattle.hash.proofs.TableLaws.{lent-length}
 use Rattle.settings.specs.Checked.{paper}
 use Rattle.lookup.specs.Bursts.{key-at, each}
 use Rattle.lookup.proofs.BurstLaws.{Passed, passed-none, passed-more, passed-all, key-within, key-lent, key-size, next-key}
@@ -49,7 +50,7 @@ h-lent-requires : tie.Need-h-lent-requires Inv-loop μ-loop
 h-lent-requires c κs =
     let at = c .before in
     let size = key-size (width at) (at .before .loop .at) (start at .args .keys .now) (inside at) in
-    omega (arith, size, measured at .width .ensures, start at .pre .0)
+    omega (arith, size, measured at .width .ensures, lent-length _ _ (start at .pre .0))
 
 loop-again : tie.Need-loop-again Inv-loop μ-loop
 loop-again c =

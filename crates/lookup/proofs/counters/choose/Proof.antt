@@ -52,7 +52,7 @@ module _ (c : tie.After-buckets Inv-loop μ-loop) where
 -- ---- hash j
 module _ (c : tie.In-loop Inv-loop μ-loop) where
   abbrev counted : tie.After-buckets Inv-loop μ-loop
-  counted = c .before .before
+  counted = c .before .before .before
 
   abbrev h : ℕ
   h = start counted .args .h
@@ -74,8 +74,8 @@ loop-holds c =
     record {
       few = omega arith;
       low = omega arith;
-      rest-is = rest-start (start c .args .h);
-      above = rw (le-ltb (t c .top) 0 (omega arith));
+      rest-is = rest-start (start (c .before) .args .h);
+      above = rw (le-ltb (t (c .before) .top) (c .zero .result .0) (omega (arith, c .zero .ensures)));
       ranked = refl;
     }
 
@@ -109,7 +109,7 @@ returns : tie.Need-returns Inv-loop μ-loop
 returns c =
     let done = c .before .before in
     let l = done .before .loop in
-    let at = done .before .before in
+    let at = done .before .before .before in
     let first = start at in
     let m = at .buckets .result in
     let clipped = first .args .clipped .now in
@@ -125,8 +125,9 @@ choose-spec =
     Inv-loop
     μ-loop
     (λ c κs. c .before .pre .0)
-    (λ c. omega (arith, top-small c))
-    (λ c. omega (arith, top-small c, m-small c .0))
+    (λ c κs. tt)
+    (λ c. omega (arith, top-small (c .before)))
+    (λ c. omega (arith, top-small (c .before), m-small (c .before) .0))
     loop-holds
     (λ c. omega (arith, m-small (counted c) .1))
     counter-requires

@@ -9,6 +9,7 @@ use lib.Dec.{eqb}
 use lib.ListN.{length}
 use Rattle.theory.specs.Settings as plain
 use Rattle.theory.specs.Settings.{allowed, card-of}
+use Rattle.hash.proofs.TableLaws.{length-allowed}
 use Rattle.settings.specs.Checked.{paper, given-of}
 use Rattle.settings.proofs.Laws.{allowed-arm, allowed-settings, refused-arm, width-is}
 use Rattle.lookup.specs.declared.judging.Judged.{Judged}
@@ -58,9 +59,10 @@ module _ (c : tie.After-areas-right) where
   right = burst-lengths (start known .args .table .now) (start known .args .clipped .now) (start known .args .buckets .now) (start known .args .side .now) (start known .args .keys .now)
       (start known .args .n) (s known)
 
-  lengths : (eqb (length (start known .args .table .now)) (256 * known .width .result) && c .areas-right .result) ≡ right
+  lengths : (eqb (length (start known .args .table .now)) (known .width .result * 256) && c .areas-right .result) ≡ right
   lengths =
-      ap₂ (λ (w : ℕ) (r : Bool). eqb (length (start known .args .table .now)) (256 * w) && r) (known .width .ensures) (c .areas-right .ensures)
+      ap₂ (λ (long r : Bool). long && r)
+      (ap (λ (w : ℕ). eqb (length (start known .args .table .now)) (w * 256)) (known .width .ensures) ∙ sym (length-allowed _ _)) (c .areas-right .ensures)
 
   whole : (eqb (length (start known .args .keys .now) % known .width .result) 0 && eqb (length (start known .args .keys .now) / known .width .result) (start known .args .n))
       ≡ eqb (length (start known .args .keys .now)) (start known .args .n * card-of (s known) .width)

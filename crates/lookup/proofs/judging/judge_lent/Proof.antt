@@ -2,7 +2,7 @@
 use mathlib.Core.Path.{_∙_}
 use native.Mathlib.Omega.{arith}
 use Rattle.settings.specs.Checked.{paper, given-of}
-use Rattle.settings.proofs.Laws.{allowed-arm, refused-arm, allowed-settings, width-is}
+use Rattle.settings.proofs.Laws.{allowed-arm, refused-arm, allowed-settings, width-most}
 use Rattle.lookup.proofs.JudgeLaws.{lent-1, lent-2, lent-on}
 use borrow.Author.Needs.{needs}
 use Rattle.lookup.proofs.judging.judge_lent.Statement.{statement}
@@ -27,7 +27,7 @@ width-requires : tie.Need-width-requires
 width-requires c κs = search needs
 
 mul-if1 : tie.Need-mul-if1
-mul-if1 c = omega (arith, c .width .ensures, width-is (paper (c .before .before .checked .given .0 .0)))
+mul-if1 c = omega (arith, c .width .ensures, width-most (paper (c .before .before .checked .given .0 .0)))
 
 returns-2 : tie.Need-returns-2
 returns-2 c =

@@ -8,7 +8,7 @@ use lib.Seq.{take-all}
 use Rattle.theory.specs.Lookup.{answer-at}
 use Rattle.theory.proofs.SettingsLaws.{ranges}
 use Rattle.settings.specs.Checked.{paper}
-use Rattle.settings.proofs.Laws.{bounds, width-is}
+use Rattle.settings.proofs.Laws.{bounds, width-is, width-most}
 use Rattle.lookup.proofs.PlaceLaws.{bucket-room}
 use borrow.Author.Needs.{needs}
 use Rattle.lookup.proofs.searching.compare_bucket.Statement.{statement}
@@ -47,7 +47,7 @@ compare-all-requires c κs =
     rw whole (
       bucket-room (paper (c .before .before .before .before .before .before .args .s)) (c .before .before .before .before .before .before .pre .0) (length (c .before .before .before .before .before .before .args .key .now)) (c .before .before .before .before .before .before .args .s .room) (c .before .before .before .before .before .before .pre .2) (c .before .before .before .before .before .before .args .buckets .now) (c .before .before .before .before .before .before .args .from) (c .before .before .before .bucket-size .result) (c .before .before .before .bucket-size .ensures) (c .before .before .before .before .before .before .pre .3) (omega arith),
       omega (arith, c .before .before .before .before .before .before .pre .2, width-is (paper (c .before .before .before .before .before .before .args .s))),
-      omega (arith, c .before .before .before .before .before .before .pre .2, width-is (paper (c .before .before .before .before .before .before .args .s))),
+      omega (arith, c .before .before .before .before .before .before .pre .2, width-most (paper (c .before .before .before .before .before .before .args .s))),
       c .before .before .before .before .before .before .pre .4,
       r .room-low,
       omega (arith, r .room-high),

@@ -4,7 +4,7 @@ use lib.ListN.{length}
 use Rattle.theory.specs.Lookup.{answer-at}
 use Rattle.theory.proofs.SettingsLaws.{ranges}
 use Rattle.settings.specs.Checked.{paper}
-use Rattle.settings.proofs.Laws.{bounds, width-is}
+use Rattle.settings.proofs.Laws.{bounds, width-most}
 use Rattle.lookup.proofs.PlaceLaws.{side-room, to-end}
 use borrow.Author.Needs.{needs}
 use Rattle.lookup.proofs.searching.compare_side.Statement.{statement}
@@ -24,7 +24,7 @@ compare-requires c κs =
     let start = c .before .before .before in
     let r = ranges (paper (start .args .s)) (start .pre .0) in (
       side-room (paper (start .args .s)) (start .pre .0) (length (start .args .key .now)) (start .args .n) (start .pre .2) (start .args .side .now) (start .pre .1) (start .pre .3),
-      omega (arith, start .pre .2, width-is (paper (start .args .s))),
+      omega (arith, start .pre .2, width-most (paper (start .args .s))),
       omega (arith, start .pre .3),
     )
 

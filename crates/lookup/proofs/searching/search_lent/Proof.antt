@@ -7,6 +7,7 @@ use Rattle.theory.specs.Settings as plain
 use Rattle.theory.specs.Settings.{card-of}
 use Rattle.theory.specs.Lookup.{search-areas}
 use Rattle.hash.specs.Table.{H-by}
+use Rattle.hash.proofs.TableLaws.{lent-length}
 use Rattle.settings.specs.declared.Settings.{Settings}
 use Rattle.settings.specs.Checked.{given-of}
 use Rattle.lookup.specs.declared.judging.Judged.the-variants.{Ready}
@@ -37,7 +38,7 @@ module _ (c : tie.After-known-told2) where
 
 h-lent-requires : tie.Need-h-lent-requires
 h-lent-requires c κs =
-    omega (arith, lent-ready _ (t c) _ _ _ _ (s c) (ready c) .0, right c .wide, ap (λ (u : plain.Settings). card-of u .width) (right c .same))
+    omega (arith, lent-length _ _ (lent-ready _ (t c) _ _ _ _ (s c) (ready c) .0), right c .wide, ap (λ (u : plain.Settings). card-of u .width) (right c .same))
 
 returns-2 : tie.Need-returns-2
 returns-2 c =
