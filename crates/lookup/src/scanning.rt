@@ -1,8 +1,10 @@
 // Records compared from the first up to the equal one or the last.
+use settings::Settings;
 ghost use mathlib.Core.Path.{_≡_};
 ghost use mathlib.Core.Bool.{cond};
 ghost use Prim.Native.Nat.{_+_, _*_, _≤_};
 ghost use lib.ListN.{length};
+ghost use Rattle.theory.specs.Records.{class-width};
 ghost use Rattle.lookup.specs.Scanning.{HitOf};
 
 // Where the key's record starts, if it is there, and how many records were compared.
@@ -14,7 +16,7 @@ pub struct Hit {
 
 // The key among the first n records of a place.
 pub fn scan(place: &[u8], n: usize, key: &[u8]) -> Hit
-    requires { ⌜ (n * (length (now key) + 4) ≤ length (now place)) × (length (now key) ≤ 64) ⌝ }
+    requires { ⌜ (n * (length (now key) + class-width) ≤ length (now place)) × (length (now key) ≤ 64) ⌝ }
     ensures { λ r. ⌜ HitOf (length (now (key .entry))) n (now (place .entry)) (now (key .entry)) r ⌝ }
 {
     let width = key.len();
@@ -32,7 +34,7 @@ pub fn scan(place: &[u8], n: usize, key: &[u8]) -> Hit
         }
         left -= 1;
         compared += 1;
-        at = end + 4;
+        at = end + Settings::CLASS_WIDTH;
     }
     Hit {
         found: false,
@@ -50,11 +52,11 @@ fn pick(test: bool, a: usize, b: usize) -> usize
 // The same where all places may be read: each is compared, from the last to the first, with no branch on what is equal; the first equal one counts if it is among
 // the first n. The offset is inside whatever is found, so that the caller may read there first and choose after.
 pub fn scan_all(place: &[u8], n: usize, room: usize, key: &[u8]) -> Hit
-    requires { ⌜ (room * (length (now key) + 4) ≤ length (now place)) × (8 ≤ length (now key)) × (length (now key) ≤ 64) × (n ≤ room) × (1 ≤ room) × (room ≤ 4096) ⌝ }
-    ensures { λ r. ⌜ HitOf (length (now (key .entry))) n (now (place .entry)) (now (key .entry)) r × (r .at + (length (now (key .entry)) + 4) ≤ length (now (place .entry))) ⌝ }
+    requires { ⌜ (room * (length (now key) + class-width) ≤ length (now place)) × (8 ≤ length (now key)) × (length (now key) ≤ 64) × (n ≤ room) × (1 ≤ room) × (room ≤ 4096) ⌝ }
+    ensures { λ r. ⌜ HitOf (length (now (key .entry))) n (now (place .entry)) (now (key .entry)) r × (r .at + (length (now (key .entry)) + class-width) ≤ length (now (place .entry))) ⌝ }
 {
     let width = key.len();
-    let size = width + 4;
+    let size = width + Settings::CLASS_WIDTH;
     let mut left = room;
     let mut at = room * size;
     let mut first = room;

@@ -12,7 +12,7 @@ ghost use mathlib.Core.Path.{_≡_};
 ghost use mathlib.Core.Bool.{true, cond};
 ghost use Prim.Native.Nat.{_+_, _-_, _*_, _≤_};
 ghost use lib.ListN.{length, take, drop};
-ghost use Rattle.theory.specs.Records.{records, find, comparisons};
+ghost use Rattle.theory.specs.Records.{class-width, records, find, comparisons};
 ghost use Rattle.theory.specs.Settings.{allowed, card-of, bucket-size, buckets-length, side-length};
 ghost use Rattle.theory.specs.Lookup as plain;
 ghost use Rattle.theory.specs.Layout.{Areas};
@@ -53,7 +53,7 @@ pub fn driver_number(a: Answer) -> u64
 
 // The answer of a scan of some records.
 fn compare(place: &[u8], n: usize, key: &[u8], read: u32) -> Answer
-    requires { ⌜ (n * (length (now key) + 4) ≤ length (now place)) × (length (now key) ≤ 64) × (n ≤ 4096) ⌝ }
+    requires { ⌜ (n * (length (now key) + class-width) ≤ length (now place)) × (length (now key) ≤ 64) × (n ≤ 4096) ⌝ }
     ensures { λ r. ⌜ answer-of r ≡ plain.answer (find (now (key .entry)) (records (length (now (key .entry))) n (now (place .entry)))) read
         (comparisons (now (key .entry)) (records (length (now (key .entry))) n (now (place .entry)))) ⌝ }
 {
@@ -84,7 +84,7 @@ fn pick(test: bool, a: u32, b: u32) -> u32
 
 // The answer of a scan of all places of a bucket, with no branch on what was found: the class is read anyway, and kept or not.
 fn compare_all(place: &[u8], n: usize, room: usize, key: &[u8], read: u32) -> Answer
-    requires { ⌜ (room * (length (now key) + 4) ≤ length (now place)) × (8 ≤ length (now key)) × (length (now key) ≤ 64) × (n ≤ room) × (1 ≤ room) × (room ≤ 4096) ⌝ }
+    requires { ⌜ (room * (length (now key) + class-width) ≤ length (now place)) × (8 ≤ length (now key)) × (length (now key) ≤ 64) × (n ≤ room) × (1 ≤ room) × (room ≤ 4096) ⌝ }
     ensures { λ r. ⌜ answer-of r ≡ plain.answer (find (now (key .entry)) (records (length (now (key .entry))) n (now (place .entry)))) read
         (comparisons (now (key .entry)) (records (length (now (key .entry))) n (now (place .entry)))) ⌝ }
 {
