@@ -25,15 +25,6 @@ told c =
 told-code : (c : tie.After-known-told) → allowed (paper (c .before .checked .given .0 .0)) ≡ true
 told-code c = ap allowed (told c .1) ∙ told c .0
 
-new-requires : tie.Need-new-requires
-new-requires c κs = search needs
-
-enum-known-checked : tie.Need-enum-known-checked
-enum-known-checked c = search needs
-
-enum-told : tie.Need-enum-told
-enum-told c = search needs
-
 returns : tie.Need-returns
 returns c =
     let start = c .before .before .before .before in
@@ -43,12 +34,6 @@ returns-2 : tie.Need-returns-2
 returns-2 c =
     let start = c .before .before .before .before .before .before in
     area-lengths-2 (asked start) (start .args .lengths .now) (told (c .before) .0) (c .if1 .taken)
-
-write-lengths-requires : tie.Need-write-lengths-requires
-write-lengths-requires c κs = (told-code (c .before .before), c .before .if1 .left)
-
-same-length : tie.Need-same-length
-same-length c = search needs
 
 returns-3 : tie.Need-returns-3
 returns-3 c =
@@ -60,11 +45,11 @@ pub flow-area-lengths-spec : {M : Type 1} → statement M
 flow-area-lengths-spec =
     tie.close
     (tie.spec
-    new-requires
-    enum-known-checked
-    enum-told
+    (λ c κs. search needs)
+    (λ c. search needs)
+    (λ c. search needs)
     returns
     returns-2
-    write-lengths-requires
-    same-length
+    (λ c κs. (told-code (c .before .before), c .before .if1 .left))
+    (λ c. search needs)
     returns-3)

@@ -15,15 +15,6 @@ returns-2 c =
     let start = c .before .before .before .before in
     hash-3 _ (start .args .key .now) (start .args .h .now) (c .before .if1 .left) (c .if2 .taken)
 
-h-rows-requires : tie.Need-h-rows-requires
-h-rows-requires c κs = search needs
-
-slice-write-h : tie.Need-slice-write-h
-slice-write-h c = search needs
-
-same-length : tie.Need-same-length
-same-length c = search needs
-
 returns-3 : tie.Need-returns-3
 returns-3 c =
     let before = c .before .before .before .before .before in
@@ -34,4 +25,4 @@ returns-3 c =
 
 pub flow-hash-spec : {M : Type 1} → statement M
 flow-hash-spec =
-    tie.close (tie.spec returns returns-2 h-rows-requires slice-write-h same-length returns-3)
+    tie.close (tie.spec returns returns-2 (λ c κs. search needs) (λ c. search needs) (λ c. search needs) returns-3)

@@ -7,14 +7,8 @@ use Rattle.card.proofs.flow_hash_table.Tie as tie
 returns : tie.Need-returns
 returns c = hash-table-2 (c .before .before .args .table .now) (c .if1 .taken)
 
-fill-table-requires : tie.Need-fill-table-requires
-fill-table-requires c κs = search needs
-
-same-length : tie.Need-same-length
-same-length c = search needs
-
 returns-2 : tie.Need-returns-2
 returns-2 c = rw (c .before .before .fill-table .ensures) (hash-table-0 (c .before .before .before .before .before .before .args .table .now) (c .before .before .before .before .if1 .left))
 
 pub flow-hash-table-spec : {M : Type 1} → statement M
-flow-hash-table-spec = tie.close (tie.spec returns fill-table-requires same-length returns-2)
+flow-hash-table-spec = tie.close (tie.spec returns (λ c κs. search needs) (λ c. search needs) returns-2)

@@ -36,15 +36,6 @@ told-code c = ap allowed (told c .1) ∙ told c .0
 limits : (c : tie.After-known-told) → Ranges (paper (c .before .checked .given .0 .0))
 limits c = ranges (paper (c .before .checked .given .0 .0)) (told-code c)
 
-new-requires : tie.Need-new-requires
-new-requires c κs = search needs
-
-enum-known-checked : tie.Need-enum-known-checked
-enum-known-checked c = search needs
-
-enum-told : tie.Need-enum-told
-enum-told c = search needs
-
 returns : tie.Need-returns
 returns c =
     let start = c .before .before .before .before .before .before in
@@ -66,23 +57,11 @@ returns-4 c =
     let start = c .before .before .before .before .before .before .before .before .before .before in
     key-buckets-3 (asked start) (start .args .key .now) (start .args .hashes .now) (start .args .numbers .now) (told (c .before .before .before) .0) (c .before .before .if1 .left) (c .before .if2 .left) (c .if3 .taken)
 
-h-rows-requires : tie.Need-h-rows-requires
-h-rows-requires c κs = search needs
-
 write-hashes-requires : tie.Need-write-hashes-requires
 write-hashes-requires c κs = (limits (c .before .before .before .before .before) .p-high, c .before .before .before .before .if1 .left)
 
 numbers-of-requires : tie.Need-numbers-of-requires
 numbers-of-requires c κs = let here = limits (c .before .before .before .before .before .before .before .before) in (omega arith, omega arith)
-
-write-numbers-requires : tie.Need-write-numbers-requires
-write-numbers-requires c κs = search needs
-
-same-length : tie.Need-same-length
-same-length c = search needs
-
-same-length-2 : tie.Need-same-length-2
-same-length-2 c = search needs
 
 returns-5 : tie.Need-returns-5
 returns-5 c =
@@ -102,17 +81,17 @@ pub flow-key-buckets-spec : {M : Type 1} → statement M
 flow-key-buckets-spec =
     tie.close
     (tie.spec
-    new-requires
-    enum-known-checked
-    enum-told
+    (λ c κs. search needs)
+    (λ c. search needs)
+    (λ c. search needs)
     returns
     returns-2
     returns-3
     returns-4
-    h-rows-requires
+    (λ c κs. search needs)
     write-hashes-requires
     numbers-of-requires
-    write-numbers-requires
-    same-length
-    same-length-2
+    (λ c κs. search needs)
+    (λ c. search needs)
+    (λ c. search needs)
     returns-5)

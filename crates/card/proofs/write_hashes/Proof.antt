@@ -5,33 +5,6 @@ use borrow.Author.Needs.{needs}
 use Rattle.card.proofs.write_hashes.Statement.{statement}
 use Rattle.card.proofs.write_hashes.Tie as tie
 
-hash-at-requires : tie.Need-hash-at-requires
-hash-at-requires c κs = search needs
-
-slice-write-hashes : tie.Need-slice-write-hashes
-slice-write-hashes c = search needs
-
-hash-at-requires-2 : tie.Need-hash-at-requires-2
-hash-at-requires-2 c κs = search needs
-
-slice-write-hashes-2 : tie.Need-slice-write-hashes-2
-slice-write-hashes-2 c = search needs
-
-hash-at-requires-3 : tie.Need-hash-at-requires-3
-hash-at-requires-3 c κs = search needs
-
-slice-write-hashes-3 : tie.Need-slice-write-hashes-3
-slice-write-hashes-3 c = search needs
-
-hash-at-requires-4 : tie.Need-hash-at-requires-4
-hash-at-requires-4 c κs = search needs
-
-slice-write-hashes-4 : tie.Need-slice-write-hashes-4
-slice-write-hashes-4 c = search needs
-
-same-length : tie.Need-same-length
-same-length c = search needs
-
 returns : tie.Need-returns
 unfolding first-hashes
 returns c =
@@ -46,13 +19,13 @@ pub write-hashes-spec : {M : Type 1} → statement M
 write-hashes-spec =
     tie.close
     (tie.spec
-    hash-at-requires
-    slice-write-hashes
-    hash-at-requires-2
-    slice-write-hashes-2
-    hash-at-requires-3
-    slice-write-hashes-3
-    hash-at-requires-4
-    slice-write-hashes-4
-    same-length
+    (λ c κs. search needs)
+    (λ c. search needs)
+    (λ c κs. search needs)
+    (λ c. search needs)
+    (λ c κs. search needs)
+    (λ c. search needs)
+    (λ c κs. search needs)
+    (λ c. search needs)
+    (λ c. search needs)
     returns)

@@ -9,39 +9,6 @@ use borrow.Author.Needs.{needs}
 use Rattle.card.proofs.write_numbers.Statement.{statement}
 use Rattle.card.proofs.write_numbers.Tie as tie
 
-cast-numbers : tie.Need-cast-numbers
-cast-numbers c = search needs
-
-slice-write-numbers : tie.Need-slice-write-numbers
-slice-write-numbers c = search needs
-
-array-read-numbers : tie.Need-array-read-numbers
-array-read-numbers c = search needs
-
-slice-write-numbers-2 : tie.Need-slice-write-numbers-2
-slice-write-numbers-2 c = search needs
-
-array-read-numbers-2 : tie.Need-array-read-numbers-2
-array-read-numbers-2 c = search needs
-
-slice-write-numbers-3 : tie.Need-slice-write-numbers-3
-slice-write-numbers-3 c = search needs
-
-array-read-numbers-3 : tie.Need-array-read-numbers-3
-array-read-numbers-3 c = search needs
-
-slice-write-numbers-4 : tie.Need-slice-write-numbers-4
-slice-write-numbers-4 c = search needs
-
-array-read-numbers-4 : tie.Need-array-read-numbers-4
-array-read-numbers-4 c = search needs
-
-slice-write-numbers-5 : tie.Need-slice-write-numbers-5
-slice-write-numbers-5 c = simp length-set (omega arith)
-
-same-length : tie.Need-same-length
-same-length c = search needs
-
 returns : tie.Need-returns
 returns c =
     let start = c .before .before in
@@ -53,15 +20,15 @@ pub write-numbers-spec : {M : Type 1} → statement M
 write-numbers-spec =
     tie.close
     (tie.spec
-    cast-numbers
-    slice-write-numbers
-    array-read-numbers
-    slice-write-numbers-2
-    array-read-numbers-2
-    slice-write-numbers-3
-    array-read-numbers-3
-    slice-write-numbers-4
-    array-read-numbers-4
-    slice-write-numbers-5
-    same-length
+    (λ c. search needs)
+    (λ c. search needs)
+    (λ c. search needs)
+    (λ c. search needs)
+    (λ c. search needs)
+    (λ c. search needs)
+    (λ c. search needs)
+    (λ c. search needs)
+    (λ c. search needs)
+    (λ c. simp length-set (omega arith))
+    (λ c. search needs)
     returns)

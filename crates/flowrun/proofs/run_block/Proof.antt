@@ -8,24 +8,6 @@ use borrow.Author.Needs.{needs}
 use Rattle.flowrun.proofs.run_block.Statement.{statement}
 use Rattle.flowrun.proofs.run_block.Tie as tie
 
-slice-aggregate-read-full : tie.Need-slice-aggregate-read-full
-slice-aggregate-read-full c = search needs
-
-read-full-requires : tie.Need-read-full-requires
-read-full-requires c κs = search needs
-
-large-buffer-requires : tie.Need-large-buffer-requires
-large-buffer-requires c κs = search needs
-
-array-share-prefix-input : tie.Need-array-share-prefix-input
-array-share-prefix-input c = search needs
-
-slice-aggregate-run-calls : tie.Need-slice-aggregate-run-calls
-slice-aggregate-run-calls c = search needs
-
-slice-aggregate-run-calls-2 : tie.Need-slice-aggregate-run-calls-2
-slice-aggregate-run-calls-2 c = search needs
-
 run-calls-requires : tie.Need-run-calls-requires
 unfolding call-count
 run-calls-requires c κs =
@@ -37,54 +19,24 @@ run-calls-requires c κs =
     omega (arith, same, read-full .ensures .0, read-full .ensures .1) in
     (omega (arith, large-buffer .ensures), omega (arith, start .pre))
 
-array-share-prefix-text : tie.Need-array-share-prefix-text
-array-share-prefix-text c = search needs
-
-slice-aggregate-write-all : tie.Need-slice-aggregate-write-all
-slice-aggregate-write-all c = search needs
-
-write-all-requires : tie.Need-write-all-requires
-write-all-requires c κs = search needs
-
-same-length : tie.Need-same-length
-same-length c = search needs
-
-same-length-2 : tie.Need-same-length-2
-same-length-2 c = search needs
-
-same-length-3 : tie.Need-same-length-3
-same-length-3 c = search needs
-
-same-length-4 : tie.Need-same-length-4
-same-length-4 c = search needs
-
-same-length-5 : tie.Need-same-length-5
-same-length-5 c = search needs
-
-same-length-6 : tie.Need-same-length-6
-same-length-6 c = search needs
-
-returns : tie.Need-returns
-returns c = search needs
-
 pub run-block-spec : {M : Type 1} → statement M
 run-block-spec =
     tie.close
     (tie.spec
-    slice-aggregate-read-full
-    read-full-requires
-    large-buffer-requires
-    array-share-prefix-input
-    slice-aggregate-run-calls
-    slice-aggregate-run-calls-2
+    (λ c. search needs)
+    (λ c κs. search needs)
+    (λ c κs. search needs)
+    (λ c. search needs)
+    (λ c. search needs)
+    (λ c. search needs)
     run-calls-requires
-    array-share-prefix-text
-    slice-aggregate-write-all
-    write-all-requires
-    same-length
-    same-length-2
-    same-length-3
-    same-length-4
-    same-length-5
-    same-length-6
-    returns)
+    (λ c. search needs)
+    (λ c. search needs)
+    (λ c κs. search needs)
+    (λ c. search needs)
+    (λ c. search needs)
+    (λ c. search needs)
+    (λ c. search needs)
+    (λ c. search needs)
+    (λ c. search needs)
+    (λ c. search needs))

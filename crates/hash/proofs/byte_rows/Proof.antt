@@ -5,30 +5,6 @@ use Rattle.hash.specs.Table.{xor-set}
 use Rattle.hash.proofs.byte_rows.Statement.{statement}
 use Rattle.hash.proofs.byte_rows.Tie as tie
 
-if-set-requires : tie.Need-if-set-requires
-if-set-requires c κs = tt
-
-if-set-requires-2 : tie.Need-if-set-requires-2
-if-set-requires-2 c κs = tt
-
-if-set-requires-3 : tie.Need-if-set-requires-3
-if-set-requires-3 c κs = tt
-
-if-set-requires-4 : tie.Need-if-set-requires-4
-if-set-requires-4 c κs = tt
-
-if-set-requires-5 : tie.Need-if-set-requires-5
-if-set-requires-5 c κs = tt
-
-if-set-requires-6 : tie.Need-if-set-requires-6
-if-set-requires-6 c κs = tt
-
-if-set-requires-7 : tie.Need-if-set-requires-7
-if-set-requires-7 c κs = tt
-
-if-set-requires-8 : tie.Need-if-set-requires-8
-if-set-requires-8 c κs = tt
-
 returns : tie.Need-returns
 unfolding xor-set
 returns c =
@@ -45,12 +21,12 @@ pub byte-rows-spec : {M : Type 1} → statement M
 byte-rows-spec =
     tie.close
     (tie.spec
-    if-set-requires
-    if-set-requires-2
-    if-set-requires-3
-    if-set-requires-4
-    if-set-requires-5
-    if-set-requires-6
-    if-set-requires-7
-    if-set-requires-8
+    (λ c κs. tt)
+    (λ c κs. tt)
+    (λ c κs. tt)
+    (λ c κs. tt)
+    (λ c κs. tt)
+    (λ c κs. tt)
+    (λ c κs. tt)
+    (λ c κs. tt)
     returns)

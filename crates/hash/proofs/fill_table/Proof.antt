@@ -25,38 +25,11 @@ copied out t i ho ht e = rw (add-one i, take-suc-set out i (getD t i 0) ho, take
 whole : (out t : List ℕ) (i n : ℕ) → length out ≡ n → length t ≡ n → n ≤ i → take i out ≡ take i t → out ≡ t
 whole out t i n eo et h e = sym (take-all i out (omega arith)) ∙ e ∙ take-all i t (omega arith)
 
-table-requires : tie.Need-table-requires Inv-loop μ-loop
-table-requires c κs = search needs
-
-loop-holds : tie.Need-loop-holds Inv-loop μ-loop
-loop-holds c = (omega arith, search needs, search needs, refl)
-
-mul-out : tie.Need-mul-out Inv-loop μ-loop
-mul-out c = search needs
-
-array-read-out : tie.Need-array-read-out Inv-loop μ-loop
-array-read-out c = search needs
-
-mul-out-2 : tie.Need-mul-out-2 Inv-loop μ-loop
-mul-out-2 c = search needs
-
-slice-write-out : tie.Need-slice-write-out Inv-loop μ-loop
-slice-write-out c = search needs
-
-add-i : tie.Need-add-i Inv-loop μ-loop
-add-i c = search needs
-
-loop-less : tie.Need-loop-less Inv-loop μ-loop
-loop-less c = search needs
-
 loop-again : tie.Need-loop-again Inv-loop μ-loop
 loop-again c =
     let l = c .before .loop in
     let t = c .before .before .table .result in
     (omega arith, simp length-set (l .inv .1), l .inv .2, copied (l .out) t (l .i) (omega arith) (omega arith) (l .inv .3))
-
-same-length : tie.Need-same-length Inv-loop μ-loop
-same-length c = search needs
 
 returns : tie.Need-returns Inv-loop μ-loop
 returns c =
@@ -71,14 +44,14 @@ fill-table-spec =
     (tie.spec
     Inv-loop
     μ-loop
-    table-requires
-    loop-holds
-    mul-out
-    array-read-out
-    mul-out-2
-    slice-write-out
-    add-i
-    loop-less
+    (λ c κs. search needs)
+    (λ c. (omega arith, search needs, search needs, refl))
+    (λ c. search needs)
+    (λ c. search needs)
+    (λ c. search needs)
+    (λ c. search needs)
+    (λ c. search needs)
+    (λ c. search needs)
     loop-again
-    same-length
+    (λ c. search needs)
     returns)

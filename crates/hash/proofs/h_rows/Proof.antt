@@ -9,93 +9,30 @@ use borrow.Author.Needs.{needs}
 use Rattle.hash.proofs.h_rows.Statement.{statement}
 use Rattle.hash.proofs.h_rows.Tie as tie
 
-shared-slice-read-byte-rows : tie.Need-shared-slice-read-byte-rows
-shared-slice-read-byte-rows c = search needs
-
-byte-rows-requires : tie.Need-byte-rows-requires
-byte-rows-requires c κs = tt
-
-shared-slice-read-byte-rows-2 : tie.Need-shared-slice-read-byte-rows-2
-shared-slice-read-byte-rows-2 c = search needs
-
-byte-rows-requires-2 : tie.Need-byte-rows-requires-2
-byte-rows-requires-2 c κs = tt
-
-shared-slice-read-byte-rows-3 : tie.Need-shared-slice-read-byte-rows-3
-shared-slice-read-byte-rows-3 c = search needs
-
-byte-rows-requires-3 : tie.Need-byte-rows-requires-3
-byte-rows-requires-3 c κs = tt
-
-shared-slice-read-byte-rows-4 : tie.Need-shared-slice-read-byte-rows-4
-shared-slice-read-byte-rows-4 c = search needs
-
-byte-rows-requires-4 : tie.Need-byte-rows-requires-4
-byte-rows-requires-4 c κs = tt
-
-shared-slice-read-byte-rows-5 : tie.Need-shared-slice-read-byte-rows-5
-shared-slice-read-byte-rows-5 c = search needs
-
-byte-rows-requires-5 : tie.Need-byte-rows-requires-5
-byte-rows-requires-5 c κs = tt
-
-shared-slice-read-byte-rows-6 : tie.Need-shared-slice-read-byte-rows-6
-shared-slice-read-byte-rows-6 c = search needs
-
-byte-rows-requires-6 : tie.Need-byte-rows-requires-6
-byte-rows-requires-6 c κs = tt
-
-shared-slice-read-byte-rows-7 : tie.Need-shared-slice-read-byte-rows-7
-shared-slice-read-byte-rows-7 c = search needs
-
-byte-rows-requires-7 : tie.Need-byte-rows-requires-7
-byte-rows-requires-7 c κs = tt
-
-shared-slice-read-byte-rows-8 : tie.Need-shared-slice-read-byte-rows-8
-shared-slice-read-byte-rows-8 c = search needs
-
-byte-rows-requires-8 : tie.Need-byte-rows-requires-8
-byte-rows-requires-8 c κs = tt
-
 shared-slice-read-byte-rows-9 : tie.Need-shared-slice-read-byte-rows-9
 shared-slice-read-byte-rows-9 c =
     let half = c .before .before .before .before .before .before .before .before .before in
     omega (arith, half .before .before .before .before .before .before .before .before .before .pre)
-
-byte-rows-requires-9 : tie.Need-byte-rows-requires-9
-byte-rows-requires-9 c κs = tt
 
 shared-slice-read-byte-rows-10 : tie.Need-shared-slice-read-byte-rows-10
 shared-slice-read-byte-rows-10 c =
     let half = c .before .before .before .before .before .before .before .before .before .before in
     omega (arith, half .before .before .before .before .before .before .before .before .before .before .pre)
 
-byte-rows-requires-10 : tie.Need-byte-rows-requires-10
-byte-rows-requires-10 c κs = tt
-
 shared-slice-read-byte-rows-11 : tie.Need-shared-slice-read-byte-rows-11
 shared-slice-read-byte-rows-11 c =
     let half = c .before .before .before .before .before .before .before .before .before .before .before in
     omega (arith, half .before .before .before .before .before .before .before .before .before .before .before .pre)
-
-byte-rows-requires-11 : tie.Need-byte-rows-requires-11
-byte-rows-requires-11 c κs = tt
 
 shared-slice-read-byte-rows-12 : tie.Need-shared-slice-read-byte-rows-12
 shared-slice-read-byte-rows-12 c =
     let half = c .before .before .before .before .before .before .before .before .before .before .before .before in
     omega (arith, half .before .before .before .before .before .before .before .before .before .before .before .before .pre)
 
-byte-rows-requires-12 : tie.Need-byte-rows-requires-12
-byte-rows-requires-12 c κs = tt
-
 shared-slice-read-byte-rows-13 : tie.Need-shared-slice-read-byte-rows-13
 shared-slice-read-byte-rows-13 c =
     let half = c .before .before .before .before .before .before .before .before .before .before .before .before .before in
     omega (arith, half .before .before .before .before .before .before .before .before .before .before .before .before .before .pre)
-
-byte-rows-requires-13 : tie.Need-byte-rows-requires-13
-byte-rows-requires-13 c κs = tt
 
 returns : tie.Need-returns
 unfolding rows H
@@ -132,30 +69,30 @@ pub h-rows-spec : {M : Type 1} → statement M
 h-rows-spec =
     tie.close
     (tie.spec
-    shared-slice-read-byte-rows
-    byte-rows-requires
-    shared-slice-read-byte-rows-2
-    byte-rows-requires-2
-    shared-slice-read-byte-rows-3
-    byte-rows-requires-3
-    shared-slice-read-byte-rows-4
-    byte-rows-requires-4
-    shared-slice-read-byte-rows-5
-    byte-rows-requires-5
-    shared-slice-read-byte-rows-6
-    byte-rows-requires-6
-    shared-slice-read-byte-rows-7
-    byte-rows-requires-7
-    shared-slice-read-byte-rows-8
-    byte-rows-requires-8
+    (λ c. search needs)
+    (λ c κs. tt)
+    (λ c. search needs)
+    (λ c κs. tt)
+    (λ c. search needs)
+    (λ c κs. tt)
+    (λ c. search needs)
+    (λ c κs. tt)
+    (λ c. search needs)
+    (λ c κs. tt)
+    (λ c. search needs)
+    (λ c κs. tt)
+    (λ c. search needs)
+    (λ c κs. tt)
+    (λ c. search needs)
+    (λ c κs. tt)
     shared-slice-read-byte-rows-9
-    byte-rows-requires-9
+    (λ c κs. tt)
     shared-slice-read-byte-rows-10
-    byte-rows-requires-10
+    (λ c κs. tt)
     shared-slice-read-byte-rows-11
-    byte-rows-requires-11
+    (λ c κs. tt)
     shared-slice-read-byte-rows-12
-    byte-rows-requires-12
+    (λ c κs. tt)
     shared-slice-read-byte-rows-13
-    byte-rows-requires-13
+    (λ c κs. tt)
     returns)

@@ -17,24 +17,12 @@ one-shl p h = shl-exact {a = 1} 1 p 64 (lit< tt) (omega arith) ∙ one-mul (2 ^ 
 fits : (x p : ℕ) → p ≤ 12 → x % ((1 * 2 ^ p) % 2 ^ 64) < 2 ^ 16
 fits x p h = subst⁻¹ (λ (n : ℕ). x % n < 2 ^ 16) (one-shl p h) (lt-of-lt-of-le (mod-lt x (pow-pos p)) (pow-mono {i = p} {j = 16} (omega arith)))
 
-mul-result : tie.Need-mul-result
-mul-result c = search needs
-
-shr-result : tie.Need-shr-result
-shr-result c = search needs
-
-shl-result : tie.Need-shl-result
-shl-result c = search needs
-
 rem-result : tie.Need-rem-result
 rem-result c = subst⁻¹ (λ (n : ℕ). 0 < n) (one-shl (c .args .p) (omega arith)) (pow-pos (c .args .p))
-
-cast-result : tie.Need-cast-result
-cast-result c = record { fits = fits _ (c .args .p) (omega arith) }
 
 returns : tie.Need-returns
 unfolding hash
 returns c = ap (λ (n : ℕ). (c .args .h / 2 ^ (16 * c .args .j)) % n) (one-shl (c .args .p) (omega arith))
 
 pub hash-at-spec : {M : Type 1} → statement M
-hash-at-spec = tie.close (tie.spec mul-result shr-result shl-result rem-result cast-result returns)
+hash-at-spec = tie.close (tie.spec (λ c. search needs) (λ c. search needs) (λ c. search needs) rem-result (λ c. record { fits = fits _ (c .args .p) (omega arith) }) returns)

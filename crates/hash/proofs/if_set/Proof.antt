@@ -15,11 +15,5 @@ unfolding if-set
 set zero r n = absurd (n refl)
 set (suc b) r n = refl
 
-returns : tie.Need-returns
-returns c = unset _ _ (c .if1 .taken)
-
-returns-2 : tie.Need-returns-2
-returns-2 c = set _ _ (c .if1 .left)
-
 pub if-set-spec : {M : Type 1} → statement M
-if-set-spec = tie.close (tie.spec returns returns-2)
+if-set-spec = tie.close (tie.spec (λ c. unset _ _ (c .if1 .taken)) (λ c. set _ _ (c .if1 .left)))

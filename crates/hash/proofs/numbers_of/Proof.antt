@@ -23,35 +23,8 @@ Inv-loop h p k at₀ count₀ j₀ at count j =
 abbrev μ-loop : tie.MeasureT-loop
 μ-loop h p k at₀ count₀ j₀ at count j = k - j
 
-loop-holds : tie.Need-loop-holds Inv-loop μ-loop
-loop-holds c = (omega arith, omega arith, refl, refl, refl)
-
-hash-at-requires : tie.Need-hash-at-requires Inv-loop μ-loop
-hash-at-requires c κs = search needs
-
-array-share-prefix-at : tie.Need-array-share-prefix-at Inv-loop μ-loop
-array-share-prefix-at c = search needs
-
 slice-aggregate-among : tie.Need-slice-aggregate-among Inv-loop μ-loop
 slice-aggregate-among c = let l = c .before .before .before .loop in sym (length-take-le (l .count) (l .at) (omega arith))
-
-among-requires : tie.Need-among-requires Inv-loop μ-loop
-among-requires c κs = search needs
-
-mul-at : tie.Need-mul-at Inv-loop μ-loop
-mul-at c = search needs
-
-array-write-at : tie.Need-array-write-at Inv-loop μ-loop
-array-write-at c = search needs
-
-add-count : tie.Need-add-count Inv-loop μ-loop
-add-count c = search needs
-
-add-j : tie.Need-add-j Inv-loop μ-loop
-add-j c = search needs
-
-loop-less : tie.Need-loop-less Inv-loop μ-loop
-loop-less c = search needs
 
 loop-again : tie.Need-loop-again Inv-loop μ-loop
 loop-again c =
@@ -94,15 +67,15 @@ numbers-of-spec =
     (tie.spec
     Inv-loop
     μ-loop
-    loop-holds
-    hash-at-requires
-    array-share-prefix-at
+    (λ c. (omega arith, omega arith, refl, refl, refl))
+    (λ c κs. search needs)
+    (λ c. search needs)
     slice-aggregate-among
-    among-requires
-    mul-at
-    array-write-at
-    add-count
-    add-j
-    loop-less
+    (λ c κs. search needs)
+    (λ c. search needs)
+    (λ c. search needs)
+    (λ c. search needs)
+    (λ c. search needs)
+    (λ c. search needs)
     loop-again
     returns)

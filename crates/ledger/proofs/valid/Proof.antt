@@ -63,12 +63,6 @@ part-keys-rise-start c =
     let start = c .before .before .before .before in
     has-count (card-of (paper (start .args .s))) (start .args .ledger .now) (start .pre .1)
 
-part-keys-rise-end : tie.Need-part-keys-rise-end
-part-keys-rise-end c = search needs
-
-width-requires : tie.Need-width-requires
-width-requires c κs = search needs
-
 keys-rise-requires : tie.Need-keys-rise-requires
 keys-rise-requires c κs =
     let start = c .before .before .before .before .before .before in
@@ -85,27 +79,6 @@ returns-2 c =
     let count-at = c .before .before .before .before .before .before .count-at in
     sym (ap not (invalid-order card (start .args .ledger .now) (count-at .result) (count-at .ensures .0) (few (c .before .before .before .before))
     (sym (rises (c .before)) ∙ not-true (c .before .keys-rise .result) (c .if2 .taken))))
-
-record-size-requires : tie.Need-record-size-requires
-record-size-requires c κs = search needs
-
-mul-end : tie.Need-mul-end
-mul-end c = omega (arith, after-records c)
-
-add-end : tie.Need-add-end
-add-end c = omega (arith, after-records c)
-
-sub-all-zero : tie.Need-sub-all-zero
-sub-all-zero c = after-records c
-
-part-all-zero-start : tie.Need-part-all-zero-start
-part-all-zero-start c = after-records c
-
-part-all-zero-end : tie.Need-part-all-zero-end
-part-all-zero-end c = search needs
-
-all-zero-requires : tie.Need-all-zero-requires
-all-zero-requires c κs = search needs
 
 returns-3 : tie.Need-returns-3
 returns-3 c =
@@ -130,15 +103,15 @@ valid-spec =
     returns
     sub-keys-rise
     part-keys-rise-start
-    part-keys-rise-end
-    width-requires
+    (λ c. search needs)
+    (λ c κs. search needs)
     keys-rise-requires
     returns-2
-    record-size-requires
-    mul-end
-    add-end
-    sub-all-zero
-    part-all-zero-start
-    part-all-zero-end
-    all-zero-requires
+    (λ c κs. search needs)
+    (λ c. omega (arith, after-records c))
+    (λ c. omega (arith, after-records c))
+    (λ c. after-records c)
+    (λ c. after-records c)
+    (λ c. search needs)
+    (λ c κs. search needs)
     returns-3)

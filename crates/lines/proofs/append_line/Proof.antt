@@ -5,39 +5,6 @@ use borrow.Author.Needs.{needs}
 use Rattle.lines.proofs.append_line.Statement.{statement}
 use Rattle.lines.proofs.append_line.Tie as tie
 
-cast-number : tie.Need-cast-number
-cast-number c = search needs
-
-cast-class : tie.Need-cast-class
-cast-class c = search needs
-
-cast-buckets : tie.Need-cast-buckets
-cast-buckets c = search needs
-
-cast-compared : tie.Need-cast-compared
-cast-compared c = search needs
-
-append-decimal-requires : tie.Need-append-decimal-requires
-append-decimal-requires c κs = search needs
-
-append-letter-requires : tie.Need-append-letter-requires
-append-letter-requires c κs = search needs
-
-append-decimal-requires-2 : tie.Need-append-decimal-requires-2
-append-decimal-requires-2 c κs = search needs
-
-append-decimal-requires-3 : tie.Need-append-decimal-requires-3
-append-decimal-requires-3 c κs = search needs
-
-append-decimal-requires-4 : tie.Need-append-decimal-requires-4
-append-decimal-requires-4 c κs = search needs
-
-append-decimal-requires-5 : tie.Need-append-decimal-requires-5
-append-decimal-requires-5 c κs = search needs
-
-same-length : tie.Need-same-length
-same-length c = search needs
-
 returns : tie.Need-returns
 returns c =
     let start = c .before .before .before .before .before .before .before .before .before .before .before .before .before .before .before .before .before .before .before .before .before .before .before .before .before .before .before .before .before in
@@ -57,15 +24,15 @@ pub append-line-spec : {M : Type 1} → statement M
 append-line-spec =
     tie.close
     (tie.spec
-    cast-number
-    cast-class
-    cast-buckets
-    cast-compared
-    append-decimal-requires
-    append-letter-requires
-    append-decimal-requires-2
-    append-decimal-requires-3
-    append-decimal-requires-4
-    append-decimal-requires-5
-    same-length
+    (λ c. search needs)
+    (λ c. search needs)
+    (λ c. search needs)
+    (λ c. search needs)
+    (λ c κs. search needs)
+    (λ c κs. search needs)
+    (λ c κs. search needs)
+    (λ c κs. search needs)
+    (λ c κs. search needs)
+    (λ c κs. search needs)
+    (λ c. search needs)
     returns)

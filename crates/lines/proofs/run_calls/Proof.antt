@@ -27,23 +27,8 @@ abbrev μ-loop : tie.MeasureT-loop
 μ-loop first input ledger₀ true-counts₀ clipped₀ buckets₀ side₀ work₀ to₀ length count i₀ number₀ from₀ at₀ ledger true-counts clipped buckets side work to i number from at =
     count - i
 
-add-count : tie.Need-add-count Inv-loop μ-loop
-add-count c = omega arith
-
 loop-holds : tie.Need-loop-holds Inv-loop μ-loop
 loop-holds c = (omega arith, omega arith, omega arith, omega arith, ran-start _ _ _ _ _ _, refl, refl, refl, refl, refl, refl, refl)
-
-call-end-requires : tie.Need-call-end-requires Inv-loop μ-loop
-call-end-requires c κs = omega arith
-
-sub-run-call : tie.Need-sub-run-call Inv-loop μ-loop
-sub-run-call c = omega arith
-
-part-run-call-start : tie.Need-part-run-call-start Inv-loop μ-loop
-part-run-call-start c = omega arith
-
-part-run-call-end : tie.Need-part-run-call-end Inv-loop μ-loop
-part-run-call-end c = omega arith
 
 run-call-requires : tie.Need-run-call-requires Inv-loop μ-loop
 unfolding call-count
@@ -51,18 +36,6 @@ run-call-requires c κs =
     let start = c .before .before .before .before .before .before .before .before .before .before .before .before .before .before .before .before .before .before .before in
     let loop = c .before .before .before .before .before .before .before .before .before .before .loop in
     omega (arith, start .pre .0, loop .inv .3, loop .inv .6)
-
-add-number : tie.Need-add-number Inv-loop μ-loop
-add-number c = omega arith
-
-add-from : tie.Need-add-from Inv-loop μ-loop
-add-from c = omega arith
-
-add-i : tie.Need-add-i Inv-loop μ-loop
-add-i c = omega arith
-
-loop-less : tie.Need-loop-less Inv-loop μ-loop
-loop-less c = omega arith
 
 loop-again : tie.Need-loop-again Inv-loop μ-loop
 loop-again c =
@@ -87,27 +60,6 @@ loop-again c =
       run-call .kept .1 .1 .1 .1 .1 .1 .0 ∙ loop .inv .11,
     )
 
-same-length : tie.Need-same-length Inv-loop μ-loop
-same-length c = search needs
-
-same-length-2 : tie.Need-same-length-2 Inv-loop μ-loop
-same-length-2 c = search needs
-
-same-length-3 : tie.Need-same-length-3 Inv-loop μ-loop
-same-length-3 c = search needs
-
-same-length-4 : tie.Need-same-length-4 Inv-loop μ-loop
-same-length-4 c = search needs
-
-same-length-5 : tie.Need-same-length-5 Inv-loop μ-loop
-same-length-5 c = search needs
-
-same-length-6 : tie.Need-same-length-6 Inv-loop μ-loop
-same-length-6 c = search needs
-
-same-length-7 : tie.Need-same-length-7 Inv-loop μ-loop
-same-length-7 c = search needs
-
 returns : tie.Need-returns Inv-loop μ-loop
 unfolding call-count
 returns c =
@@ -119,23 +71,23 @@ run-calls-spec =
     (tie.spec
     Inv-loop
     μ-loop
-    add-count
+    (λ c. omega arith)
     loop-holds
-    call-end-requires
-    sub-run-call
-    part-run-call-start
-    part-run-call-end
+    (λ c κs. omega arith)
+    (λ c. omega arith)
+    (λ c. omega arith)
+    (λ c. omega arith)
     run-call-requires
-    add-number
-    add-from
-    add-i
-    loop-less
+    (λ c. omega arith)
+    (λ c. omega arith)
+    (λ c. omega arith)
+    (λ c. omega arith)
     loop-again
-    same-length
-    same-length-2
-    same-length-3
-    same-length-4
-    same-length-5
-    same-length-6
-    same-length-7
+    (λ c. search needs)
+    (λ c. search needs)
+    (λ c. search needs)
+    (λ c. search needs)
+    (λ c. search needs)
+    (λ c. search needs)
+    (λ c. search needs)
     returns)

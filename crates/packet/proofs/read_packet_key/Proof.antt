@@ -10,9 +10,6 @@ returns c =
     let start = c .before .before .before in
     keyed-3 (start .args .packet .now) (start .args .buffer .now) (c .if1 .taken)
 
-refusal-requires : tie.Need-refusal-requires
-refusal-requires c κs = search needs
-
 returns-2 : tie.Need-returns-2
 returns-2 c =
     let start = c .before .before .before .before .before in
@@ -24,9 +21,6 @@ write-key-requires c κs =
     let none = sym (c .before .before .refusal .ensures) ∙ c .before .if2 .left in
     (unrefused-right (start .args .packet .now) none, c .before .before .before .if1 .left)
 
-same-length : tie.Need-same-length
-same-length c = search needs
-
 returns-3 : tie.Need-returns-3
 returns-3 c =
     let start = c .before .before .before .before .before .before .before .before .before in
@@ -36,4 +30,4 @@ returns-3 c =
 pub read-packet-key-spec : {M : Type 1} → statement M
 read-packet-key-spec =
     tie.close
-    (tie.spec returns refusal-requires returns-2 write-key-requires same-length returns-3)
+    (tie.spec returns (λ c κs. search needs) returns-2 write-key-requires (λ c. search needs) returns-3)

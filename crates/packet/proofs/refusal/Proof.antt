@@ -6,9 +6,6 @@ use borrow.Author.Needs.{needs}
 use Rattle.packet.proofs.refusal.Statement.{statement}
 use Rattle.packet.proofs.refusal.Tie as tie
 
-header-wrong-requires : tie.Need-header-wrong-requires
-header-wrong-requires c κs = search needs
-
 returns : tie.Need-returns
 unfolding refusal-of
 returns c = rw (sym (c .before .header-wrong .ensures) ∙ c .if1 .taken)
@@ -26,4 +23,4 @@ returns-3 c = rw (sym (c .before .before .before .header-wrong .ensures) ∙ c .
 
 pub refusal-spec : {M : Type 1} → statement M
 refusal-spec =
-    tie.close (tie.spec header-wrong-requires returns ports-cut-requires returns-2 returns-3)
+    tie.close (tie.spec (λ c κs. search needs) returns ports-cut-requires returns-2 returns-3)

@@ -6,15 +6,6 @@ use borrow.Author.Needs.{needs}
 use Rattle.packet.proofs.write_ports.Statement.{statement}
 use Rattle.packet.proofs.write_ports.Tie as tie
 
-has-ports-requires : tie.Need-has-ports-requires
-has-ports-requires c κs = search needs
-
-zero-fill-requires : tie.Need-zero-fill-requires
-zero-fill-requires c κs = search needs
-
-same-length : tie.Need-same-length
-same-length c = search needs
-
 returns : tie.Need-returns
 returns c =
     let start = c .before .before .before .before .before .before .before .before in
@@ -23,18 +14,6 @@ returns c =
     let zero-fill = c .before .before .zero-fill in
     rw (zero-fill .ensures, start .pre .1) (no-ports (start .args .packet .now) (sym (has-ports .ensures) ∙ not-true _ (if1 .taken)))
 
-header-length-requires : tie.Need-header-length-requires
-header-length-requires c κs = search needs
-
-sub-read-ports : tie.Need-sub-read-ports
-sub-read-ports c = search needs
-
-part-read-ports-start : tie.Need-part-read-ports-start
-part-read-ports-start c = search needs
-
-part-read-ports-end : tie.Need-part-read-ports-end
-part-read-ports-end c = search needs
-
 read-ports-requires : tie.Need-read-ports-requires
 read-ports-requires c κs =
     let start = c .before .before .before .before .before .before .before in
@@ -42,9 +21,6 @@ read-ports-requires c κs =
     let if1 = c .before .before .before .if1 in
     let header-length = c .before .before .header-length in
     (ports-fit (start .args .packet .now) (start .pre .0) (sym (has-ports .ensures) ∙ not-false _ (if1 .left)) (header-length .result) (header-length .ensures), start .pre .1)
-
-same-length-2 : tie.Need-same-length-2
-same-length-2 c = search needs
 
 returns-2 : tie.Need-returns-2
 returns-2 c =
@@ -60,14 +36,14 @@ pub write-ports-spec : {M : Type 1} → statement M
 write-ports-spec =
     tie.close
     (tie.spec
-    has-ports-requires
-    zero-fill-requires
-    same-length
+    (λ c κs. search needs)
+    (λ c κs. search needs)
+    (λ c. search needs)
     returns
-    header-length-requires
-    sub-read-ports
-    part-read-ports-start
-    part-read-ports-end
+    (λ c κs. search needs)
+    (λ c. search needs)
+    (λ c. search needs)
+    (λ c. search needs)
     read-ports-requires
-    same-length-2
+    (λ c. search needs)
     returns-2)

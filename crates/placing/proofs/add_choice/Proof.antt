@@ -6,26 +6,11 @@ use Rattle.placing.proofs.CountingLaws.{raise}
 use Rattle.placing.proofs.add_choice.Statement.{statement}
 use Rattle.placing.proofs.add_choice.Tie as tie
 
-returns : tie.Need-returns
-returns c = λ b. rw (c .if1 .taken, add-zero)
-
-mul-choosers : tie.Need-mul-choosers
-mul-choosers c = let h = c .before .pre .0 (c .if1 .left) in omega (arith, h)
-
-slice-read-choosers : tie.Need-slice-read-choosers
-slice-read-choosers c = c .before .before .pre .0 (c .before .if1 .left)
-
 add-choosers : tie.Need-add-choosers
 add-choosers c = omega (arith, c .before .before .pre .1 (c .before .before .args .choice .bucket))
 
 mul-choosers-2 : tie.Need-mul-choosers-2
 mul-choosers-2 c = let h = c .before .before .pre .0 (c .before .if1 .left) in omega (arith, h)
-
-slice-write-choosers : tie.Need-slice-write-choosers
-slice-write-choosers c = c .before .before .pre .0 (c .before .if1 .left)
-
-same-length : tie.Need-same-length
-same-length c = search needs
 
 returns-2 : tie.Need-returns-2
 returns-2 c =
@@ -36,11 +21,11 @@ pub add-choice-spec : {M : Type 1} → statement M
 add-choice-spec =
     tie.close
     (tie.spec
-    returns
-    mul-choosers
-    slice-read-choosers
+    (λ c. λ b. rw (c .if1 .taken, add-zero))
+    (λ c. let h = c .before .pre .0 (c .if1 .left) in omega (arith, h))
+    (λ c. c .before .before .pre .0 (c .before .if1 .left))
     add-choosers
     mul-choosers-2
-    slice-write-choosers
-    same-length
+    (λ c. c .before .before .pre .0 (c .before .if1 .left))
+    (λ c. search needs)
     returns-2)

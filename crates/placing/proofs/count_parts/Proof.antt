@@ -39,9 +39,6 @@ count-more-requires-3 c κs =
       ),
     )
 
-same-length : tie.Need-same-length
-same-length c = search needs
-
 returns : tie.Need-returns
 returns c =
     let args = c .before .before .before .before .before .before .before .before .before .before .before .before .before .before .before .before .before .args in
@@ -62,4 +59,4 @@ returns c =
 pub count-parts-spec : {M : Type 1} → statement M
 count-parts-spec =
     tie.close
-    (tie.spec count-more-requires count-more-requires-2 count-more-requires-3 same-length returns)
+    (tie.spec count-more-requires count-more-requires-2 count-more-requires-3 (λ c. search needs) returns)

@@ -16,21 +16,6 @@ Inv-loop c₀ i₀ c i = (i ≤ length c₀) × (c ≡ replicate i 0 ++ drop i c
 abbrev μ-loop : tie.MeasureT-loop
 μ-loop c₀ i₀ c i = length c₀ - i
 
-loop-holds : tie.Need-loop-holds Inv-loop μ-loop
-loop-holds c = search needs
-
-mul-c : tie.Need-mul-c Inv-loop μ-loop
-mul-c c = search needs
-
-slice-write-c : tie.Need-slice-write-c Inv-loop μ-loop
-slice-write-c c = search needs
-
-add-i : tie.Need-add-i Inv-loop μ-loop
-add-i c = search needs
-
-loop-less : tie.Need-loop-less Inv-loop μ-loop
-loop-less c = search needs
-
 loop-again : tie.Need-loop-again Inv-loop μ-loop
 loop-again c =
     let loop = c .before .loop in (
@@ -38,9 +23,6 @@ loop-again c =
       rw (loop .inv .1) (fill-more (loop .i) 0 (c .before .before .args .c .now) (omega arith)),
       simp length-set (loop .inv .2),
     )
-
-same-length : tie.Need-same-length Inv-loop μ-loop
-same-length c = search needs
 
 returns : tie.Need-returns Inv-loop μ-loop
 returns c =
@@ -53,11 +35,11 @@ zero-counts-spec =
     (tie.spec
     Inv-loop
     μ-loop
-    loop-holds
-    mul-c
-    slice-write-c
-    add-i
-    loop-less
+    (λ c. search needs)
+    (λ c. search needs)
+    (λ c. search needs)
+    (λ c. search needs)
+    (λ c. search needs)
     loop-again
-    same-length
+    (λ c. search needs)
     returns)

@@ -7,24 +7,6 @@ use Rattle.text.proofs.TextLaws.{append-lent}
 use Rattle.text.proofs.append_decimal.Statement.{statement}
 use Rattle.text.proofs.append_decimal.Tie as tie
 
-sub-write-decimal : tie.Need-sub-write-decimal
-sub-write-decimal c = search needs
-
-part-write-decimal-start : tie.Need-part-write-decimal-start
-part-write-decimal-start c = search needs
-
-part-write-decimal-end : tie.Need-part-write-decimal-end
-part-write-decimal-end c = search needs
-
-write-decimal-requires : tie.Need-write-decimal-requires
-write-decimal-requires c κs = search needs
-
-add-result : tie.Need-add-result
-add-result c = search needs
-
-same-length : tie.Need-same-length
-same-length c = search needs
-
 returns : tie.Need-returns
 returns c =
     let start = c .before .before .before .before .before in
@@ -38,10 +20,10 @@ pub append-decimal-spec : {M : Type 1} → statement M
 append-decimal-spec =
     tie.close
     (tie.spec
-    sub-write-decimal
-    part-write-decimal-start
-    part-write-decimal-end
-    write-decimal-requires
-    add-result
-    same-length
+    (λ c. search needs)
+    (λ c. search needs)
+    (λ c. search needs)
+    (λ c κs. search needs)
+    (λ c. search needs)
+    (λ c. search needs)
     returns)

@@ -6,24 +6,6 @@ use Rattle.text.proofs.TextLaws.{append-lent}
 use Rattle.text.proofs.append_letter.Statement.{statement}
 use Rattle.text.proofs.append_letter.Tie as tie
 
-sub-write-letter : tie.Need-sub-write-letter
-sub-write-letter c = search needs
-
-part-write-letter-start : tie.Need-part-write-letter-start
-part-write-letter-start c = search needs
-
-part-write-letter-end : tie.Need-part-write-letter-end
-part-write-letter-end c = search needs
-
-write-letter-requires : tie.Need-write-letter-requires
-write-letter-requires c κs = search needs
-
-add-result : tie.Need-add-result
-add-result c = search needs
-
-same-length : tie.Need-same-length
-same-length c = search needs
-
 returns : tie.Need-returns
 returns c =
     let start = c .before .before .before .before .before in
@@ -37,10 +19,10 @@ pub append-letter-spec : {M : Type 1} → statement M
 append-letter-spec =
     tie.close
     (tie.spec
-    sub-write-letter
-    part-write-letter-start
-    part-write-letter-end
-    write-letter-requires
-    add-result
-    same-length
+    (λ c. search needs)
+    (λ c. search needs)
+    (λ c. search needs)
+    (λ c κs. search needs)
+    (λ c. search needs)
+    (λ c. search needs)
     returns)

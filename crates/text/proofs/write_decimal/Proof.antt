@@ -6,9 +6,6 @@ use Rattle.text.proofs.TextLaws.{few-digits, front-length, decimal-insi
 use Rattle.text.proofs.write_decimal.Statement.{statement}
 use Rattle.text.proofs.write_decimal.Tie as tie
 
-decimal-requires : tie.Need-decimal-requires
-decimal-requires c κs = search needs
-
 slice-relend-prefix-copy : tie.Need-slice-relend-prefix-copy
 slice-relend-prefix-copy c =
     let start = c .before .before .before in
@@ -20,12 +17,6 @@ slice-aggregate-copy c =
     let start = c .before .before .before .before in
     let decimal = c .before .decimal in
     sym (front-length (start .args .n) (decimal .result) (decimal .last .1 .0) (start .fits .n .fits) (decimal .ensures) (start .args .to .now) (start .pre))
-
-array-share-prefix-digits : tie.Need-array-share-prefix-digits
-array-share-prefix-digits c = search needs
-
-slice-aggregate-copy-2 : tie.Need-slice-aggregate-copy-2
-slice-aggregate-copy-2 c = search needs
 
 copy-requires : tie.Need-copy-requires
 copy-requires c κs =
@@ -46,9 +37,6 @@ add-result c =
     let decimal = c .before .before .before .before .before .decimal in
     omega (arith, few-digits (start .args .n) (decimal .result) (decimal .last .1 .0) (start .fits .n .fits) (decimal .ensures))
 
-same-length : tie.Need-same-length
-same-length c = search needs
-
 returns : tie.Need-returns
 returns c =
     let start = c .before .before .before .before .before .before .before .before in
@@ -60,13 +48,13 @@ pub write-decimal-spec : {M : Type 1} → statement M
 write-decimal-spec =
     tie.close
     (tie.spec
-    decimal-requires
+    (λ c κs. search needs)
     slice-relend-prefix-copy
     slice-aggregate-copy
-    array-share-prefix-digits
-    slice-aggregate-copy-2
+    (λ c. search needs)
+    (λ c. search needs)
     copy-requires
     slice-write-to
     add-result
-    same-length
+    (λ c. search needs)
     returns)

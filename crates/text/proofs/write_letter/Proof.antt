@@ -6,17 +6,8 @@ use Rattle.text.proofs.TextLaws.{two-bytes}
 use Rattle.text.proofs.write_letter.Statement.{statement}
 use Rattle.text.proofs.write_letter.Tie as tie
 
-slice-write-to : tie.Need-slice-write-to
-slice-write-to c = search needs
-
-slice-write-to-2 : tie.Need-slice-write-to-2
-slice-write-to-2 c = search needs
-
-same-length : tie.Need-same-length
-same-length c = search needs
-
 returns : tie.Need-returns
 returns c = ((refl, two-bytes (c .args .to .now) (c .args .letter) (c .args .after) (c .pre)), omega arith)
 
 pub write-letter-spec : {M : Type 1} → statement M
-write-letter-spec = tie.close (tie.spec slice-write-to slice-write-to-2 same-length returns)
+write-letter-spec = tie.close (tie.spec (λ c. search needs) (λ c. search needs) (λ c. search needs) returns)

@@ -12,45 +12,27 @@ use borrow.Author.Needs.{needs}
 use Rattle.update.proofs.edit_ledger.Statement.{statement}
 use Rattle.update.proofs.edit_ledger.Tie as tie
 
-enum-told : tie.Need-enum-told
-enum-told c = search needs
-
 insert-record-requires : tie.Need-insert-record-requires
 insert-record-requires c κs =
     let start = c .before .before .before .before .before in
     let enum-told = c .before .enum-told in
     let f = subst (λ (e : Edit). Fits e (start .args .at) (length (ledger-records (card-of (paper (start .args .s))) (start .args .ledger .now)))) (enum-told .given .1) (start .pre .1) in let room = subst (λ (e : Edit). (length (ledger-records (card-of (paper (start .args .s))) (start .args .ledger .now))) + brings e ≤ card-of (paper (start .args .s)) .capacity + leaves-out e) (enum-told .given .1) (start .pre .2) in (start .pre .0, omega (arith, room), f, start .pre .3)
 
-enum-told-2 : tie.Need-enum-told-2
-enum-told-2 c = search needs
-
 replace-record-requires : tie.Need-replace-record-requires
 replace-record-requires c κs =
     let start = c .before .before .before .before .before in
     (start .pre .0, subst (λ (e : Edit). Fits e (start .args .at) (length (ledger-records (card-of (paper (start .args .s))) (start .args .ledger .now)))) (c .before .enum-told2 .given .1) (start .pre .1), start .pre .3)
-
-enum-told-3 : tie.Need-enum-told-3
-enum-told-3 c = search needs
 
 remove-record-requires : tie.Need-remove-record-requires
 remove-record-requires c κs =
     let start = c .before .before .before .before .before in
     (start .pre .0, subst (λ (e : Edit). Fits e (start .args .at) (length (ledger-records (card-of (paper (start .args .s))) (start .args .ledger .now)))) (c .before .enum-told3 .given .1) (start .pre .1))
 
-same-length : tie.Need-same-length
-same-length c = search needs
-
 returns : tie.Need-returns
 returns c = λ x e. rw (c .before .before .before .before .enum-told .given .1) (c .before .before .insert-record .ensures x e)
 
-same-length-2 : tie.Need-same-length-2
-same-length-2 c = search needs
-
 returns-2 : tie.Need-returns-2
 returns-2 c = λ x e. rw (c .before .before .before .before .enum-told2 .given .1) (c .before .before .replace-record .ensures x e)
-
-same-length-3 : tie.Need-same-length-3
-same-length-3 c = search needs
 
 returns-3 : tie.Need-returns-3
 returns-3 c = λ x e. rw (c .before .before .before .before .enum-told3 .given .1) (c .before .before .remove-record .ensures)
@@ -59,15 +41,15 @@ pub edit-ledger-spec : {M : Type 1} → statement M
 edit-ledger-spec =
     tie.close
     (tie.spec
-    enum-told
+    (λ c. search needs)
     insert-record-requires
-    enum-told-2
+    (λ c. search needs)
     replace-record-requires
-    enum-told-3
+    (λ c. search needs)
     remove-record-requires
-    same-length
+    (λ c. search needs)
     returns
-    same-length-2
+    (λ c. search needs)
     returns-2
-    same-length-3
+    (λ c. search needs)
     returns-3)

@@ -7,12 +7,6 @@ use borrow.Author.Needs.{needs}
 use Rattle.update.proofs.record_of.Statement.{statement}
 use Rattle.update.proofs.record_of.Tie as tie
 
-new-buffer-requires : tie.Need-new-buffer-requires
-new-buffer-requires c κs = search needs
-
-array-borrow-prefix-buffer : tie.Need-array-borrow-prefix-buffer
-array-borrow-prefix-buffer c = search needs
-
 slice-aggregate-write-record : tie.Need-slice-aggregate-write-record
 slice-aggregate-write-record c = sym (length-take-le (c .before .before .before .args .size) (c .before .new-buffer .result) (omega (arith, c .before .new-buffer .ensures, c .before .before .before .pre .1)))
 
@@ -35,8 +29,8 @@ pub record-of-spec : {M : Type 1} → statement M
 record-of-spec =
     tie.close
     (tie.spec
-    new-buffer-requires
-    array-borrow-prefix-buffer
+    (λ c κs. search needs)
+    (λ c. search needs)
     slice-aggregate-write-record
     write-record-requires
     returns)

@@ -8,36 +8,6 @@ use borrow.Author.Needs.{needs}
 use Rattle.writing.proofs.clear_areas.Statement.{statement}
 use Rattle.writing.proofs.clear_areas.Tie as tie
 
-zero-fill-requires : tie.Need-zero-fill-requires
-zero-fill-requires c κs = search needs
-
-zero-counts-requires : tie.Need-zero-counts-requires
-zero-counts-requires c κs = search needs
-
-zero-fill-requires-2 : tie.Need-zero-fill-requires-2
-zero-fill-requires-2 c κs = search needs
-
-zero-fill-requires-3 : tie.Need-zero-fill-requires-3
-zero-fill-requires-3 c κs = search needs
-
-zero-fill-requires-4 : tie.Need-zero-fill-requires-4
-zero-fill-requires-4 c κs = search needs
-
-same-length : tie.Need-same-length
-same-length c = search needs
-
-same-length-2 : tie.Need-same-length-2
-same-length-2 c = search needs
-
-same-length-3 : tie.Need-same-length-3
-same-length-3 c = search needs
-
-same-length-4 : tie.Need-same-length-4
-same-length-4 c = search needs
-
-same-length-5 : tie.Need-same-length-5
-same-length-5 c = search needs
-
 returns : tie.Need-returns
 returns c =
     let start = c .before .before .before .before .before .before .before .before .before .before .before .before .before .before .before .before .before .before .before .before .before .before .before .before .before in
@@ -53,14 +23,14 @@ pub clear-areas-spec : {M : Type 1} → statement M
 clear-areas-spec =
     tie.close
     (tie.spec
-    zero-fill-requires
-    zero-counts-requires
-    zero-fill-requires-2
-    zero-fill-requires-3
-    zero-fill-requires-4
-    same-length
-    same-length-2
-    same-length-3
-    same-length-4
-    same-length-5
+    (λ c κs. search needs)
+    (λ c κs. search needs)
+    (λ c κs. search needs)
+    (λ c κs. search needs)
+    (λ c κs. search needs)
+    (λ c. search needs)
+    (λ c. search needs)
+    (λ c. search needs)
+    (λ c. search needs)
+    (λ c. search needs)
     returns)

@@ -5,9 +5,6 @@ use borrow.Author.Needs.{needs}
 use Rattle.card.proofs.reading.flow_tally.Statement.{statement}
 use Rattle.card.proofs.reading.flow_tally.Tie as tie
 
-tally-requires : tie.Need-tally-requires
-tally-requires c κs = search needs
-
 returns : tie.Need-returns
 returns c =
     let start = c .before .before .before .before .before .before .before in
@@ -27,12 +24,6 @@ returns-3 c =
     let if1 = c .before .before .if1 in
     tallied-refused (record { p = start .args .p; k = start .args .k; room = start .args .room; top = start .args .top; capacity = start .args .capacity; side-places = start .args .side-places }) (start .args .ledger .now) (start .args .clipped .now) (start .args .buckets .now) (start .args .side .now) (start .args .totals .now) (totals-of (tally .result)) (tally .ensures) (if1 .left) (c .before .if2 .left) (c .if3 .taken)
 
-write-totals-requires : tie.Need-write-totals-requires
-write-totals-requires c κs = search needs
-
-same-length : tie.Need-same-length
-same-length c = search needs
-
 returns-4 : tie.Need-returns-4
 returns-4 c =
     let start = c .before .before .before .before .before .before .before .before .before .before .before .before .before in
@@ -47,10 +38,10 @@ pub flow-tally-spec : {M : Type 1} → statement M
 flow-tally-spec =
     tie.close
     (tie.spec
-    tally-requires
+    (λ c κs. search needs)
     returns
     returns-2
     returns-3
-    write-totals-requires
-    same-length
+    (λ c κs. search needs)
+    (λ c. search needs)
     returns-4)

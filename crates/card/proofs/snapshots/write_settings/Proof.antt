@@ -6,12 +6,6 @@ use borrow.Author.Needs.{needs}
 use Rattle.card.proofs.snapshots.write_settings.Statement.{statement}
 use Rattle.card.proofs.snapshots.write_settings.Tie as tie
 
-slice-write-to-5 : tie.Need-slice-write-to-5
-slice-write-to-5 c = simp length-set (omega arith)
-
-slice-write-to-6 : tie.Need-slice-write-to-6
-slice-write-to-6 c = simp length-set (omega arith)
-
 returns : tie.Need-returns
 returns c =
     let given = c .args .given in
@@ -25,7 +19,7 @@ write-settings-spec =
     (λ c. search needs)
     (λ c. search needs)
     (λ c. search needs)
-    slice-write-to-5
-    slice-write-to-6
+    (λ c. simp length-set (omega arith))
+    (λ c. simp length-set (omega arith))
     (λ c. search needs)
     returns)

@@ -16,18 +16,6 @@ Inv-loop part dirty₀ i₀ dirty i = (i ≤ length part) × ((dirty || any (λ 
 abbrev μ-loop : tie.MeasureT-loop
 μ-loop part dirty₀ i₀ dirty i = length part - i
 
-loop-holds : tie.Need-loop-holds Inv-loop μ-loop
-loop-holds c = (omega arith, refl)
-
-shared-slice-read-dirty : tie.Need-shared-slice-read-dirty Inv-loop μ-loop
-shared-slice-read-dirty c = omega arith
-
-add-i : tie.Need-add-i Inv-loop μ-loop
-add-i c = omega arith
-
-loop-less : tie.Need-loop-less Inv-loop μ-loop
-loop-less c = omega arith
-
 loop-again : tie.Need-loop-again Inv-loop μ-loop
 loop-again c = (
   omega arith,
@@ -45,9 +33,9 @@ all-zero-spec =
     (tie.spec
     Inv-loop
     μ-loop
-    loop-holds
-    shared-slice-read-dirty
-    add-i
-    loop-less
+    (λ c. (omega arith, refl))
+    (λ c. omega arith)
+    (λ c. omega arith)
+    (λ c. omega arith)
     loop-again
     returns)

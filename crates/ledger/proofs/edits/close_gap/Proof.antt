@@ -15,28 +15,10 @@ Inv-loop area₀ size from to last j₀ area j = (from ≤ j) × (j ≤ last) ×
 abbrev μ-loop : tie.MeasureT-loop
 μ-loop area₀ size from to last j₀ area j = last - j
 
-sub-last : tie.Need-sub-last Inv-loop μ-loop
-sub-last c = omega arith
-
 loop-holds : tie.Need-loop-holds Inv-loop μ-loop
 loop-holds c =
     let g = c .args in
     (omega arith, omega arith, refl, close-start (g .area .now) (g .size) (g .from))
-
-add-up : tie.Need-add-up Inv-loop μ-loop
-add-up c = omega arith
-
-slice-read-area : tie.Need-slice-read-area Inv-loop μ-loop
-slice-read-area c = omega arith
-
-slice-write-area : tie.Need-slice-write-area Inv-loop μ-loop
-slice-write-area c = omega arith
-
-add-j : tie.Need-add-j Inv-loop μ-loop
-add-j c = omega arith
-
-loop-less : tie.Need-loop-less Inv-loop μ-loop
-loop-less c = omega arith
 
 loop-again : tie.Need-loop-again Inv-loop μ-loop
 loop-again c =
@@ -48,9 +30,6 @@ loop-again c =
       close-more (args .area .now) (args .size) (args .from) (loop .j) (omega arith)
           (omega arith) (omega arith) (loop .area) (loop .inv .3),
     )
-
-same-length : tie.Need-same-length Inv-loop μ-loop
-same-length c = omega arith
 
 returns : tie.Need-returns Inv-loop μ-loop
 returns c =
@@ -65,13 +44,13 @@ close-gap-spec =
     (tie.spec
     Inv-loop
     μ-loop
-    sub-last
+    (λ c. omega arith)
     loop-holds
-    add-up
-    slice-read-area
-    slice-write-area
-    add-j
-    loop-less
+    (λ c. omega arith)
+    (λ c. omega arith)
+    (λ c. omega arith)
+    (λ c. omega arith)
+    (λ c. omega arith)
     loop-again
-    same-length
+    (λ c. omega arith)
     returns)

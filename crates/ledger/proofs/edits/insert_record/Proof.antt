@@ -33,43 +33,13 @@ count-at-requires c κs =
     let start = c .before .before .before in
     has-count (card-of (paper (start .args .s))) (start .args .ledger .now) (start .pre .0 .size)
 
-record-size-requires : tie.Need-record-size-requires
-record-size-requires c κs = search needs
-
-mul-place : tie.Need-mul-place
-mul-place c = omega (arith, room c)
-
-add-place : tie.Need-add-place
-add-place c = omega (arith, room c)
-
-mul-end : tie.Need-mul-end
-mul-end c = omega (arith, room c)
-
-add-end : tie.Need-add-end
-add-end c = omega (arith, room c)
-
-add-next : tie.Need-add-next
-add-next c = omega (arith, room c)
-
 open-gap-requires : tie.Need-open-gap-requires
 open-gap-requires c κs =
     let r = room (c .before) in
     (omega arith, r .1)
 
-sub-copy : tie.Need-sub-copy
-sub-copy c = search needs
-
-part-copy-start : tie.Need-part-copy-start
-part-copy-start c = search needs
-
 part-copy-end : tie.Need-part-copy-end
 part-copy-end c = omega (arith, room (c .before .before .before .before), c .before .before .open-gap .kept .0)
-
-copy-requires : tie.Need-copy-requires
-copy-requires c κs = search needs
-
-add-write-number : tie.Need-add-write-number
-add-write-number c = search needs
 
 write-number-requires : tie.Need-write-number-requires
 write-number-requires c κs =
@@ -90,9 +60,6 @@ write-number-requires c κs =
             (start .pre .0 .permitted) .capacity-small,
       ),
     )
-
-same-length : tie.Need-same-length
-same-length c = search needs
 
 returns : tie.Need-returns
 returns c =
@@ -116,18 +83,18 @@ insert-record-spec =
     tie.close
     (tie.spec
     count-at-requires
-    record-size-requires
-    mul-place
-    add-place
-    mul-end
-    add-end
-    add-next
+    (λ c κs. search needs)
+    (λ c. omega (arith, room c))
+    (λ c. omega (arith, room c))
+    (λ c. omega (arith, room c))
+    (λ c. omega (arith, room c))
+    (λ c. omega (arith, room c))
     open-gap-requires
-    sub-copy
-    part-copy-start
+    (λ c. search needs)
+    (λ c. search needs)
     part-copy-end
-    copy-requires
-    add-write-number
+    (λ c κs. search needs)
+    (λ c. search needs)
     write-number-requires
-    same-length
+    (λ c. search needs)
     returns)

@@ -20,21 +20,6 @@ loop-holds c =
     let g = c .args in
     (omega arith, omega arith, refl, open-start (g .area .now) (g .size) (g .to))
 
-sub-i : tie.Need-sub-i Inv-loop μ-loop
-sub-i c = omega arith
-
-add-up : tie.Need-add-up Inv-loop μ-loop
-add-up c = omega arith
-
-slice-read-area : tie.Need-slice-read-area Inv-loop μ-loop
-slice-read-area c = omega arith
-
-slice-write-area : tie.Need-slice-write-area Inv-loop μ-loop
-slice-write-area c = omega arith
-
-loop-less : tie.Need-loop-less Inv-loop μ-loop
-loop-less c = omega arith
-
 loop-again : tie.Need-loop-again Inv-loop μ-loop
 loop-again c =
     let loop = c .before .before .loop in
@@ -46,9 +31,6 @@ loop-again c =
           ∙ loop .inv .2,
       open-more (args .area .now) (args .size) (loop .area) (args .to) (loop .j - 1) (omega arith) (omega arith) (rw e (loop .inv .3)),
     )
-
-same-length : tie.Need-same-length Inv-loop μ-loop
-same-length c = omega arith
 
 returns : tie.Need-returns Inv-loop μ-loop
 returns c =
@@ -64,11 +46,11 @@ open-gap-spec =
     Inv-loop
     μ-loop
     loop-holds
-    sub-i
-    add-up
-    slice-read-area
-    slice-write-area
-    loop-less
+    (λ c. omega arith)
+    (λ c. omega arith)
+    (λ c. omega arith)
+    (λ c. omega arith)
+    (λ c. omega arith)
     loop-again
-    same-length
+    (λ c. omega arith)
     returns)

@@ -31,40 +31,13 @@ count-at-requires c κs =
     let start = c .before .before in
     has-count (card-of (paper (start .args .s))) (start .args .ledger .now) (start .pre .0 .size)
 
-record-size-requires : tie.Need-record-size-requires
-record-size-requires c κs = search needs
-
-mul-from : tie.Need-mul-from
-mul-from c = omega (arith, room c)
-
-add-from : tie.Need-add-from
-add-from c = omega (arith, room c)
-
-mul-to : tie.Need-mul-to
-mul-to c = omega (arith, room c)
-
-add-to : tie.Need-add-to
-add-to c = omega (arith, room c)
-
-sub-last : tie.Need-sub-last
-sub-last c = omega (arith, room c)
-
 close-gap-requires : tie.Need-close-gap-requires
 close-gap-requires c κs =
     let r = room (c .before) in
     (omega arith, r .1)
 
-sub-zero-fill : tie.Need-sub-zero-fill
-sub-zero-fill c = search needs
-
-part-zero-fill-start : tie.Need-part-zero-fill-start
-part-zero-fill-start c = search needs
-
 part-zero-fill-end : tie.Need-part-zero-fill-end
 part-zero-fill-end c = omega (arith, room (c .before .before .before .before), c .before .before .close-gap .kept .0)
-
-zero-fill-requires : tie.Need-zero-fill-requires
-zero-fill-requires c κs = search needs
 
 sub-write-number : tie.Need-sub-write-number
 sub-write-number c =
@@ -85,9 +58,6 @@ write-number-requires c κs =
           (omega (arith, room (c .before .before .before .before .before .before .before .before .before), close-gap .kept .0)),
       omega (arith, count-at .ensures .1),
     )
-
-same-length : tie.Need-same-length
-same-length c = search needs
 
 returns : tie.Need-returns
 returns c =
@@ -110,18 +80,18 @@ remove-record-spec =
     tie.close
     (tie.spec
     count-at-requires
-    record-size-requires
-    mul-from
-    add-from
-    mul-to
-    add-to
-    sub-last
+    (λ c κs. search needs)
+    (λ c. omega (arith, room c))
+    (λ c. omega (arith, room c))
+    (λ c. omega (arith, room c))
+    (λ c. omega (arith, room c))
+    (λ c. omega (arith, room c))
     close-gap-requires
-    sub-zero-fill
-    part-zero-fill-start
+    (λ c. search needs)
+    (λ c. search needs)
     part-zero-fill-end
-    zero-fill-requires
+    (λ c κs. search needs)
     sub-write-number
     write-number-requires
-    same-length
+    (λ c. search needs)
     returns)

@@ -12,9 +12,6 @@ use Rattle.ledger.proofs.EditLaws.{record-within, ends-within, replaced
 use Rattle.ledger.proofs.edits.replace_record.Statement.{statement}
 use Rattle.ledger.proofs.edits.replace_record.Tie as tie
 
-record-size-requires : tie.Need-record-size-requires
-record-size-requires c κs = search needs
-
 -- the record lies in the area
 room : (c : tie.After-record-size) → 2 + c .record-size .result * c .before .before .before .args .at + c .record-size .result ≤ length
     (c .before .before .before .args .ledger .now)
@@ -29,30 +26,6 @@ room c =
       ends-within card ledger (start .pre .0 .size) (start .pre .0 .rules) (c .record-size .result) (count-of ledger)
           (c .record-size .ensures) refl,
     )
-
-mul-start : tie.Need-mul-start
-mul-start c = omega (arith, room c)
-
-add-start : tie.Need-add-start
-add-start c = omega (arith, room c)
-
-add-stop : tie.Need-add-stop
-add-stop c = omega (arith, room c)
-
-sub-copy : tie.Need-sub-copy
-sub-copy c = search needs
-
-part-copy-start : tie.Need-part-copy-start
-part-copy-start c = search needs
-
-part-copy-end : tie.Need-part-copy-end
-part-copy-end c = room c
-
-copy-requires : tie.Need-copy-requires
-copy-requires c κs = search needs
-
-same-length : tie.Need-same-length
-same-length c = search needs
 
 returns : tie.Need-returns
 returns c =
@@ -69,13 +42,13 @@ pub replace-record-spec : {M : Type 1} → statement M
 replace-record-spec =
     tie.close
     (tie.spec
-    record-size-requires
-    mul-start
-    add-start
-    add-stop
-    sub-copy
-    part-copy-start
-    part-copy-end
-    copy-requires
-    same-length
+    (λ c κs. search needs)
+    (λ c. omega (arith, room c))
+    (λ c. omega (arith, room c))
+    (λ c. omega (arith, room c))
+    (λ c. search needs)
+    (λ c. search needs)
+    (λ c. room c)
+    (λ c κs. search needs)
+    (λ c. search needs)
     returns)

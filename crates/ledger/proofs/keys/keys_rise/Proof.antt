@@ -46,36 +46,6 @@ add-size c =
     let start = c .before .before in
     omega (arith, mul-le-mul-right {m = 1} {n = start .args .n} (start .args .width + 4) (omega arith))
 
-loop-holds : tie.Need-loop-holds Inv-loop μ-loop
-loop-holds c = (omega arith, omega arith, refl)
-
-add-next : tie.Need-add-next Inv-loop μ-loop
-add-next c = omega (arith, room c)
-
-add-end : tie.Need-add-end Inv-loop μ-loop
-add-end c = omega (arith, room c)
-
-add-stop : tie.Need-add-stop Inv-loop μ-loop
-add-stop c = omega (arith, room c)
-
-sub-below-key : tie.Need-sub-below-key Inv-loop μ-loop
-sub-below-key c = omega (arith, room c)
-
-part-below-key-start : tie.Need-part-below-key-start Inv-loop μ-loop
-part-below-key-start c = omega (arith, room c)
-
-part-below-key-end : tie.Need-part-below-key-end Inv-loop μ-loop
-part-below-key-end c = omega (arith, room c)
-
-sub-below-key-2 : tie.Need-sub-below-key-2 Inv-loop μ-loop
-sub-below-key-2 c = omega (arith, room (c .before))
-
-part-below-key-start-2 : tie.Need-part-below-key-start-2 Inv-loop μ-loop
-part-below-key-start-2 c = omega (arith, room (c .before))
-
-part-below-key-end-2 : tie.Need-part-below-key-end-2 Inv-loop μ-loop
-part-below-key-end-2 c = omega (arith, room (c .before))
-
 below-key-requires : tie.Need-below-key-requires Inv-loop μ-loop
 below-key-requires c κs =
     let start = c .before .before .before .before .before .before in
@@ -91,12 +61,6 @@ returns-2 c =
     let loop = c .before .before .before .before .before .loop in
     sym (sym (loop .inv .2) ∙ rising-next (start .args .width) (loop .left) (loop .at) (start .args .places .now) (omega arith)
     ∙ rw (sym (compared (c .before)) ∙ not-true (c .before .below-key .result) (c .if2 .taken)))
-
-sub-left : tie.Need-sub-left Inv-loop μ-loop
-sub-left c = omega arith
-
-loop-less : tie.Need-loop-less Inv-loop μ-loop
-loop-less c = omega arith
 
 loop-again : tie.Need-loop-again Inv-loop μ-loop
 loop-again c =
@@ -124,19 +88,19 @@ keys-rise-spec =
     μ-loop
     returns
     add-size
-    loop-holds
-    add-next
-    add-end
-    add-stop
-    sub-below-key
-    part-below-key-start
-    part-below-key-end
-    sub-below-key-2
-    part-below-key-start-2
-    part-below-key-end-2
+    (λ c. (omega arith, omega arith, refl))
+    (λ c. omega (arith, room c))
+    (λ c. omega (arith, room c))
+    (λ c. omega (arith, room c))
+    (λ c. omega (arith, room c))
+    (λ c. omega (arith, room c))
+    (λ c. omega (arith, room c))
+    (λ c. omega (arith, room (c .before)))
+    (λ c. omega (arith, room (c .before)))
+    (λ c. omega (arith, room (c .before)))
     below-key-requires
     returns-2
-    sub-left
-    loop-less
+    (λ c. omega arith)
+    (λ c. omega arith)
     loop-again
     returns-3)

@@ -46,34 +46,13 @@ room-low c =
     let loop = c .before .before .loop in
     place-room (loop .low) (start .args .n) (length (start .args .key .now) + 4) (length (start .args .places .now)) (low-below c) (start .pre .0)
 
-add-size : tie.Need-add-size Inv-loop μ-loop
-add-size c = omega arith
-
 loop-holds : tie.Need-loop-holds Inv-loop μ-loop
 loop-holds c =
     let start = c .before .before in
     halving-start (start .args .places .now) (start .args .n) (start .args .key .now)
 
-sub-middle : tie.Need-sub-middle Inv-loop μ-loop
-sub-middle c = omega (arith, c .before .loop .inv .order)
-
 add-middle : tie.Need-add-middle Inv-loop μ-loop
 add-middle c = omega (arith, c .before .loop .inv .order, c .before .loop .inv .within)
-
-mul-start : tie.Need-mul-start Inv-loop μ-loop
-mul-start c = omega (arith, room c)
-
-add-end : tie.Need-add-end Inv-loop μ-loop
-add-end c = omega (arith, room c)
-
-sub-below-key : tie.Need-sub-below-key Inv-loop μ-loop
-sub-below-key c = omega (arith, room c)
-
-part-below-key-start : tie.Need-part-below-key-start Inv-loop μ-loop
-part-below-key-start c = omega (arith, room c)
-
-part-below-key-end : tie.Need-part-below-key-end Inv-loop μ-loop
-part-below-key-end c = omega (arith, room c)
 
 below-key-requires : tie.Need-below-key-requires Inv-loop μ-loop
 below-key-requires c κs =
@@ -112,21 +91,6 @@ returns c =
     found-end (start .args .places .now) (start .args .n) (start .args .key .now) (start .pre .1) (loop .low) (loop .high) (loop .inv) (c .before .loop-test .left)
     (c .if2 .taken)
 
-mul-from : tie.Need-mul-from Inv-loop μ-loop
-mul-from c = omega (arith, room-low c)
-
-add-to : tie.Need-add-to Inv-loop μ-loop
-add-to c = omega (arith, room-low c)
-
-sub-same-key : tie.Need-sub-same-key Inv-loop μ-loop
-sub-same-key c = omega (arith, room-low c)
-
-part-same-key-start : tie.Need-part-same-key-start Inv-loop μ-loop
-part-same-key-start c = omega (arith, room-low c)
-
-part-same-key-end : tie.Need-part-same-key-end Inv-loop μ-loop
-part-same-key-end c = omega (arith, room-low c)
-
 same-key-requires : tie.Need-same-key-requires Inv-loop μ-loop
 same-key-requires c κs =
     let start = c .before .before .before .before .before .before in
@@ -149,15 +113,15 @@ find-spot-spec =
     (tie.spec
     Inv-loop
     μ-loop
-    add-size
+    (λ c. omega arith)
     loop-holds
-    sub-middle
+    (λ c. omega (arith, c .before .loop .inv .order))
     add-middle
-    mul-start
-    add-end
-    sub-below-key
-    part-below-key-start
-    part-below-key-end
+    (λ c. omega (arith, room c))
+    (λ c. omega (arith, room c))
+    (λ c. omega (arith, room c))
+    (λ c. omega (arith, room c))
+    (λ c. omega (arith, room c))
     below-key-requires
     add-low
     loop-less
@@ -165,10 +129,10 @@ find-spot-spec =
     loop-less-2
     loop-again-2
     returns
-    mul-from
-    add-to
-    sub-same-key
-    part-same-key-start
-    part-same-key-end
+    (λ c. omega (arith, room-low c))
+    (λ c. omega (arith, room-low c))
+    (λ c. omega (arith, room-low c))
+    (λ c. omega (arith, room-low c))
+    (λ c. omega (arith, room-low c))
     same-key-requires
     returns-2)

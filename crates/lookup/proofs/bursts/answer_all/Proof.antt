@@ -57,9 +57,6 @@ module _ (c : tie.After-unpacked Inv-loop μ-loop) where
       subst (ChoiceFits (paper (start hand .args .s))) (sym is-choice)
       (start hand .pre .2 (hand .before .loop .i) (omega (arith, hand .before .loop .inv .passed .long)))
 
-loop-holds : tie.Need-loop-holds Inv-loop μ-loop
-loop-holds c = record { passed = passed-none _ _; here = omega arith }
-
 search-chosen-requires : tie.Need-search-chosen-requires Inv-loop μ-loop
 search-chosen-requires c κs =
     let at = c .before in
@@ -95,7 +92,7 @@ answer-all-spec =
     Inv-loop
     μ-loop
     (λ c κs. search needs)
-    loop-holds
+    (λ c. record { passed = passed-none _ _; here = omega arith })
     (λ c. omega (arith, inside c))
     (λ c. omega arith)
     (λ c. omega arith)

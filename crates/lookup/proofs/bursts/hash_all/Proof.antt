@@ -43,9 +43,6 @@ module _ (c : tie.In-loop Inv-loop μ-loop) where
       key-within w width (c .before .loop .at) (c .before .loop .i) (measured .width .ensures) (c .before .loop .inv .here)
       (length (start .args .answers .now)) (start .args .keys .now) (start .pre .1) (omega (arith, c .before .loop .inv .passed .long))
 
-loop-holds : tie.Need-loop-holds Inv-loop μ-loop
-loop-holds c = record { passed = passed-none _ _; here = omega arith }
-
 h-lent-requires : tie.Need-h-lent-requires Inv-loop μ-loop
 h-lent-requires c κs =
     let at = c .before in
@@ -77,7 +74,7 @@ hash-all-spec =
     Inv-loop
     μ-loop
     (λ c κs. search needs)
-    loop-holds
+    (λ c. record { passed = passed-none _ _; here = omega arith })
     (λ c. omega (arith, inside c))
     (λ c. omega arith)
     (λ c. omega arith)

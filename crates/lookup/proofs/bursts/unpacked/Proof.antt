@@ -3,8 +3,5 @@ use borrow.Author.Needs.{needs}
 use Rattle.lookup.proofs.bursts.unpacked.Statement.{statement}
 use Rattle.lookup.proofs.bursts.unpacked.Tie as tie
 
-returns : tie.Need-returns
-returns c = rw (← c .of-rank .ensures)
-
 pub unpacked-spec : {M : Type 1} → statement M
-unpacked-spec = tie.close (tie.spec (λ c κs. search needs) returns)
+unpacked-spec = tie.close (tie.spec (λ c κs. search needs) (λ c. rw (← c .of-rank .ensures)))

@@ -9,15 +9,6 @@ use borrow.Author.Needs.{needs}
 use Rattle.lookup.proofs.judging.judge.Statement.{statement}
 use Rattle.lookup.proofs.judging.judge.Tie as tie
 
-new-requires : tie.Need-new-requires
-new-requires c κs = search needs
-
-enum-known-checked : tie.Need-enum-known-checked
-enum-known-checked c = search needs
-
-enum-told : tie.Need-enum-told
-enum-told c = search needs
-
 returns : tie.Need-returns
 returns c =
     let start = c .before .before .before .before .before .before .before in
@@ -41,4 +32,4 @@ returns-2 c =
 pub judge-spec : {M : Type 1} → statement M
 judge-spec =
     tie.close
-    (tie.spec new-requires enum-known-checked enum-told returns judge-areas-requires returns-2)
+    (tie.spec (λ c κs. search needs) (λ c. search needs) (λ c. search needs) returns judge-areas-requires returns-2)

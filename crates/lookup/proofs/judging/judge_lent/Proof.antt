@@ -8,23 +8,11 @@ use borrow.Author.Needs.{needs}
 use Rattle.lookup.proofs.judging.judge_lent.Statement.{statement}
 use Rattle.lookup.proofs.judging.judge_lent.Tie as tie
 
-new-requires : tie.Need-new-requires
-new-requires c κs = search needs
-
-enum-known-checked : tie.Need-enum-known-checked
-enum-known-checked c = search needs
-
-enum-told : tie.Need-enum-told
-enum-told c = search needs
-
 returns : tie.Need-returns
 returns c =
     let start = c .before .before .before .before .before .before .before .before in
     let new = c .before .before .new in
     lent-1 (start .args .table .now) (given-of (start .args .given)) (start .args .clipped .now) (start .args .buckets .now) (start .args .side .now) (start .args .key .now) (refused-arm (given-of (start .args .given)) (new .result) (new .ensures) (c .enum-told .given .1))
-
-width-requires : tie.Need-width-requires
-width-requires c κs = search needs
 
 mul-if1 : tie.Need-mul-if1
 mul-if1 c = omega (arith, c .width .ensures, width-most (paper (c .before .before .checked .given .0 .0)))
@@ -56,11 +44,11 @@ pub judge-lent-spec : {M : Type 1} → statement M
 judge-lent-spec =
     tie.close
     (tie.spec
-    new-requires
-    enum-known-checked
-    enum-told
+    (λ c κs. search needs)
+    (λ c. search needs)
+    (λ c. search needs)
     returns
-    width-requires
+    (λ c κs. search needs)
     mul-if1
     returns-2
     judge-areas-requires

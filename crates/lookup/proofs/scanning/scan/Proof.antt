@@ -24,9 +24,6 @@ add-end c =
     let loop = c .before .loop in
     omega (arith, (room-next (loop .at) (loop .left) (length (start .args .key .now) + 4) (length (start .args .place .now)) (loop .inv .room) (omega arith)))
 
-sub-same-key : tie.Need-sub-same-key Inv-loop μ-loop
-sub-same-key c = omega arith
-
 part-same-key-start : tie.Need-part-same-key-start Inv-loop μ-loop
 part-same-key-start c =
     let start = c .before .before .before .before in
@@ -55,9 +52,6 @@ returns c =
     scanning-hit (start .args .key .now) (length (start .args .key .now)) (start .args .n) (start .args .place .now) (loop .left) (loop .compared) (loop .at) (loop .inv) (omega arith)
     (rw (add-sub-cancel-left (loop .at) (length (start .args .key .now))) at (sym (c .before .same-key .ensures) ∙ c .if1 .taken))
 
-sub-left : tie.Need-sub-left Inv-loop μ-loop
-sub-left c = omega arith
-
 add-compared : tie.Need-add-compared Inv-loop μ-loop
 add-compared c = omega (arith, c .before .before .before .before .loop .inv .count)
 
@@ -66,9 +60,6 @@ add-at c =
     let start = c .before .before .before .before .before .before .before in
     let loop = c .before .before .before .before .loop in
     omega (arith, (room-next (loop .at) (loop .left) (length (start .args .key .now) + 4) (length (start .args .place .now)) (loop .inv .room) (omega arith)))
-
-loop-less : tie.Need-loop-less Inv-loop μ-loop
-loop-less c = omega arith
 
 loop-again : tie.Need-loop-again Inv-loop μ-loop
 loop-again c =
@@ -92,15 +83,15 @@ scan-spec =
     μ-loop
     loop-holds
     add-end
-    sub-same-key
+    (λ c. omega arith)
     part-same-key-start
     part-same-key-end
     same-key-requires
     add-t15
     returns
-    sub-left
+    (λ c. omega arith)
     add-compared
     add-at
-    loop-less
+    (λ c. omega arith)
     loop-again
     returns-2)

@@ -14,17 +14,8 @@ Inv-loop place n room key width size left₀ at₀ first₀ left at first = Firs
 abbrev μ-loop : tie.MeasureT-loop
 μ-loop place n room key width size left₀ at₀ first₀ left at first = left
 
-add-size : tie.Need-add-size Inv-loop μ-loop
-add-size c = omega (arith, c .before .before .pre .2)
-
-mul-at : tie.Need-mul-at Inv-loop μ-loop
-mul-at c = omega (arith, c .before .before .pre .0)
-
 loop-holds : tie.Need-loop-holds Inv-loop μ-loop
 loop-holds c = (first-start (c .before .before .args .key .now) (length (c .before .before .args .key .now)) (c .before .before .args .n) (c .before .before .args .place .now) (c .before .before .args .room) (c .before .before .pre .3), refl, omega arith)
-
-sub-left : tie.Need-sub-left Inv-loop μ-loop
-sub-left c = omega (arith, c .loop-test .taken)
 
 sub-at : tie.Need-sub-at Inv-loop μ-loop
 sub-at c = omega (arith, c .before .loop .inv .1, one-back (c .before .loop .left) (length (c .before .before .before .before .args .key .now) + 4) (c .loop-test .taken))
@@ -44,12 +35,6 @@ part-same-words-end c = omega (arith, c .before .loop .inv .1, one-back (c .befo
 same-words-requires : tie.Need-same-words-requires Inv-loop μ-loop
 same-words-requires c κs = (sym (length-part (c .before .before .before .before .before .args .place .now) (c .before .before .loop .at - (length (c .before .before .before .before .before .args .key .now) + 4)) (length (c .before .before .before .before .before .args .key .now)) (omega (arith, c .before .before .loop .inv .1, one-back (c .before .before .loop .left) (length (c .before .before .before .before .before .args .key .now) + 4) (c .before .loop-test .taken), place-inside (c .before .before .loop .left) (c .before .before .before .before .before .args .room) (length (c .before .before .before .before .before .args .key .now) + 4) (length (c .before .before .before .before .before .args .place .now)) (c .before .loop-test .taken) (c .before .before .loop .inv .2) (c .before .before .before .before .before .pre .0)))), c .before .before .before .before .before .pre .1)
 
-pick-requires : tie.Need-pick-requires Inv-loop μ-loop
-pick-requires c κs = tt
-
-loop-less : tie.Need-loop-less Inv-loop μ-loop
-loop-less c = omega (arith, c .before .before .before .loop-test .taken)
-
 loop-again : tie.Need-loop-again Inv-loop μ-loop
 loop-again c = (
   rw (c .pick .ensures)
@@ -58,9 +43,6 @@ loop-again c = (
   omega (arith, c .before .before .before .before .loop .inv .2),
 )
 
-pick-requires-2 : tie.Need-pick-requires-2 Inv-loop μ-loop
-pick-requires-2 c κs = tt
-
 mul-t18 : tie.Need-mul-t18 Inv-loop μ-loop
 mul-t18 c =
     let m = first-offset (c .before .before .before .before .before .args .key .now) (length (c .before .before .before .before .before .args .key .now)) (c .before .before .before .before .before .args .n) (c .before .before .before .before .before .args .place .now) (c .before .before .before .before .before .args .room) (c .before .before .loop .first) (c .before .before .before .before .before .pre .3) (c .before .before .before .before .before .pre .4) (c .before .before .before .before .before .pre .0) in
@@ -68,9 +50,6 @@ mul-t18 c =
 
 add-pick : tie.Need-add-pick Inv-loop μ-loop
 add-pick c = omega (arith, c .before .before .loop .inv .0 .high, c .before .before .before .before .before .pre .5)
-
-pick-requires-3 : tie.Need-pick-requires-3 Inv-loop μ-loop
-pick-requires-3 c κs = tt
 
 returns : tie.Need-returns Inv-loop μ-loop
 returns c =
@@ -87,21 +66,21 @@ scan-all-spec =
     (tie.spec
     Inv-loop
     μ-loop
-    add-size
-    mul-at
+    (λ c. omega (arith, c .before .before .pre .2))
+    (λ c. omega (arith, c .before .before .pre .0))
     loop-holds
-    sub-left
+    (λ c. omega (arith, c .loop-test .taken))
     sub-at
     add-end
     sub-same-words
     part-same-words-start
     part-same-words-end
     same-words-requires
-    pick-requires
-    loop-less
+    (λ c κs. tt)
+    (λ c. omega (arith, c .before .before .before .loop-test .taken))
     loop-again
-    pick-requires-2
+    (λ c κs. tt)
     mul-t18
     add-pick
-    pick-requires-3
+    (λ c κs. tt)
     returns)

@@ -7,12 +7,6 @@ use borrow.Author.Needs.{needs}
 use Rattle.lookup.proofs.searching.compare.Statement.{statement}
 use Rattle.lookup.proofs.searching.compare.Tie as tie
 
-scan-requires : tie.Need-scan-requires
-scan-requires c κs = search needs
-
-cast-compared : tie.Need-cast-compared
-cast-compared c = search needs
-
 add-at : tie.Need-add-at
 add-at c = omega (arith, c .before .before .before .scan .ensures .room (c .before .if1 .taken))
 
@@ -32,4 +26,4 @@ returns-2 c = let e = c .before .before .scan .ensures in rw (e .finds, e .compa
 
 pub compare-spec : {M : Type 1} → statement M
 compare-spec =
-    tie.close (tie.spec scan-requires cast-compared add-at class-at-requires returns returns-2)
+    tie.close (tie.spec (λ c κs. search needs) (λ c. search needs) add-at class-at-requires returns returns-2)

@@ -7,24 +7,6 @@ use borrow.Author.Needs.{needs}
 use Rattle.lookup.proofs.searching.compare_all.Statement.{statement}
 use Rattle.lookup.proofs.searching.compare_all.Tie as tie
 
-scan-all-requires : tie.Need-scan-all-requires
-scan-all-requires c κs = search needs
-
-add-at : tie.Need-add-at
-add-at c = search needs
-
-class-at-requires : tie.Need-class-at-requires
-class-at-requires c κs = search needs
-
-pick-requires : tie.Need-pick-requires
-pick-requires c κs = search needs
-
-pick-requires-2 : tie.Need-pick-requires-2
-pick-requires-2 c κs = search needs
-
-cast-t12 : tie.Need-cast-t12
-cast-t12 c = search needs
-
 returns : tie.Need-returns
 returns c =
     let e = c .before .before .before .before .before .scan-all .ensures .0 in
@@ -37,10 +19,10 @@ pub compare-all-spec : {M : Type 1} → statement M
 compare-all-spec =
     tie.close
     (tie.spec
-    scan-all-requires
-    add-at
-    class-at-requires
-    pick-requires
-    pick-requires-2
-    cast-t12
+    (λ c κs. search needs)
+    (λ c. search needs)
+    (λ c κs. search needs)
+    (λ c κs. search needs)
+    (λ c κs. search needs)
+    (λ c. search needs)
     returns)

@@ -14,26 +14,8 @@ use borrow.Author.Needs.{needs}
 use Rattle.lookup.proofs.searching.compare_bucket.Statement.{statement}
 use Rattle.lookup.proofs.searching.compare_bucket.Tie as tie
 
-bucket-size-requires : tie.Need-bucket-size-requires
-bucket-size-requires c κs = search needs
-
 sub-end : tie.Need-sub-end
 sub-end c = let b = bounds (paper (c .before .before .before .args .s)) (c .before .before .before .pre .0) in omega (arith, c .bucket-size .ensures)
-
-add-end : tie.Need-add-end
-add-end c = search needs
-
-width-requires : tie.Need-width-requires
-width-requires c κs = search needs
-
-sub-compare-all : tie.Need-sub-compare-all
-sub-compare-all c = search needs
-
-part-compare-all-start : tie.Need-part-compare-all-start
-part-compare-all-start c = search needs
-
-part-compare-all-end : tie.Need-part-compare-all-end
-part-compare-all-end c = search needs
 
 slice-aggregate-compare-all : tie.Need-slice-aggregate-compare-all
 slice-aggregate-compare-all c =
@@ -63,13 +45,13 @@ pub compare-bucket-spec : {M : Type 1} → statement M
 compare-bucket-spec =
     tie.close
     (tie.spec
-    bucket-size-requires
+    (λ c κs. search needs)
     sub-end
-    add-end
-    width-requires
-    sub-compare-all
-    part-compare-all-start
-    part-compare-all-end
+    (λ c. search needs)
+    (λ c κs. search needs)
+    (λ c. search needs)
+    (λ c. search needs)
+    (λ c. search needs)
     slice-aggregate-compare-all
     compare-all-requires
     returns)

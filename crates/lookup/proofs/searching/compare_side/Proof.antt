@@ -16,9 +16,6 @@ sub-compare c = let b = bounds (paper (c .before .before .args .s)) (c .before .
 part-compare-start : tie.Need-part-compare-start
 part-compare-start c = let b = bounds (paper (c .before .before .args .s)) (c .before .before .pre .0) in omega (arith, c .before .before .pre .1)
 
-part-compare-end : tie.Need-part-compare-end
-part-compare-end c = search needs
-
 compare-requires : tie.Need-compare-requires
 compare-requires c κs =
     let start = c .before .before .before in
@@ -34,4 +31,4 @@ returns c = rw (c .compare .ensures, c .before .before .before .before .pre .2, 
 
 pub compare-side-spec : {M : Type 1} → statement M
 compare-side-spec =
-    tie.close (tie.spec sub-compare part-compare-start part-compare-end compare-requires returns)
+    tie.close (tie.spec sub-compare part-compare-start (λ c. search needs) compare-requires returns)

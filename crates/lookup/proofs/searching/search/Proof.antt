@@ -11,18 +11,6 @@ use borrow.Author.Needs.{needs}
 use Rattle.lookup.proofs.searching.search.Statement.{statement}
 use Rattle.lookup.proofs.searching.search.Tie as tie
 
-judge-requires : tie.Need-judge-requires
-judge-requires c κs = search needs
-
-enum-known-judged : tie.Need-enum-known-judged
-enum-known-judged c = search needs
-
-bare-requires : tie.Need-bare-requires
-bare-requires c κs = search needs
-
-enum-known-judged-2 : tie.Need-enum-known-judged-2
-enum-known-judged-2 c = search needs
-
 h-rows-requires : tie.Need-h-rows-requires
 h-rows-requires c κs =
     let start = c .before .before .before .before .before .before .before .before in
@@ -60,10 +48,10 @@ pub search-spec : {M : Type 1} → statement M
 search-spec =
     tie.close
     (tie.spec
-    judge-requires
-    enum-known-judged
-    bare-requires
-    enum-known-judged-2
+    (λ c κs. search needs)
+    (λ c. search needs)
+    (λ c κs. search needs)
+    (λ c. search needs)
     h-rows-requires
     search-at-requires
     returns

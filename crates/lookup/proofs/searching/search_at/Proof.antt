@@ -10,32 +10,11 @@ use borrow.Author.Needs.{needs}
 use Rattle.lookup.proofs.searching.search_at.Statement.{statement}
 use Rattle.lookup.proofs.searching.search_at.Tie as tie
 
-find-place-requires : tie.Need-find-place-requires
-find-place-requires c κs = search needs
-
-enum-told : tie.Need-enum-told
-enum-told c = search needs
-
-bare-requires : tie.Need-bare-requires
-bare-requires c κs = search needs
-
-enum-told-2 : tie.Need-enum-told-2
-enum-told-2 c = search needs
-
-bare-requires-2 : tie.Need-bare-requires-2
-bare-requires-2 c κs = search needs
-
-enum-known-place : tie.Need-enum-known-place
-enum-known-place c = search needs
-
 compare-bucket-requires : tie.Need-compare-bucket-requires
 compare-bucket-requires c κs =
     let start = c .before .before .before .before .before .before .before .before in
     let find-place = c .before .before .before .find-place in
     let i = subst (Inside (paper (start .args .s))) (c .before .place .given .1) (find-place .ensures .1) in (start .pre .0 .ok, start .pre .0 .buckets-size, start .pre .1, omega (arith, i .0, start .pre .0 .buckets-size), i .1)
-
-enum-known-place-2 : tie.Need-enum-known-place-2
-enum-known-place-2 c = search needs
 
 compare-side-requires : tie.Need-compare-side-requires
 compare-side-requires c κs =
@@ -79,14 +58,14 @@ pub search-at-spec : {M : Type 1} → statement M
 search-at-spec =
     tie.close
     (tie.spec
-    find-place-requires
-    enum-told
-    bare-requires
-    enum-told-2
-    bare-requires-2
-    enum-known-place
+    (λ c κs. search needs)
+    (λ c. search needs)
+    (λ c κs. search needs)
+    (λ c. search needs)
+    (λ c κs. search needs)
+    (λ c. search needs)
     compare-bucket-requires
-    enum-known-place-2
+    (λ c. search needs)
     compare-side-requires
     returns
     returns-2

@@ -7,22 +7,13 @@ use borrow.Author.Needs.{needs}
 use Rattle.lookup.proofs.tallying.count_all.Statement.{statement}
 use Rattle.lookup.proofs.tallying.count_all.Tie as tie
 
-sum-marks-requires : tie.Need-sum-marks-requires
-sum-marks-requires c κs = search needs
-
 count-at-requires : tie.Need-count-at-requires
 count-at-requires c κs = let b = bounds (paper (c .before .before .before .before .args .s)) (c .before .before .before .before .pre .0) in omega (arith, c .before .before .before .before .pre .3)
-
-cast-t7 : tie.Need-cast-t7
-cast-t7 c = search needs
 
 count-at-requires-2 : tie.Need-count-at-requires-2
 count-at-requires-2 c κs =
     let start = c .before .before .before .before .before in
     let b = bounds (paper (start .args .s)) (start .pre .0) in omega (arith, start .pre .1)
-
-buckets-requires : tie.Need-buckets-requires
-buckets-requires c κs = search needs
 
 fill-requires : tie.Need-fill-requires
 fill-requires c κs =
@@ -41,10 +32,10 @@ pub count-all-spec : {M : Type 1} → statement M
 count-all-spec =
     tie.close
     (tie.spec
-    sum-marks-requires
+    (λ c κs. search needs)
     count-at-requires
-    cast-t7
+    (λ c. search needs)
     count-at-requires-2
-    buckets-requires
+    (λ c κs. search needs)
     fill-requires
     returns)

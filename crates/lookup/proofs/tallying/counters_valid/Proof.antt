@@ -18,9 +18,6 @@ Inv-loop clipped m top b₀ b = (b ≤ m) × (any (λ x. ltb top x) (map (counte
 abbrev μ-loop : tie.MeasureT-loop
 μ-loop clipped m top b₀ b = m - b
 
-buckets-requires : tie.Need-buckets-requires Inv-loop μ-loop
-buckets-requires c κs = c .before .pre .0
-
 loop-holds : tie.Need-loop-holds Inv-loop μ-loop
 loop-holds c = (omega arith, ap (λ (l : List ℕ). any (λ x. ltb (c .before .before .args .s .top) x) (map (counter (c .before .before .args .clipped .now)) l)) (rest-all (c .buckets .result)))
 
@@ -30,9 +27,6 @@ counter-requires c κs =
     let buckets = c .before .before .buckets in
     counter-in (paper (start .args .s)) (start .pre .0) (start .args .clipped .now) (c .before .loop .b) (buckets .result) (c .loop-test .taken) (buckets .ensures) (start .pre .1)
 
-above-requires : tie.Need-above-requires Inv-loop μ-loop
-above-requires c κs = search needs
-
 returns : tie.Need-returns Inv-loop μ-loop
 returns c =
     let start = c .before .before .before .before .before .before .before in
@@ -41,12 +35,6 @@ returns c =
     let loop-test = c .before .before .before .loop-test in
     let e = any-here (counter (start .args .clipped .now)) (λ x. ltb (start .args .s .top) x) (loop .b) (buckets .result) (loop-test .taken) (rw (← c .before .before .counter .ensures .0) (sym (c .before .above .ensures) ∙ c .if1 .taken)) (loop .inv .1) in
     rw (← buckets .ensures, ← any-map (λ x. ltb (start .args .s .top) x) (counter (start .args .clipped .now)) (upto 0 (buckets .result)), e)
-
-add-b : tie.Need-add-b Inv-loop μ-loop
-add-b c = omega arith
-
-loop-less : tie.Need-loop-less Inv-loop μ-loop
-loop-less c = omega arith
 
 loop-again : tie.Need-loop-again Inv-loop μ-loop
 loop-again c =
@@ -70,12 +58,12 @@ counters-valid-spec =
     (tie.spec
     Inv-loop
     μ-loop
-    buckets-requires
+    (λ c κs. c .before .pre .0)
     loop-holds
     counter-requires
-    above-requires
+    (λ c κs. search needs)
     returns
-    add-b
-    loop-less
+    (λ c. omega arith)
+    (λ c. omega arith)
     loop-again
     returns-2)

@@ -15,17 +15,11 @@ use borrow.Author.Needs.{needs}
 use Rattle.lookup.proofs.tallying.lookup_valid.Statement.{statement}
 use Rattle.lookup.proofs.tallying.lookup_valid.Tie as tie
 
-counters-valid-requires : tie.Need-counters-valid-requires
-counters-valid-requires c κs = search needs
-
 returns : tie.Need-returns
 returns c =
     let start = c .before .before .before .before .before in
     let counters-valid = c .before .counters-valid in
     λ ledger. let v = negated-false (counters-valid .result) (any (λ b. ltb (start .args .s .top) (counter (start .args .clipped .now) b)) (upto 0 (card-of (paper (start .args .s)) .buckets))) (counters-valid .ensures) (not-true _ (c .if1 .taken)) in rw (invalid-is (paper (start .args .s)) ledger (start .args .clipped .now) (start .args .buckets .now) (start .args .side .now), v)
-
-marks-valid-requires : tie.Need-marks-valid-requires
-marks-valid-requires c κs = search needs
 
 returns-2 : tie.Need-returns-2
 returns-2 c =
@@ -54,9 +48,9 @@ pub lookup-valid-spec : {M : Type 1} → statement M
 lookup-valid-spec =
     tie.close
     (tie.spec
-    counters-valid-requires
+    (λ c κs. search needs)
     returns
-    marks-valid-requires
+    (λ c κs. search needs)
     returns-2
     count-at-requires
     returns-3)

@@ -18,12 +18,6 @@ Inv-loop buckets m size room b₀ at₀ b at = (b ≤ m) × (at ≡ b * size) ×
 abbrev μ-loop : tie.MeasureT-loop
 μ-loop buckets m size room b₀ at₀ b at = m - b
 
-buckets-requires : tie.Need-buckets-requires Inv-loop μ-loop
-buckets-requires c κs = c .before .pre .0
-
-bucket-size-requires : tie.Need-bucket-size-requires Inv-loop μ-loop
-bucket-size-requires c κs = c .before .before .pre .0
-
 loop-holds : tie.Need-loop-holds Inv-loop μ-loop
 loop-holds c =
     let start = c .before .before .before in
@@ -59,12 +53,6 @@ add-at c =
     let loop-test = c .before .before .loop-test in
     omega (arith, (mark-there (paper (start .args .s)) (start .pre .0) (start .args .buckets .now) (loop .b) (buckets .result) (bucket-size .result) (loop-test .taken) (buckets .ensures) (bucket-size .ensures) (start .pre .1)), loop .inv .1)
 
-add-b : tie.Need-add-b Inv-loop μ-loop
-add-b c = omega arith
-
-loop-less : tie.Need-loop-less Inv-loop μ-loop
-loop-less c = omega arith
-
 loop-again : tie.Need-loop-again Inv-loop μ-loop
 loop-again c =
     let start = c .before .before .before .before .before .before .before in
@@ -89,14 +77,14 @@ marks-valid-spec =
     (tie.spec
     Inv-loop
     μ-loop
-    buckets-requires
-    bucket-size-requires
+    (λ c κs. c .before .pre .0)
+    (λ c κs. c .before .before .pre .0)
     loop-holds
     shared-slice-read-mark
     cast-mark
     returns
     add-at
-    add-b
-    loop-less
+    (λ c. omega arith)
+    (λ c. omega arith)
     loop-again
     returns-2)

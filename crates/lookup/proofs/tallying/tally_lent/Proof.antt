@@ -9,24 +9,12 @@ use borrow.Author.Needs.{needs}
 use Rattle.lookup.proofs.tallying.tally_lent.Statement.{statement}
 use Rattle.lookup.proofs.tallying.tally_lent.Tie as tie
 
-valid-requires : tie.Need-valid-requires
-valid-requires c κs = search needs
-
-no-totals-requires : tie.Need-no-totals-requires
-no-totals-requires c κs = search needs
-
 returns : tie.Need-returns
 unfolding tally-areas
 returns c =
     let start = c .before .before .before .before .before .before .before in
     let valid = c .before .before .valid in
     let v = negated-false (valid .result) (ledger-invalid (card-of (paper (start .args .s))) (start .args .ledger .now)) (valid .ensures) (not-true _ (c .before .if1 .taken)) in rw (c .no-totals .ensures, v)
-
-lookup-valid-requires : tie.Need-lookup-valid-requires
-lookup-valid-requires c κs = search needs
-
-no-totals-requires-2 : tie.Need-no-totals-requires-2
-no-totals-requires-2 c κs = search needs
 
 returns-2 : tie.Need-returns-2
 unfolding tally-areas
@@ -36,9 +24,6 @@ returns-2 c =
     let if1 = c .before .before .before .if1 in
     let lookup-valid = c .before .before .lookup-valid in
     let u = negated-true (valid .result) (ledger-invalid (card-of (paper (start .args .s))) (start .args .ledger .now)) (valid .ensures) (not-false _ (if1 .left)) in let v = negated-false (lookup-valid .result) (lookup-invalid (card-of (paper (start .args .s))) (read-areas (start .args .ledger .now) (start .args .clipped .now) (start .args .buckets .now) (start .args .side .now))) (lookup-valid .ensures (start .args .ledger .now)) (not-true _ (c .before .if2 .taken)) in rw (c .no-totals2 .ensures, u, v)
-
-count-all-requires : tie.Need-count-all-requires
-count-all-requires c κs = search needs
 
 returns-3 : tie.Need-returns-3
 unfolding tally-areas
@@ -53,11 +38,11 @@ pub tally-lent-spec : {M : Type 1} → statement M
 tally-lent-spec =
     tie.close
     (tie.spec
-    valid-requires
-    no-totals-requires
+    (λ c κs. search needs)
+    (λ c κs. search needs)
     returns
-    lookup-valid-requires
-    no-totals-requires-2
+    (λ c κs. search needs)
+    (λ c κs. search needs)
     returns-2
-    count-all-requires
+    (λ c κs. search needs)
     returns-3)

@@ -6,17 +6,11 @@ use borrow.Author.Needs.{needs}
 use Rattle.lookup.proofs.tallying.with_mark.Statement.{statement}
 use Rattle.lookup.proofs.tallying.with_mark.Tie as tie
 
-add-t4 : tie.Need-add-t4
-add-t4 c = search needs
-
 returns : tie.Need-returns
 returns c = rw (eq-eqb (c .before .before .args .mark) 255 (c .before .if1 .taken)) (omega arith, refl)
-
-add-t6 : tie.Need-add-t6
-add-t6 c = search needs
 
 returns-2 : tie.Need-returns-2
 returns-2 c = rw (ne-eqb (c .before .before .args .mark) 255 (c .before .if1 .left)) (refl, omega arith)
 
 pub with-mark-spec : {M : Type 1} → statement M
-with-mark-spec = tie.close (tie.spec add-t4 returns add-t6 returns-2)
+with-mark-spec = tie.close (tie.spec (λ c. search needs) returns (λ c. search needs) returns-2)

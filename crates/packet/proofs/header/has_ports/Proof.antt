@@ -4,15 +4,9 @@ use borrow.Author.Needs.{needs}
 use Rattle.packet.proofs.header.has_ports.Statement.{statement}
 use Rattle.packet.proofs.header.has_ports.Tie as tie
 
-protocol-requires : tie.Need-protocol-requires
-protocol-requires c κs = search needs
-
-protocol-has-ports-requires : tie.Need-protocol-has-ports-requires
-protocol-has-ports-requires c κs = search needs
-
 returns : tie.Need-returns
 unfolding has-ports
 returns c = rw (c .protocol-has-ports .ensures, c .before .protocol .ensures)
 
 pub has-ports-spec : {M : Type 1} → statement M
-has-ports-spec = tie.close (tie.spec protocol-requires protocol-has-ports-requires returns)
+has-ports-spec = tie.close (tie.spec (λ c κs. search needs) (λ c κs. search needs) returns)

@@ -10,15 +10,9 @@ returns : tie.Need-returns
 unfolding header-wrong
 returns c = rw (lt-ltb _ _ (c .if1 .taken))
 
-header-length-requires : tie.Need-header-length-requires
-header-length-requires c κs = search needs
-
-version-requires : tie.Need-version-requires
-version-requires c κs = search needs
-
 returns-2 : tie.Need-returns-2
 unfolding header-wrong
 returns-2 c = rw (c .version .ensures, c .before .header-length .ensures, le-ltb (length (c .before .before .before .before .args .packet .now)) 20 (c .before .before .if1 .left))
 
 pub header-wrong-spec : {M : Type 1} → statement M
-header-wrong-spec = tie.close (tie.spec returns header-length-requires version-requires returns-2)
+header-wrong-spec = tie.close (tie.spec returns (λ c κs. search needs) (λ c κs. search needs) returns-2)

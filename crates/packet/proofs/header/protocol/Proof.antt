@@ -5,12 +5,9 @@ use borrow.Author.Needs.{needs}
 use Rattle.packet.proofs.header.protocol.Statement.{statement}
 use Rattle.packet.proofs.header.protocol.Tie as tie
 
-shared-slice-read-result : tie.Need-shared-slice-read-result
-shared-slice-read-result c = search needs
-
 returns : tie.Need-returns
 unfolding protocol
 returns c = refl
 
 pub protocol-spec : {M : Type 1} → statement M
-protocol-spec = tie.close (tie.spec shared-slice-read-result returns)
+protocol-spec = tie.close (tie.spec (λ c. search needs) returns)

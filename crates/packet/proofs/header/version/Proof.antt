@@ -5,12 +5,9 @@ use borrow.Author.Needs.{needs}
 use Rattle.packet.proofs.header.version.Statement.{statement}
 use Rattle.packet.proofs.header.version.Tie as tie
 
-shared-slice-read-result : tie.Need-shared-slice-read-result
-shared-slice-read-result c = search needs
-
 returns : tie.Need-returns
 unfolding version
 returns c = refl
 
 pub version-spec : {M : Type 1} → statement M
-version-spec = tie.close (tie.spec shared-slice-read-result returns)
+version-spec = tie.close (tie.spec (λ c. search needs) returns)

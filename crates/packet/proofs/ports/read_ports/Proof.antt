@@ -12,11 +12,5 @@ slice-aggregate-copy c = sym (length-take-le 4 (c .before .before .before .befor
 copy-requires : tie.Need-copy-requires
 copy-requires c κs = rw (length-take-le 4 (c .before .before .before .before .args .after .now) (omega arith)) (c .before .before .before .before .pre .1)
 
-same-length : tie.Need-same-length
-same-length c = search needs
-
-returns : tie.Need-returns
-returns c = search needs
-
 pub read-ports-spec : {M : Type 1} → statement M
-read-ports-spec = tie.close (tie.spec slice-aggregate-copy copy-requires same-length returns)
+read-ports-spec = tie.close (tie.spec slice-aggregate-copy copy-requires (λ c. search needs) (λ c. search needs))

@@ -7,12 +7,6 @@ use Rattle.settings.proofs.Laws.{bounds}
 use Rattle.settings.proofs.Settings.buckets_length.Statement.{statement}
 use Rattle.settings.proofs.Settings.buckets_length.Tie as tie
 
-buckets-requires : tie.Need-buckets-requires
-buckets-requires c κs = search needs
-
-bucket-size-requires : tie.Need-bucket-size-requires
-bucket-size-requires c κs = search needs
-
 mul-result : tie.Need-mul-result
 unfolding buckets-length
 mul-result c =
@@ -23,4 +17,4 @@ unfolding buckets-length
 returns c = rw (c .before .buckets .ensures, c .bucket-size .ensures)
 
 pub buckets-length-spec : {M : Type 1} → statement M
-buckets-length-spec = tie.close (tie.spec buckets-requires bucket-size-requires mul-result returns)
+buckets-length-spec = tie.close (tie.spec (λ c κs. search needs) (λ c κs. search needs) mul-result returns)

@@ -4,12 +4,9 @@ use Rattle.theory.specs.Settings.{clipped-length}
 use Rattle.settings.proofs.Settings.clipped_length.Statement.{statement}
 use Rattle.settings.proofs.Settings.clipped_length.Tie as tie
 
-buckets-requires : tie.Need-buckets-requires
-buckets-requires c κs = search needs
-
 returns : tie.Need-returns
 unfolding clipped-length
 returns c = rw (c .buckets .ensures)
 
 pub clipped-length-spec : {M : Type 1} → statement M
-clipped-length-spec = tie.close (tie.spec buckets-requires returns)
+clipped-length-spec = tie.close (tie.spec (λ c κs. search needs) returns)

@@ -7,9 +7,6 @@ use Rattle.settings.specs.Checked.{paper}
 use Rattle.settings.proofs.Settings.ledger_length.Statement.{statement}
 use Rattle.settings.proofs.Settings.ledger_length.Tie as tie
 
-record-size-requires : tie.Need-record-size-requires
-record-size-requires c κs = search needs
-
 mul-result : tie.Need-mul-result
 unfolding record-size card-of
 mul-result c = let limits = ranges (paper (c .before .before .args .self)) (c .before .before .pre) in rw (c .before .record-size .ensures) (omega arith)
@@ -23,4 +20,4 @@ unfolding ledger-length card-of
 returns c = rw (c .before .record-size .ensures)
 
 pub ledger-length-spec : {M : Type 1} → statement M
-ledger-length-spec = tie.close (tie.spec record-size-requires mul-result add-result returns)
+ledger-length-spec = tie.close (tie.spec (λ c κs. search needs) mul-result add-result returns)

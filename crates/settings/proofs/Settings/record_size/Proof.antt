@@ -5,12 +5,9 @@ use Rattle.theory.specs.Settings.{card-of, record-size}
 use Rattle.settings.proofs.Settings.record_size.Statement.{statement}
 use Rattle.settings.proofs.Settings.record_size.Tie as tie
 
-add-result : tie.Need-add-result
-add-result c = search needs
-
 returns : tie.Need-returns
 unfolding record-size card-of
 returns c = refl
 
 pub record-size-spec : {M : Type 1} → statement M
-record-size-spec = tie.close (tie.spec add-result returns)
+record-size-spec = tie.close (tie.spec (λ c. search needs) returns)

@@ -4,12 +4,9 @@ use Rattle.theory.specs.Settings.{true-length}
 use Rattle.settings.proofs.Settings.true_length.Statement.{statement}
 use Rattle.settings.proofs.Settings.true_length.Tie as tie
 
-buckets-requires : tie.Need-buckets-requires
-buckets-requires c κs = search needs
-
 returns : tie.Need-returns
 unfolding true-length
 returns c = c .buckets .ensures
 
 pub true-length-spec : {M : Type 1} → statement M
-true-length-spec = tie.close (tie.spec buckets-requires returns)
+true-length-spec = tie.close (tie.spec (λ c κs. search needs) returns)

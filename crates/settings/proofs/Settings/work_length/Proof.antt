@@ -7,9 +7,6 @@ use Rattle.settings.proofs.Laws.{bounds}
 use Rattle.settings.proofs.Settings.work_length.Statement.{statement}
 use Rattle.settings.proofs.Settings.work_length.Tie as tie
 
-buckets-requires : tie.Need-buckets-requires
-buckets-requires c κs = search needs
-
 mul-result : tie.Need-mul-result
 mul-result c = let limits = bounds (paper (c .before .args .self)) (c .before .pre) in omega arith
 
@@ -18,4 +15,4 @@ unfolding work-length
 returns c = rw (c .buckets .ensures)
 
 pub work-length-spec : {M : Type 1} → statement M
-work-length-spec = tie.close (tie.spec buckets-requires mul-result returns)
+work-length-spec = tie.close (tie.spec (λ c κs. search needs) mul-result returns)

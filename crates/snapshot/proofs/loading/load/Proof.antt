@@ -17,12 +17,6 @@ use borrow.Author.Needs.{needs}
 use Rattle.snapshot.proofs.loading.load.Statement.{statement}
 use Rattle.snapshot.proofs.loading.load.Tie as tie
 
-head-wrong-requires : tie.Need-head-wrong-requires
-head-wrong-requires c κs = search needs
-
-not-loaded-requires : tie.Need-not-loaded-requires
-not-loaded-requires c κs = search needs
-
 returns : tie.Need-returns
 returns c =
     let start = c .before .before .before .before .before .before .before .before .before .before in
@@ -31,15 +25,6 @@ returns c =
 
 read-settings-requires : tie.Need-read-settings-requires
 read-settings-requires c κs = head-long (c .before .before .before .before .before .before .before .before .before .args .file .now) (sym (c .before .head-wrong .ensures) ∙ (c .if1 .left))
-
-enum-known-checked : tie.Need-enum-known-checked
-enum-known-checked c = search needs
-
-enum-told : tie.Need-enum-told
-enum-told c = search needs
-
-not-loaded-requires-2 : tie.Need-not-loaded-requires-2
-not-loaded-requires-2 c κs = search needs
 
 returns-2 : tie.Need-returns-2
 returns-2 c =
@@ -63,9 +48,6 @@ lengths-right-requires c κs =
     let checked = c .before .before .checked in
     allowed-settings (file-settings (start .args .file .now)) (read-settings .result) (read-settings .ensures) (checked .given .0 .0) (checked .given .1)
 
-not-loaded-requires-3 : tie.Need-not-loaded-requires-3
-not-loaded-requires-3 c κs = search needs
-
 returns-3 : tie.Need-returns-3
 returns-3 c =
     let start = c .before .before .before .before .before .before .before .before .before .before .before .before .before .before .before .before .before in
@@ -76,12 +58,6 @@ returns-3 c =
     let work-length = c .before .before .before .work-length in
     let lengths-right = c .before .before .lengths-right in
     let arm = allowed-arm (file-settings (start .args .file .now)) (read-settings .result) (read-settings .ensures) (checked .given .0 .0) (checked .given .1) in (c .not-loaded3 .ensures (record { ledger = start .args .ledger .now; true-counts = start .args .true-counts .now; clipped-counts = start .args .clipped .now; buckets = start .args .buckets .now; side-store = start .args .side .now })) ∙ loads-2 (start .args .file .now) (length (start .args .work .now)) (record { ledger = start .args .ledger .now; true-counts = start .args .true-counts .now; clipped-counts = start .args .clipped .now; buckets = start .args .buckets .now; side-store = start .args .side .now }) (sym (head-wrong .ensures) ∙ (if1 .left)) (arm .0) (checked .given .0 .0) (arm .1) (work-length .result) (work-length .ensures) (ap (λ (b : Bool). (eqb (length (start .args .work .now)) (work-length .result)) && b) (sym (lengths-right .ensures)) ∙ not-true _ (c .before .if2 .taken))
-
-table-requires : tie.Need-table-requires
-table-requires c κs = search needs
-
-slice-aggregate-load-lent : tie.Need-slice-aggregate-load-lent
-slice-aggregate-load-lent c = search needs
 
 load-lent-requires : tie.Need-load-lent-requires
 load-lent-requires c κs =
@@ -103,50 +79,29 @@ load-lent-requires c κs =
       sized-by (card-of (paper (checked .given .0 .0))) (record { ledger = start .args .ledger .now; true-counts = start .args .true-counts .now; clipped-counts = start .args .clipped .now; buckets = start .args .buckets .now; side-store = start .args .side .now }) (and-right (eqb (length (start .args .work .now)) (work-length .result)) _ v),
     )
 
-same-length : tie.Need-same-length
-same-length c = search needs
-
-same-length-2 : tie.Need-same-length-2
-same-length-2 c = search needs
-
-same-length-3 : tie.Need-same-length-3
-same-length-3 c = search needs
-
-same-length-4 : tie.Need-same-length-4
-same-length-4 c = search needs
-
-same-length-5 : tie.Need-same-length-5
-same-length-5 c = search needs
-
-same-length-6 : tie.Need-same-length-6
-same-length-6 c = search needs
-
-returns-4 : tie.Need-returns-4
-returns-4 c = search needs
-
 pub load-spec : {M : Type 1} → statement M
 load-spec =
     tie.close
     (tie.spec
-    head-wrong-requires
-    not-loaded-requires
+    (λ c κs. search needs)
+    (λ c κs. search needs)
     returns
     read-settings-requires
-    enum-known-checked
-    enum-told
-    not-loaded-requires-2
+    (λ c. search needs)
+    (λ c. search needs)
+    (λ c κs. search needs)
     returns-2
     work-length-requires
     lengths-right-requires
-    not-loaded-requires-3
+    (λ c κs. search needs)
     returns-3
-    table-requires
-    slice-aggregate-load-lent
+    (λ c κs. search needs)
+    (λ c. search needs)
     load-lent-requires
-    same-length
-    same-length-2
-    same-length-3
-    same-length-4
-    same-length-5
-    same-length-6
-    returns-4)
+    (λ c. search needs)
+    (λ c. search needs)
+    (λ c. search needs)
+    (λ c. search needs)
+    (λ c. search needs)
+    (λ c. search needs)
+    (λ c. search needs))

@@ -9,9 +9,6 @@ use borrow.Author.Needs.{needs}
 use Rattle.snapshot.proofs.loading.write_ledger.Statement.{statement}
 use Rattle.snapshot.proofs.loading.write_ledger.Tie as tie
 
-record-size-requires : tie.Need-record-size-requires
-record-size-requires c κs = search needs
-
 mul-end : tie.Need-mul-end
 mul-end c =
     let start = c .before .before .before in
@@ -27,12 +24,6 @@ write-number-requires c κs =
     let start = c .before .before .before .before in
     let record-size = c .before .record-size in
     (omega (arith, ends-within (card-of (paper (start .args .s))) (start .args .area .now) (start .args .n) (start .pre .2) (start .pre .3) (start .args .ledger .now) (start .pre .1) (record-size .result) (record-size .ensures)), omega (arith, start .pre .2, sound (paper (start .args .s)) (start .pre .0) .capacity-small))
-
-sub-copy : tie.Need-sub-copy
-sub-copy c = search needs
-
-part-copy-start : tie.Need-part-copy-start
-part-copy-start c = search needs
 
 part-copy-end : tie.Need-part-copy-end
 part-copy-end c =
@@ -64,15 +55,6 @@ part-zero-fill-start c =
     let copy = c .before .before .copy in
     zeros-start (card-of (paper (start .args .s))) (start .args .area .now) (start .args .n) (start .pre .2) (start .pre .3) (start .args .ledger .now) (start .pre .1) (record-size .result) (record-size .ensures) (write-number .last .0) (write-number .ensures) (copy .last .0) (copy .ensures)
 
-part-zero-fill-end : tie.Need-part-zero-fill-end
-part-zero-fill-end c = search needs
-
-zero-fill-requires : tie.Need-zero-fill-requires
-zero-fill-requires c κs = search needs
-
-same-length : tie.Need-same-length
-same-length c = search needs
-
 returns : tie.Need-returns
 returns c =
     let start = c .before .before .before .before .before .before .before .before .before .before .before .before .before .before .before in
@@ -87,17 +69,17 @@ pub write-ledger-spec : {M : Type 1} → statement M
 write-ledger-spec =
     tie.close
     (tie.spec
-    record-size-requires
+    (λ c κs. search needs)
     mul-end
     add-end
     write-number-requires
-    sub-copy
-    part-copy-start
+    (λ c. search needs)
+    (λ c. search needs)
     part-copy-end
     copy-requires
     sub-zero-fill
     part-zero-fill-start
-    part-zero-fill-end
-    zero-fill-requires
-    same-length
+    (λ c. search needs)
+    (λ c κs. search needs)
+    (λ c. search needs)
     returns)

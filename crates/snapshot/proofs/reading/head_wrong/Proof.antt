@@ -7,11 +7,8 @@ use Rattle.snapshot.proofs.reading.head_wrong.Tie as tie
 returns : tie.Need-returns
 returns c = head-cut (c .before .before .args .file .now) (c .if1 .taken)
 
-count-at-requires : tie.Need-count-at-requires
-count-at-requires c κs = search needs
-
 returns-2 : tie.Need-returns-2
 returns-2 c = head-count (c .before .before .before .args .file .now) (c .before .if1 .left) (c .count-at .result) (c .count-at .ensures .0)
 
 pub head-wrong-spec : {M : Type 1} → statement M
-head-wrong-spec = tie.close (tie.spec returns count-at-requires returns-2)
+head-wrong-spec = tie.close (tie.spec returns (λ c κs. search needs) returns-2)

@@ -5,27 +5,6 @@ use borrow.Author.Needs.{needs}
 use Rattle.snapshot.proofs.reading.read_settings.Statement.{statement}
 use Rattle.snapshot.proofs.reading.read_settings.Tie as tie
 
-setting-requires : tie.Need-setting-requires
-setting-requires c κs = search needs
-
-setting-requires-2 : tie.Need-setting-requires-2
-setting-requires-2 c κs = search needs
-
-setting-requires-3 : tie.Need-setting-requires-3
-setting-requires-3 c κs = search needs
-
-setting-requires-4 : tie.Need-setting-requires-4
-setting-requires-4 c κs = search needs
-
-setting-requires-5 : tie.Need-setting-requires-5
-setting-requires-5 c κs = search needs
-
-setting-requires-6 : tie.Need-setting-requires-6
-setting-requires-6 c κs = search needs
-
-new-requires : tie.Need-new-requires
-new-requires c κs = search needs
-
 returns : tie.Need-returns
 returns c =
     let start = c .before .before .before .before .before .before .before .before in
@@ -41,11 +20,11 @@ pub read-settings-spec : {M : Type 1} → statement M
 read-settings-spec =
     tie.close
     (tie.spec
-    setting-requires
-    setting-requires-2
-    setting-requires-3
-    setting-requires-4
-    setting-requires-5
-    setting-requires-6
-    new-requires
+    (λ c κs. search needs)
+    (λ c κs. search needs)
+    (λ c κs. search needs)
+    (λ c κs. search needs)
+    (λ c κs. search needs)
+    (λ c κs. search needs)
+    (λ c κs. search needs)
     returns)

@@ -7,26 +7,11 @@ use borrow.Author.Needs.{needs}
 use Rattle.snapshot.proofs.reading.refusal_by_file.Statement.{statement}
 use Rattle.snapshot.proofs.reading.refusal_by_file.Tie as tie
 
-sub-count-at : tie.Need-sub-count-at
-sub-count-at c = search needs
-
-part-count-at-start : tie.Need-part-count-at-start
-part-count-at-start c = search needs
-
-part-count-at-end : tie.Need-part-count-at-end
-part-count-at-end c = search needs
-
-count-at-requires : tie.Need-count-at-requires
-count-at-requires c κs = search needs
-
 returns : tie.Need-returns
 returns c =
     let start = c .before .before .before .before .before in
     let count-at = c .before .before .count-at in
     file-8 (start .args .file .now) (paper (start .args .s)) (count-at .result) (count-lent (start .args .file .now) (start .pre .1) (count-at .result) (count-at .ensures .0)) (c .if1 .taken)
-
-record-size-requires : tie.Need-record-size-requires
-record-size-requires c κs = search needs
 
 mul-if2 : tie.Need-mul-if2
 mul-if2 c =
@@ -47,18 +32,6 @@ returns-2 c =
     let if1 = c .before .before .if1 in
     let record-size = c .before .record-size in
     file-12 (start .args .file .now) (paper (start .args .s)) (count-at .result) (count-lent (start .args .file .now) (start .pre .1) (count-at .result) (count-at .ensures .0)) (if1 .left) (record-size .result) (record-size .ensures) (c .if2 .taken)
-
-sub-keys-rise : tie.Need-sub-keys-rise
-sub-keys-rise c = search needs
-
-part-keys-rise-start : tie.Need-part-keys-rise-start
-part-keys-rise-start c = search needs
-
-part-keys-rise-end : tie.Need-part-keys-rise-end
-part-keys-rise-end c = search needs
-
-width-requires : tie.Need-width-requires
-width-requires c κs = search needs
 
 keys-rise-requires : tie.Need-keys-rise-requires
 keys-rise-requires c κs =
@@ -95,19 +68,19 @@ pub refusal-by-file-spec : {M : Type 1} → statement M
 refusal-by-file-spec =
     tie.close
     (tie.spec
-    sub-count-at
-    part-count-at-start
-    part-count-at-end
-    count-at-requires
+    (λ c. search needs)
+    (λ c. search needs)
+    (λ c. search needs)
+    (λ c κs. search needs)
     returns
-    record-size-requires
+    (λ c κs. search needs)
     mul-if2
     add-if2
     returns-2
-    sub-keys-rise
-    part-keys-rise-start
-    part-keys-rise-end
-    width-requires
+    (λ c. search needs)
+    (λ c. search needs)
+    (λ c. search needs)
+    (λ c κs. search needs)
     keys-rise-requires
     returns-3
     returns-4)

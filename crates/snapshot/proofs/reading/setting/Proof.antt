@@ -6,24 +6,6 @@ use borrow.Author.Needs.{needs}
 use Rattle.snapshot.proofs.reading.setting.Statement.{statement}
 use Rattle.snapshot.proofs.reading.setting.Tie as tie
 
-mul-at : tie.Need-mul-at
-mul-at c = search needs
-
-add-at : tie.Need-add-at
-add-at c = search needs
-
-sub-count-at : tie.Need-sub-count-at
-sub-count-at c = search needs
-
-part-count-at-start : tie.Need-part-count-at-start
-part-count-at-start c = search needs
-
-part-count-at-end : tie.Need-part-count-at-end
-part-count-at-end c = search needs
-
-count-at-requires : tie.Need-count-at-requires
-count-at-requires c κs = search needs
-
 returns : tie.Need-returns
 returns c =
     let start = c .before .before .before in
@@ -33,10 +15,10 @@ pub setting-spec : {M : Type 1} → statement M
 setting-spec =
     tie.close
     (tie.spec
-    mul-at
-    add-at
-    sub-count-at
-    part-count-at-start
-    part-count-at-end
-    count-at-requires
+    (λ c. search needs)
+    (λ c. search needs)
+    (λ c. search needs)
+    (λ c. search needs)
+    (λ c. search needs)
+    (λ c κs. search needs)
     returns)

@@ -4,21 +4,6 @@ use borrow.Author.Needs.{needs}
 use Rattle.snapshot.proofs.saving.put_number.Statement.{statement}
 use Rattle.snapshot.proofs.saving.put_number.Tie as tie
 
-sub-write-number : tie.Need-sub-write-number
-sub-write-number c = search needs
-
-part-write-number-start : tie.Need-part-write-number-start
-part-write-number-start c = search needs
-
-part-write-number-end : tie.Need-part-write-number-end
-part-write-number-end c = search needs
-
-write-number-requires : tie.Need-write-number-requires
-write-number-requires c κs = search needs
-
-same-length : tie.Need-same-length
-same-length c = search needs
-
 returns : tie.Need-returns
 returns c =
     let start = c .before .before .before .before .before in
@@ -29,9 +14,9 @@ pub put-number-spec : {M : Type 1} → statement M
 put-number-spec =
     tie.close
     (tie.spec
-    sub-write-number
-    part-write-number-start
-    part-write-number-end
-    write-number-requires
-    same-length
+    (λ c. search needs)
+    (λ c. search needs)
+    (λ c. search needs)
+    (λ c κs. search needs)
+    (λ c. search needs)
     returns)

@@ -15,15 +15,6 @@ use borrow.Author.Needs.{needs}
 use Rattle.snapshot.proofs.saving.save.Statement.{statement}
 use Rattle.snapshot.proofs.saving.save.Tie as tie
 
-new-requires : tie.Need-new-requires
-new-requires c κs = search needs
-
-enum-known-checked : tie.Need-enum-known-checked
-enum-known-checked c = search needs
-
-enum-told : tie.Need-enum-told
-enum-told c = search needs
-
 returns : tie.Need-returns
 returns c =
     let start = c .before .before .before .before .before .before in
@@ -53,12 +44,6 @@ returns-2 c =
     let ledger-length = c .before .ledger-length in
     let arm = allowed-arm (given-of (start .args .given)) (new .result) (new .ensures) (checked .given .0 .0) (checked .given .1) in saves-2 (given-of (start .args .given)) (start .args .ledger .now) (length (start .args .work .now)) (start .args .target .now) (arm .0) (checked .given .0 .0) (arm .1) (work-length .result) (ledger-length .result) (work-length .ensures) (ledger-length .ensures) (not-true _ (c .if1 .taken))
 
-table-requires : tie.Need-table-requires
-table-requires c κs = search needs
-
-slice-aggregate-save-lent : tie.Need-slice-aggregate-save-lent
-slice-aggregate-save-lent c = search needs
-
 save-lent-requires : tie.Need-save-lent-requires
 save-lent-requires c κs =
     let start = c .before .before .before .before .before .before .before .before .before .before .before .before .before .before in
@@ -74,12 +59,6 @@ save-lent-requires c κs =
       eqb-true _ _ (and-right (eqb (length (start .args .work .now)) (work-length .result)) _ v) ∙ ledger-length .ensures,
     )
 
-same-length : tie.Need-same-length
-same-length c = search needs
-
-same-length-2 : tie.Need-same-length-2
-same-length-2 c = search needs
-
 returns-3 : tie.Need-returns-3
 returns-3 c =
     let start = c .before .before .before .before .before .before .before .before .before .before .before .before .before .before .before .before .before .before .before in
@@ -92,16 +71,16 @@ pub save-spec : {M : Type 1} → statement M
 save-spec =
     tie.close
     (tie.spec
-    new-requires
-    enum-known-checked
-    enum-told
+    (λ c κs. search needs)
+    (λ c. search needs)
+    (λ c. search needs)
     returns
     work-length-requires
     ledger-length-requires
     returns-2
-    table-requires
-    slice-aggregate-save-lent
+    (λ c κs. search needs)
+    (λ c. search needs)
     save-lent-requires
-    same-length
-    same-length-2
+    (λ c. search needs)
+    (λ c. search needs)
     returns-3)

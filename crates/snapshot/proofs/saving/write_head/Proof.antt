@@ -7,9 +7,6 @@ use borrow.Author.Needs.{needs}
 use Rattle.snapshot.proofs.saving.write_head.Statement.{statement}
 use Rattle.snapshot.proofs.saving.write_head.Tie as tie
 
-put-number-requires : tie.Need-put-number-requires
-put-number-requires c κs = search needs
-
 put-number-requires-2 : tie.Need-put-number-requires-2
 put-number-requires-2 c κs =
     let start = c .before .before .before .before .before .before in
@@ -61,12 +58,6 @@ put-number-requires-7 c κs =
     let put-number6 = c .before .before .before .put-number6 in
     let r = ranges (paper (start .args .s)) (start .pre .0) in (omega (arith, start .pre .1, put-number .kept .0, put-number2 .kept .0, put-number3 .kept .0, put-number4 .kept .0, put-number5 .kept .0, put-number6 .kept .0), omega (arith, r .side-high))
 
-put-number-requires-8 : tie.Need-put-number-requires-8
-put-number-requires-8 c κs = search needs
-
-same-length : tie.Need-same-length
-same-length c = search needs
-
 returns : tie.Need-returns
 returns c =
     let start = c .before .before .before .before .before .before .before .before .before .before .before .before .before .before .before .before .before .before .before .before .before .before .before .before .before .before .before .before .before .before .before .before .before in
@@ -84,13 +75,13 @@ pub write-head-spec : {M : Type 1} → statement M
 write-head-spec =
     tie.close
     (tie.spec
-    put-number-requires
+    (λ c κs. search needs)
     put-number-requires-2
     put-number-requires-3
     put-number-requires-4
     put-number-requires-5
     put-number-requires-6
     put-number-requires-7
-    put-number-requires-8
-    same-length
+    (λ c κs. search needs)
+    (λ c. search needs)
     returns)

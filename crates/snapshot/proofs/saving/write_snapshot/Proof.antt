@@ -12,9 +12,6 @@ use borrow.Author.Needs.{needs}
 use Rattle.snapshot.proofs.saving.write_snapshot.Statement.{statement}
 use Rattle.snapshot.proofs.saving.write_snapshot.Tie as tie
 
-slice-relend-prefix-write-head : tie.Need-slice-relend-prefix-write-head
-slice-relend-prefix-write-head c = search needs
-
 slice-aggregate-write-head : tie.Need-slice-aggregate-write-head
 slice-aggregate-write-head c = sym (length-take-le 16 (c .before .before .before .args .target .now) (omega (arith, c .before .before .before .pre .2)))
 
@@ -22,9 +19,6 @@ write-head-requires : tie.Need-write-head-requires
 write-head-requires c κs =
     let start = c .before .before .before in
     (start .pre .0 .permitted, length-take-le 16 (start .args .target .now) (omega (arith, start .pre .2)), omega (arith, start .pre .1, few (card-of (paper (start .args .s))) (start .args .ledger .now) (start .pre .0 .size) (start .pre .0 .rules), sound (paper (start .args .s)) (start .pre .0 .permitted) .capacity-small))
-
-record-size-requires : tie.Need-record-size-requires
-record-size-requires c κs = search needs
 
 mul-end : tie.Need-mul-end
 mul-end c =
@@ -35,21 +29,6 @@ add-end : tie.Need-add-end
 add-end c =
     let start = c .before .before .before .before .before .before .before in
     omega (arith, end-within (paper (start .args .s)) (start .args .ledger .now) (start .pre .0 .size) (start .pre .0 .rules) (start .args .n) (start .pre .1) (c .record-size .result) (c .record-size .ensures))
-
-sub-copy : tie.Need-sub-copy
-sub-copy c = search needs
-
-part-copy-start : tie.Need-part-copy-start
-part-copy-start c = search needs
-
-part-copy-end : tie.Need-part-copy-end
-part-copy-end c = search needs
-
-sub-copy-2 : tie.Need-sub-copy-2
-sub-copy-2 c = search needs
-
-part-copy-start-2 : tie.Need-part-copy-start-2
-part-copy-start-2 c = search needs
 
 part-copy-end-2 : tie.Need-part-copy-end-2
 part-copy-end-2 c =
@@ -64,9 +43,6 @@ copy-requires c κs =
     let record-size = c .before .before .record-size in
     same-room (paper (start .args .s)) (start .args .ledger .now) (start .pre .0 .size) (start .pre .0 .rules) (start .args .n) (start .pre .1) (record-size .result) (record-size .ensures) (start .args .target .now) (write-head .last .1 .0) (start .pre .2) (write-head .ensures)
 
-same-length : tie.Need-same-length
-same-length c = search needs
-
 returns : tie.Need-returns
 returns c =
     let start = c .before .before .before .before .before .before .before .before .before .before .before .before in
@@ -80,18 +56,18 @@ pub write-snapshot-spec : {M : Type 1} → statement M
 write-snapshot-spec =
     tie.close
     (tie.spec
-    slice-relend-prefix-write-head
+    (λ c. search needs)
     slice-aggregate-write-head
     write-head-requires
-    record-size-requires
+    (λ c κs. search needs)
     mul-end
     add-end
-    sub-copy
-    part-copy-start
-    part-copy-end
-    sub-copy-2
-    part-copy-start-2
+    (λ c. search needs)
+    (λ c. search needs)
+    (λ c. search needs)
+    (λ c. search needs)
+    (λ c. search needs)
     part-copy-end-2
     copy-requires
-    same-length
+    (λ c. search needs)
     returns)

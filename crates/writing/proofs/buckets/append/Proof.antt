@@ -15,42 +15,6 @@ place c =
     let start = c .before .before .before .before in
     subst (λ (k : ℕ). 1 + length (start .args .«record» .now) * k + length (start .args .«record» .now) ≤ length (start .args .part .now)) (sym (c .wide .ensures .0)) (start .pre .1)
 
-slice-read-mark : tie.Need-slice-read-mark
-slice-read-mark c = search needs
-
-wide-requires : tie.Need-wide-requires
-wide-requires c κs = search needs
-
-mul-at : tie.Need-mul-at
-mul-at c = omega (arith, place c)
-
-add-at : tie.Need-add-at
-add-at c = omega (arith, place c)
-
-add-end : tie.Need-add-end
-add-end c = omega (arith, place c)
-
-sub-copy : tie.Need-sub-copy
-sub-copy c = search needs
-
-part-copy-start : tie.Need-part-copy-start
-part-copy-start c = search needs
-
-part-copy-end : tie.Need-part-copy-end
-part-copy-end c = omega (arith, place c)
-
-copy-requires : tie.Need-copy-requires
-copy-requires c κs = search needs
-
-add-part : tie.Need-add-part
-add-part c = search needs
-
-slice-write-part : tie.Need-slice-write-part
-slice-write-part c = search needs
-
-same-length : tie.Need-same-length
-same-length c = search needs
-
 returns : tie.Need-returns
 returns c = let p = c .before .before .before .before .before .before .before .before .args .part .now in
     let r = c .before .before .before .before .before .before .before .before .args .«record» .now in
@@ -62,16 +26,16 @@ pub append-spec : {M : Type 1} → statement M
 append-spec =
     tie.close
     (tie.spec
-    slice-read-mark
-    wide-requires
-    mul-at
-    add-at
-    add-end
-    sub-copy
-    part-copy-start
-    part-copy-end
-    copy-requires
-    add-part
-    slice-write-part
-    same-length
+    (λ c. search needs)
+    (λ c κs. search needs)
+    (λ c. omega (arith, place c))
+    (λ c. omega (arith, place c))
+    (λ c. omega (arith, place c))
+    (λ c. search needs)
+    (λ c. search needs)
+    (λ c. omega (arith, place c))
+    (λ c κs. search needs)
+    (λ c. search needs)
+    (λ c. search needs)
+    (λ c. search needs)
     returns)

@@ -46,36 +46,15 @@ within c =
       area-length (paper (start .args .s)) (start .args .m) (bucket-size .result) (length (start .args .buckets .now)) (start .pre .1) (start .pre .3) (bucket-size .ensures),
     )
 
-bucket-size-requires : tie.Need-bucket-size-requires Inv-loop μ-loop
-bucket-size-requires c κs = c .before .before .pre .0
-
 loop-holds : tie.Need-loop-holds Inv-loop μ-loop
 loop-holds c = let s = card-of (paper (c .before .before .before .args .s)) in
     (omega arith, sym (zero-mul (c .bucket-size .result)), refl, blank-none s (crowded-by s (c .before .before .before .args .m) (c .before .before .before .args .work .now)))
 
-add-end : tie.Need-add-end Inv-loop μ-loop
-add-end c = omega (arith, within c)
-
-add-choosers : tie.Need-add-choosers Inv-loop μ-loop
-add-choosers c = search needs
-
 mul-choosers : tie.Need-mul-choosers Inv-loop μ-loop
 mul-choosers c = let h : c .before .before .before .before .before .args .m + c .before .loop .b < length (c .before .before .before .before .before .args .work .now) = omega arith in search needs
 
-shared-slice-read-choosers : tie.Need-shared-slice-read-choosers Inv-loop μ-loop
-shared-slice-read-choosers c = search needs
-
 cast-choosers : tie.Need-cast-choosers Inv-loop μ-loop
 cast-choosers c = omega (arith, c .shared-slice-known2 .given (c .before .before .before .before .before .before .args .m + c .before .before .loop .b))
-
-sub-open-bucket : tie.Need-sub-open-bucket Inv-loop μ-loop
-sub-open-bucket c = search needs
-
-part-open-bucket-start : tie.Need-part-open-bucket-start Inv-loop μ-loop
-part-open-bucket-start c = search needs
-
-part-open-bucket-end : tie.Need-part-open-bucket-end Inv-loop μ-loop
-part-open-bucket-end c = within (c .before)
 
 open-bucket-requires : tie.Need-open-bucket-requires Inv-loop μ-loop
 open-bucket-requires c κs =
@@ -85,12 +64,6 @@ open-bucket-requires c κs =
     let before = c .before .before .before in
     rw (length-lent (loop .at) (bucket-size .result) (loop .buckets) (within (before)))
     (omega (arith, bucket-size .ensures, bounds (paper (start .args .s)) (start .pre .0) .bucket-size-least))
-
-add-b : tie.Need-add-b Inv-loop μ-loop
-add-b c = search needs
-
-loop-less : tie.Need-loop-less Inv-loop μ-loop
-loop-less c = search needs
 
 loop-again : tie.Need-loop-again Inv-loop μ-loop
 loop-again c =
@@ -113,9 +86,6 @@ loop-again c =
       open-more s crowd (loop .b) at size (loop .buckets) part crowded (bucket-size .ensures) fits test (open-bucket .ensures) (loop .inv .3),
     )
 
-same-length : tie.Need-same-length Inv-loop μ-loop
-same-length c = c .before .loop .inv .2
-
 returns : tie.Need-returns Inv-loop μ-loop
 returns c =
     let start = c .before .before .before .before .before in
@@ -131,19 +101,19 @@ open-buckets-spec =
     (tie.spec
     Inv-loop
     μ-loop
-    bucket-size-requires
+    (λ c κs. c .before .before .pre .0)
     loop-holds
-    add-end
-    add-choosers
+    (λ c. omega (arith, within c))
+    (λ c. search needs)
     mul-choosers
-    shared-slice-read-choosers
+    (λ c. search needs)
     cast-choosers
-    sub-open-bucket
-    part-open-bucket-start
-    part-open-bucket-end
+    (λ c. search needs)
+    (λ c. search needs)
+    (λ c. within (c .before))
     open-bucket-requires
-    add-b
-    loop-less
+    (λ c. search needs)
+    (λ c. search needs)
     loop-again
-    same-length
+    (λ c. c .before .loop .inv .2)
     returns)

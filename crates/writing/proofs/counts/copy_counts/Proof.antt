@@ -15,26 +15,8 @@ Inv-loop to₀ from i₀ to i = (i ≤ length from) × (length to ≡ length fro
 abbrev μ-loop : tie.MeasureT-loop
 μ-loop to₀ from i₀ to i = length from - i
 
-loop-holds : tie.Need-loop-holds Inv-loop μ-loop
-loop-holds c = (omega arith, c .pre, refl)
-
-mul-to : tie.Need-mul-to Inv-loop μ-loop
-mul-to c = search needs
-
-shared-slice-read-to : tie.Need-shared-slice-read-to Inv-loop μ-loop
-shared-slice-read-to c = search needs
-
 mul-to-2 : tie.Need-mul-to-2 Inv-loop μ-loop
 mul-to-2 c = let h : c .before .before .loop .i < length (c .before .before .loop .to) = omega arith in search needs
-
-slice-write-to : tie.Need-slice-write-to Inv-loop μ-loop
-slice-write-to c = search needs
-
-add-i : tie.Need-add-i Inv-loop μ-loop
-add-i c = search needs
-
-loop-less : tie.Need-loop-less Inv-loop μ-loop
-loop-less c = search needs
 
 loop-again : tie.Need-loop-again Inv-loop μ-loop
 loop-again c =
@@ -46,9 +28,6 @@ loop-again c =
       rw (add-one (loop .i), take-suc-set (loop .to) (loop .i) (getD from (loop .i) 0) (omega arith), take-suc from (loop .i) 0 (omega arith), loop .inv .2),
     )
 
-same-length : tie.Need-same-length Inv-loop μ-loop
-same-length c = search needs
-
 returns : tie.Need-returns Inv-loop μ-loop
 returns c = sym (take-all (c .before .loop .i) (c .before .loop .to) (omega arith)) ∙ c .before .loop .inv .2 ∙ take-all (c .before .loop .i) (c .before .before .args .from .now) (omega arith)
 
@@ -58,13 +37,13 @@ copy-counts-spec =
     (tie.spec
     Inv-loop
     μ-loop
-    loop-holds
-    mul-to
-    shared-slice-read-to
+    (λ c. (omega arith, c .pre, refl))
+    (λ c. search needs)
+    (λ c. search needs)
     mul-to-2
-    slice-write-to
-    add-i
-    loop-less
+    (λ c. search needs)
+    (λ c. search needs)
+    (λ c. search needs)
     loop-again
-    same-length
+    (λ c. search needs)
     returns)
