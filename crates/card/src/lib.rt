@@ -75,7 +75,7 @@ pub extern "C" fn flow_area_lengths(
     if lengths.len() != 6 {
         return 2;
     }
-    write_lengths(s, &mut lengths[..]);
+    write_lengths(s, lengths);
     0
 }
 
@@ -100,7 +100,7 @@ pub extern "C" fn flow_hash_table(table: &mut [u64]) -> u32
     if table.len() != hash::TABLE_LENGTH {
         return 2;
     }
-    hash::fill_table(&mut table[..]);
+    hash::fill_table(table);
     0
 }
 
@@ -175,8 +175,8 @@ pub extern "C" fn flow_key_buckets(
         return 3;
     }
     let h = hash::h_rows(key);
-    write_hashes(h, s.p, &mut hashes[..]);
-    write_numbers(hash::numbers_of(h, s.p, s.k), &mut numbers[..]);
+    write_hashes(h, s.p, hashes);
+    write_numbers(hash::numbers_of(h, s.p, s.k), numbers);
     0
 }
 

@@ -7,5 +7,5 @@ ghost use Rattle.theory.specs.Packet.{Keyed, read-packet};
 pub extern "C" fn flow_packet_key(packet: &[u8], key: &mut [u8]) -> u32
     ensures { λ r. ⌜ _≡_ {A = Keyed} (record { number = r; buffer = now (key .exit) }) (read-packet (now (packet .entry)) (now (key .entry))) ⌝ }
 {
-    packet::read_packet_key(packet, &mut key[..])
+    packet::read_packet_key(packet, key)
 }

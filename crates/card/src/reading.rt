@@ -203,6 +203,6 @@ pub extern "C" fn flow_tally(
     if number != 0 {
         return number;
     }
-    write_totals(x, &mut totals[..]);
+    write_totals(x, totals);
     0
 }

@@ -30,7 +30,7 @@ pub extern "C" fn flow_save(
         capacity,
         side_places,
     };
-    snapshot::saving::save(given, ledger, &mut work[..], &mut target[..])
+    snapshot::saving::save(given, ledger, work, target)
 }
 
 // An area for the settings of another length: 12 for the file's head, 1, else 2.
@@ -75,16 +75,8 @@ pub extern "C" fn flow_load(
     if settings.len() != snapshot::SETTINGS {
         return refuse_settings_area(file);
     }
-    let loaded = snapshot::loading::load(
-        file,
-        &mut ledger[..],
-        &mut true_counts[..],
-        &mut clipped[..],
-        &mut buckets[..],
-        &mut side[..],
-        &mut work[..],
-    );
+    let loaded = snapshot::loading::load(file, ledger, true_counts, clipped, buckets, side, work);
     let given = loaded.settings;
-    write_settings(given, &mut settings[..]);
+    write_settings(given, settings);
     loaded.number
 }

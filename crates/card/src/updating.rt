@@ -36,14 +36,7 @@ pub extern "C" fn flow_clear(
         capacity,
         side_places,
     };
-    update::clear(
-        given,
-        &mut ledger[..],
-        &mut true_counts[..],
-        &mut clipped[..],
-        &mut buckets[..],
-        &mut side[..],
-    )
+    update::clear(given, ledger, true_counts, clipped, buckets, side)
 }
 
 // Adds a flow: 1, 2, 3, 4, 6, 8, 9; else the layout of the list with the record put in at its key's place.
@@ -79,12 +72,12 @@ pub extern "C" fn flow_add(
     update::update(
         Edit::Insert,
         given,
-        &mut ledger[..],
-        &mut true_counts[..],
-        &mut clipped[..],
-        &mut buckets[..],
-        &mut side[..],
-        &mut work[..],
+        ledger,
+        true_counts,
+        clipped,
+        buckets,
+        side,
+        work,
         key,
         class,
     )
@@ -123,12 +116,12 @@ pub extern "C" fn flow_change(
     update::update(
         Edit::Replace,
         given,
-        &mut ledger[..],
-        &mut true_counts[..],
-        &mut clipped[..],
-        &mut buckets[..],
-        &mut side[..],
-        &mut work[..],
+        ledger,
+        true_counts,
+        clipped,
+        buckets,
+        side,
+        work,
         key,
         class,
     )
@@ -166,12 +159,12 @@ pub extern "C" fn flow_remove(
     update::update(
         Edit::Remove,
         given,
-        &mut ledger[..],
-        &mut true_counts[..],
-        &mut clipped[..],
-        &mut buckets[..],
-        &mut side[..],
-        &mut work[..],
+        ledger,
+        true_counts,
+        clipped,
+        buckets,
+        side,
+        work,
         key,
         0,
     )

@@ -21,12 +21,12 @@ fn run_block(
     let end = lines::run_calls(
         first,
         &input[..got],
-        &mut ledger[..],
-        &mut true_counts[..],
-        &mut clipped[..],
-        &mut buckets[..],
-        &mut side[..],
-        &mut work[..],
+        ledger,
+        true_counts,
+        clipped,
+        buckets,
+        side,
+        work,
         &mut text,
     );
     io::write_all(1, &text[..end]) & (got == 9216)
@@ -45,12 +45,12 @@ fn run_blocks(
     while block < 1125899906842624 {
         let more = run_block(
             block * 512 + 1,
-            &mut ledger[..],
-            &mut true_counts[..],
-            &mut clipped[..],
-            &mut buckets[..],
-            &mut side[..],
-            &mut work[..],
+            ledger,
+            true_counts,
+            clipped,
+            buckets,
+            side,
+            work,
         );
         if !more {
             return;

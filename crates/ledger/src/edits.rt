@@ -55,9 +55,9 @@ pub fn insert_record(s: Settings, ledger: &mut [u8], at: usize, record: &[u8])
     let place = 2 + size * at;
     let end = 2 + size * n;
     let next = place + size;
-    open_gap(&mut ledger[..], size, place, end);
+    open_gap(ledger, size, place, end);
     copy(&mut ledger[place..next], record);
-    write_number(&mut ledger[..], n + 1);
+    write_number(ledger, n + 1);
 }
 
 // "the record of that key is taken out"
@@ -70,9 +70,9 @@ pub fn remove_record(s: Settings, ledger: &mut [u8], at: usize)
     let from = 2 + size * at;
     let to = 2 + size * n;
     let last = to - size;
-    close_gap(&mut ledger[..], size, from, to);
+    close_gap(ledger, size, from, to);
     zero_fill(&mut ledger[last..to]);
-    write_number(&mut ledger[..], n - 1);
+    write_number(ledger, n - 1);
 }
 
 // "the record of that key gets the new class"

@@ -102,12 +102,12 @@ fn append_line(to: &mut [u8], at: usize, call: u64, letter: u8, x: Answer) -> us
     let class = x.class as u64;
     let buckets = x.buckets_read as u64;
     let compared = x.records_compared as u64;
-    let a = append_decimal(&mut to[..], at, call, b' ');
-    let b = append_letter(&mut to[..], a, letter, b' ');
-    let c = append_decimal(&mut to[..], b, number, b' ');
-    let d = append_decimal(&mut to[..], c, class, b' ');
-    let e = append_decimal(&mut to[..], d, buckets, b' ');
-    append_decimal(&mut to[..], e, compared, b'\n')
+    let a = append_decimal(to, at, call, b' ');
+    let b = append_letter(to, a, letter, b' ');
+    let c = append_decimal(to, b, number, b' ');
+    let d = append_decimal(to, c, class, b' ');
+    let e = append_decimal(to, d, buckets, b' ');
+    append_decimal(to, e, compared, b'\n')
 }
 
 // What a call shows: its letter and its answer.
@@ -158,12 +158,12 @@ fn show_call(
             capacity: CAPACITY,
             side_places: SIDE_PLACES,
         },
-        &mut ledger[..],
-        &mut true_counts[..],
-        &mut clipped[..],
-        &mut buckets[..],
-        &mut side[..],
-        &mut work[..],
+        ledger,
+        true_counts,
+        clipped,
+        buckets,
+        side,
+        work,
         &call[1..14],
         class,
     );
@@ -191,18 +191,10 @@ pub fn run_call(
         (record { ledger = now (ledger .exit); true-counts = now («true_counts» .exit); clipped-counts = now (clipped .exit); buckets = now (buckets .exit); side-store = now (side .exit) })
         (now (to .entry)) at (now (to .exit)) r × (at ≤ r) × (r ≤ at + 128) ⌝ }
 {
-    let shown = show_call(
-        call,
-        &mut ledger[..],
-        &mut true_counts[..],
-        &mut clipped[..],
-        &mut buckets[..],
-        &mut side[..],
-        &mut work[..],
-    );
+    let shown = show_call(call, ledger, true_counts, clipped, buckets, side, work);
     let letter = shown.letter;
     let answer = shown.answer;
-    append_line(&mut to[..], at, number, letter, answer)
+    append_line(to, at, number, letter, answer)
 }
 
 // Where the call that starts at a place ends, in an input of so many bytes: after 18 bytes, or with the input.
@@ -245,13 +237,13 @@ pub fn run_calls(
         at = run_call(
             number,
             &input[from..end],
-            &mut ledger[..],
-            &mut true_counts[..],
-            &mut clipped[..],
-            &mut buckets[..],
-            &mut side[..],
-            &mut work[..],
-            &mut to[..],
+            ledger,
+            true_counts,
+            clipped,
+            buckets,
+            side,
+            work,
+            to,
             at,
         );
         number += 1;

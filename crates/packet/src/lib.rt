@@ -42,11 +42,11 @@ fn write_ports(packet: &[u8], to: &mut [u8])
     ensures { λ _. ⌜ now (to .exit) ≡ ports (now (packet .entry)) ⌝ }
 {
     if !has_ports(packet) {
-        zero_fill(&mut to[..]);
+        zero_fill(to);
         return;
     }
     let end = header_length(packet);
-    read_ports(&packet[end..], &mut to[..]);
+    read_ports(&packet[end..], to);
 }
 
 // "source address, destination address, source port, destination port, protocol"
@@ -71,6 +71,6 @@ pub fn read_packet_key(packet: &[u8], buffer: &mut [u8]) -> u32
     if number != 0 {
         return number;
     }
-    write_key(packet, &mut buffer[..]);
+    write_key(packet, buffer);
     0
 }

@@ -18,5 +18,5 @@ pub fn read_ports(after: &[u8], to: &mut [u8])
     requires { ⌜ (4 ≤ length (now after)) × (length (now to) ≡ 4) ⌝ }
     ensures { λ _. ⌜ now (to .exit) ≡ take 4 (now (after .entry)) ⌝ }
 {
-    copy(&mut to[..], &after[..4]);
+    copy(to, &after[..4]);
 }

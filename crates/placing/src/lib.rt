@@ -194,9 +194,9 @@ fn count_parts(
     requires { ⌜ Ready s (now t) × (length (now counts) ≡ card-of (paper s) .buckets) × (n * (card-of (paper s) .width + class-width) ≤ length (now a)) × (k * (card-of (paper s) .width + class-width) ≤ length (now mid)) × (j * (card-of (paper s) .width + class-width) ≤ length (now b)) × (n + k + j ≤ 60000) × ((x : ℕ) → nth (now counts) x ≡ 0) ⌝ }
     ensures { λ _. ⌜ ((x : ℕ) → nth (now (counts .exit)) x ≡ true-count (card-of (paper s)) (parts (card-of (paper s) .width) (now (a .entry)) n (now (mid .entry)) k (now (b .entry)) j) x) ⌝ }
 {
-    count_more(s, t, &mut counts[..], a, n);
-    count_more(s, t, &mut counts[..], mid, k);
-    count_more(s, t, &mut counts[..], b, j);
+    count_more(s, t, counts, a, n);
+    count_more(s, t, counts, mid, k);
+    count_more(s, t, counts, b, j);
 }
 
 // Their choices and choosers, from zeros.

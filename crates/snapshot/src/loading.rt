@@ -57,7 +57,7 @@ fn write_ledger(s: Settings, ledger: &mut [u8], area: &[u8], n: usize)
     ensures { λ _. ⌜ now (ledger .exit) ≡ counted-places (card-of (paper s)) (card-of (paper s) .capacity) (records (card-of (paper s) .width) n (now (area .entry))) ⌝ }
 {
     let end = 2 + s.record_size() * n;
-    write_number(&mut ledger[..], n);
+    write_number(ledger, n);
     copy(&mut ledger[2..end], area);
     zero_fill(&mut ledger[end..]);
 }

@@ -34,14 +34,14 @@ fn write_head(s: Settings, to: &mut [u8], n: usize)
     requires { ⌜ (allowed (paper s) ≡ true) × (length (now to) ≡ head-size) × (n < 65536) ⌝ }
     ensures { λ _. ⌜ now (to .exit) ≡ flat (to-bytes 2) (head (paper s) n) ⌝ }
 {
-    put_number(&mut to[..], 0, crate::SETTINGS);
-    put_number(&mut to[..], 2, s.p);
-    put_number(&mut to[..], 4, s.k);
-    put_number(&mut to[..], 6, s.room);
-    put_number(&mut to[..], 8, s.top);
-    put_number(&mut to[..], 10, s.capacity);
-    put_number(&mut to[..], 12, s.side_places);
-    put_number(&mut to[..], crate::SECOND_COUNT_AT, n);
+    put_number(to, 0, crate::SETTINGS);
+    put_number(to, 2, s.p);
+    put_number(to, 4, s.k);
+    put_number(to, 6, s.room);
+    put_number(to, 8, s.top);
+    put_number(to, 10, s.capacity);
+    put_number(to, 12, s.side_places);
+    put_number(to, crate::SECOND_COUNT_AT, n);
 }
 
 // The snapshot of the n records of a ledger.

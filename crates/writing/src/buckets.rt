@@ -37,7 +37,7 @@ fn open_bucket(part: &mut [u8], crowded: bool)
     requires { ⌜ 0 < length (now part) ⌝ }
     ensures { λ _. ⌜ now (part .exit) ≡ set (replicate (length (now (part .entry))) 0) 0 (cond crowded 255 0) ⌝ }
 {
-    zero_fill(&mut part[..]);
+    zero_fill(part);
     part[0] = if crowded { 255 } else { 0 };
 }
 

@@ -61,9 +61,9 @@ pub fn clear_areas(
         × (length (now clipped) ≡ clipped-length (card-of (paper s))) × (length (now buckets) ≡ buckets-length (card-of (paper s))) × (length (now side) ≡ side-length (card-of (paper s))) ⌝ }
     ensures { λ _. ⌜ record { ledger = now (ledger .exit); true-counts = now («true_counts» .exit); clipped-counts = now (clipped .exit); buckets = now (buckets .exit); side-store = now (side .exit) } ≡ layout (card-of (paper s)) [] ⌝ }
 {
-    zero_fill(&mut ledger[..]);
-    placing::zero_counts(&mut true_counts[..]);
-    zero_fill(&mut clipped[..]);
-    zero_fill(&mut buckets[..]);
-    zero_fill(&mut side[..]);
+    zero_fill(ledger);
+    placing::zero_counts(true_counts);
+    zero_fill(clipped);
+    zero_fill(buckets);
+    zero_fill(side);
 }
