@@ -1,4 +1,4 @@
--- A call as data, and what comes back, as the code holds them. Assumes nothing.
+-- A call as data, and what comes back, as the code holds them.
 use mathlib.Core.List.{List}
 use Prim.Native.Nat.{ℕ}
 use Rattle.theory.specs.Ledger as plain

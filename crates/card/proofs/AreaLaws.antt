@@ -1,4 +1,4 @@
--- An area whose every number was stored is the list of what was stored. Assumes nothing.
+-- An area whose every number was stored is the list of what was stored.
 use mathlib.Core.Path.{_≡_, refl, sym, ap, _∙_}
 use mathlib.Core.List.{List, [], _∷_, _++_}
 use Prim.Native.Nat.{ℕ, _-_}

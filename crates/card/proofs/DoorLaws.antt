@@ -1,4 +1,4 @@
--- What each door's definition gives at each outcome. Assumes nothing.
+-- What each door's definition gives at each outcome.
 use mathlib.Core.Path.{_≡_, sym, ap, subst, _∙_}
 use mathlib.Core.Bool.{true, false}
 use mathlib.Core.List.{List, [], _∷_}

@@ -1,4 +1,4 @@
--- Laws of the doors of search and tally: each answer is `perform`'s. Assumes nothing.
+-- Laws of the doors of search and tally: each answer is `perform`'s.
 use mathlib.Core.Path.{_≡_, refl, sym, ap}
 use mathlib.Core.Bool.{Bool, true, false, not, _&&_, _||_}
 use mathlib.Core.List.{List, [], _∷_}

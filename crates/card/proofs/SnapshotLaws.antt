@@ -1,4 +1,4 @@
--- Laws of the door of load: what it hands back is what loading gives. Assumes nothing.
+-- Laws of the door of load: what it hands back is what loading gives.
 use mathlib.Core.Path.{_≡_}
 use mathlib.Core.Bool.{cond}
 use mathlib.Core.List.{List}

@@ -1,4 +1,4 @@
--- What each door answers on every input: its number, and each lent area as the call leaves it. Assumes nothing.
+-- What each door answers on every input: its number, and each lent area as the call leaves it.
 use mathlib.Core.Bool.{Bool, cond}
 use mathlib.Core.List.{List, [], _∷_, _++_, map}
 use Prim.Native.Nat.{ℕ, _-_, _^_}

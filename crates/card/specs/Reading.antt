@@ -1,4 +1,4 @@
--- What the doors of search and tally answer on every input. Assumes nothing.
+-- What the doors of search and tally answer on every input.
 use mathlib.Core.Bool.{cond}
 use mathlib.Core.List.{List, [], _∷_}
 use Prim.Native.Nat.{ℕ}

@@ -1,4 +1,4 @@
--- What the door of load answers on every input. Assumes nothing.
+-- What the door of load answers on every input.
 use mathlib.Core.Bool.{cond, not}
 use mathlib.Core.List.{List}
 use Prim.Native.Nat.{ℕ}

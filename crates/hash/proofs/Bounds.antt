@@ -1,5 +1,4 @@
 -- H is below 2^64, and H of a key of zeros is 0: each row is below 2^64, and xor keeps the bound.
--- Assumes nothing.
 use mathlib.Core.Path.{_≡_, refl, ap₂}
 use mathlib.Core.List.{List, [], _∷_}
 use Prim.Native.Nat.{ℕ, zero, suc, _*_, _/_, _%_, _^_, _<_}

@@ -1,4 +1,4 @@
--- Written by bin/hash-constants. The constants of src/rows.rt and src/entries.rt as lists. Assumes nothing.
+-- Written by bin/hash-constants. The constants of src/rows.rt and src/entries.rt as lists.
 use mathlib.Core.List.{List, [], _∷_}
 use Prim.Native.Nat.{ℕ}
 

@@ -1,5 +1,4 @@
 -- H byte by byte: what a loop up the key's bytes with a table asks, and what straight code down the bytes with the constant rows asks.
--- Assumes nothing.
 use mathlib.Core.Path.{_≡_, refl, sym, ap, ap₂, _∙_}
 use mathlib.Core.List.{List, [], _∷_}
 use Prim.Native.Nat.{ℕ, suc, _+_, _*_, _<_, _≤_}

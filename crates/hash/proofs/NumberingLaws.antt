@@ -1,5 +1,4 @@
 -- What the loops that look for a number and gather bucket numbers ask: repeats dropped with one number more, and zeros after the numbers.
--- Assumes nothing.
 use mathlib.Core.Path.{_≡_, refl, ap, _∙_}
 use mathlib.Core.Bool.{Bool, true, false, cond, _||_, or-false}
 use mathlib.Core.List.{List, [], _∷_, _++_, map, map-append, append-nil}

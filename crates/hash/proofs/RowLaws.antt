@@ -1,5 +1,4 @@
 -- A list whose numbers follow one another by xorshift64 is the rows from some row on: one test of the list, and what it gives.
--- Assumes nothing.
 use mathlib.Core.Path.{_≡_, refl, sym, ap, ap₂, _∙_, subst}
 use mathlib.Core.Bool.{Bool, true, _&&_}
 use mathlib.Core.List.{List, [], _∷_}

@@ -1,4 +1,4 @@
--- A key's bucket numbers, as the code holds them. Assumes nothing.
+-- A key's bucket numbers, as the code holds them.
 use mathlib.Core.Path.{_≡_}
 use mathlib.Core.List.{List}
 use Prim.Native.Nat.{ℕ, _-_, _≤_}

@@ -1,5 +1,5 @@
 -- The three edits. A ledger area within the rules is the ledger area of its records (`valid-is`): a count, the records before a place, those from it on, zeros.
--- So what the code moves, fills and counts is the ledger area of the new list. Assumes nothing.
+-- So what the code moves, fills and counts is the ledger area of the new list.
 use mathlib.Core.Path.{_≡_, refl, sym, ap, _∙_, subst}
 use mathlib.Core.Bool.{false, not}
 use mathlib.Core.List.{List, [], _∷_, _++_, append-assoc}

@@ -1,5 +1,5 @@
 -- What the loops over bytes ask: each test of two keys, or of the bytes of a part, from one place on, by the byte there and the test from the next;
--- and of two keys by words of eight bytes. Assumes nothing.
+-- and of two keys by words of eight bytes.
 use mathlib.Core.Path.{_≡_, refl, sym, ap, _∙_}
 use mathlib.Core.Bool.{Bool, true, false, _&&_, _||_, true≢false}
 use mathlib.Core.List.{List, [], _∷_, _++_}

@@ -1,4 +1,4 @@
--- A ledger area of its length: where its records lie, and what its rules come to in the order in which the code judges them. Assumes nothing.
+-- A ledger area of its length: where its records lie, and what its rules come to in the order in which the code judges them.
 use mathlib.Core.Path.{_≡_, _∙_}
 use mathlib.Core.Bool.{true, false, not, _||_}
 use mathlib.Core.List.{List}

@@ -1,4 +1,4 @@
--- Numbers of two, four and eight bytes, high byte first: read byte by byte, and written byte by byte. Assumes nothing.
+-- Numbers of two, four and eight bytes, high byte first: read byte by byte, and written byte by byte.
 use mathlib.Core.Path.{_≡_, refl, _∙_}
 use mathlib.Core.List.{List, [], _∷_, _++_}
 use Prim.Native.Nat.{ℕ, suc, _+_, _-_, _*_, _/_, _%_, _≤_, _<_}

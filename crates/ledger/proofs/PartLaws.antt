@@ -1,4 +1,4 @@
--- A part of an area that is lent: what a part read to the end is, and the area once a part is back as other bytes. Assumes nothing.
+-- A part of an area that is lent: what a part read to the end is, and the area once a part is back as other bytes.
 use mathlib.Core.Path.{_≡_}
 use mathlib.Core.List.{List, _++_, append-nil}
 use Prim.Native.Nat.{ℕ, _+_, _-_, _≤_}

@@ -1,4 +1,4 @@
--- What the loops over records in bytes ask: the next record, the records from a place on, and that there is room for them. Assumes nothing.
+-- What the loops over records in bytes ask: the next record, the records from a place on, and that there is room for them.
 use mathlib.Core.Path.{_≡_, refl}
 use mathlib.Core.Bool.{true, _&&_}
 use mathlib.Core.List.{List, _∷_}

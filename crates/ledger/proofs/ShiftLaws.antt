@@ -1,4 +1,4 @@
--- Bytes moved up or down by a size, one byte a turn: how each turn extends what has moved, and what the area is once the gap is filled. Assumes nothing.
+-- Bytes moved up or down by a size, one byte a turn: how each turn extends what has moved, and what the area is once the gap is filled.
 use mathlib.Core.Path.{_≡_, sym, ap, _∙_, subst}
 use mathlib.Core.List.{List, [], _∷_, _++_, append-assoc}
 use Prim.Native.Nat.{ℕ, suc, _+_, _-_, _≤_, _<_}

@@ -1,6 +1,6 @@
 -- A list of records in rising key order, cut at a place: before it all are below a key, from it on none is. Then the key's record stands at the place or nowhere,
 -- and a record of the key is put in, taken out or changed there. A search by halves finds the place.
--- Callers cite `search-room` and `search-rises` for what `find_spot` requires on a ledger area, and `ledger-spot` for what it ensures. Assumes nothing.
+-- Callers cite `search-room` and `search-rises` for what `find_spot` requires on a ledger area, and `ledger-spot` for what it ensures.
 use mathlib.Core.Path.{_≡_, refl, sym, ap, _∙_, subst}
 use mathlib.Core.Bool.{Bool, true, false, cond, not, or-false, true≢false, false≢true}
 use mathlib.Core.List.{List, [], _∷_, _++_, map}

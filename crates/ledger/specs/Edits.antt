@@ -1,5 +1,4 @@
 -- What the three edits are given and what they make: a ledger area within the rules, and a list of records with one more, one less or one other at a place.
--- Assumes nothing.
 use mathlib.Core.Path.{_≡_}
 use mathlib.Core.Bool.{true, false}
 use mathlib.Core.List.{List, _∷_, _++_}

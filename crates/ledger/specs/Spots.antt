@@ -1,4 +1,4 @@
--- What a spot says of a key and a list of records: whether the key is held, and at which place its record stands or belongs. Assumes nothing.
+-- What a spot says of a key and a list of records: whether the key is held, and at which place its record stands or belongs.
 use mathlib.Core.Path.{_≡_}
 use mathlib.Core.Bool.{true, false}
 use mathlib.Core.List.{List}

@@ -1,4 +1,4 @@
--- The number that bytes are, low byte first, as the processor loads a word. Only a comparison uses it. Assumes nothing.
+-- The number that bytes are, low byte first, as the processor loads a word. Only a comparison uses it.
 use mathlib.Core.List.{List, [], _∷_}
 use Prim.Native.Nat.{ℕ, _+_, _*_}
 

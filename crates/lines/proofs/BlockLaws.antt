@@ -1,4 +1,4 @@
--- Laws of the lines of an input: after i of k calls the lines so far stand at the start of the buffer, and the rest is still to come. Assumes nothing.
+-- Laws of the lines of an input: after i of k calls the lines so far stand at the start of the buffer, and the rest is still to come.
 use mathlib.Core.Path.{_≡_, refl, sym, ap, _∙_}
 use mathlib.Core.List.{List, _++_, append-assoc, append-nil}
 use Prim.Native.Nat.{ℕ, suc, _+_, _-_, _*_, _≤_, _<_, min}

@@ -1,4 +1,4 @@
--- Laws of a line: the class that is shown, and the six fields one after another. Assumes nothing.
+-- Laws of a line: the class that is shown, and the six fields one after another.
 use mathlib.Core.Path.{_≡_, sym, ap, subst}
 use mathlib.Core.Logic.{_≢_}
 use mathlib.Core.List.{List, [], _∷_, _++_}

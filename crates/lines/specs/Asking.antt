@@ -1,4 +1,4 @@
--- What a call's letter asks for, as the code holds it. Assumes nothing.
+-- What a call's letter asks for, as the code holds it.
 use mathlib.Core.List.{List}
 use mathlib.Core.Option.{Option, none, some}
 use Prim.Native.Nat.{ℕ}

@@ -1,4 +1,4 @@
--- Lines in a buffer, and the areas that the calls leave. Assumes nothing.
+-- Lines in a buffer, and the areas that the calls leave.
 use mathlib.Core.Path.{_≡_}
 use mathlib.Core.List.{List}
 use Prim.Native.Nat.{ℕ}

@@ -1,4 +1,4 @@
--- Laws of what both searches judge first, and of what they then give: each is `perform`'s. Assumes nothing.
+-- Laws of what both searches judge first, and of what they then give: each is `perform`'s.
 use mathlib.Core.Path.{_≡_, sym, ap, _∙_}
 use mathlib.Core.Bool.{Bool, true, false, cond, not, _&&_}
 use mathlib.Core.List.{List, []}

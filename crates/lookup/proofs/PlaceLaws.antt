@@ -1,4 +1,4 @@
--- Laws of where a search looks: each test of the code is the definition's. Assumes nothing.
+-- Laws of where a search looks: each test of the code is the definition's.
 use mathlib.Core.Path.{_≡_, refl, sym, ap, _∙_}
 use mathlib.Core.Bool.{Bool, true, false, cond, not}
 use mathlib.Core.List.{List, [], _∷_}

@@ -1,4 +1,4 @@
--- Laws of a scan of records: what is left of it finds and compares what the whole does. Assumes nothing.
+-- Laws of a scan of records: what is left of it finds and compares what the whole does.
 use mathlib.Core.Path.{_≡_, refl, sym, ap, _∙_, subst}
 use mathlib.Core.Bool.{Bool, true, false, cond, false≢true}
 use mathlib.Core.List.{List}

@@ -1,4 +1,4 @@
--- Laws of tally: each loop over the buckets counts what the definition counts. Assumes nothing.
+-- Laws of tally: each loop over the buckets counts what the definition counts.
 use mathlib.Core.Path.{_≡_, refl, sym, _∙_}
 use mathlib.Core.Bool.{Bool, true, false, cond, not, _&&_, _||_}
 use mathlib.Core.List.{List, [], _∷_, map}

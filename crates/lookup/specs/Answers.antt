@@ -1,4 +1,4 @@
--- What the search calls answer, as the code holds it. Assumes nothing.
+-- What the search calls answer, as the code holds it.
 use mathlib.Core.Bool.{cond, not}
 use mathlib.Core.List.{List, []}
 use Prim.Native.Nat.{ℕ}

@@ -1,4 +1,4 @@
--- What the counters of a key say, as the code holds it. Assumes nothing.
+-- What the counters of a key say, as the code holds it.
 use mathlib.Core.Path.{_≡_}
 use mathlib.Core.List.{List}
 use Prim.Native.Nat.{ℕ}

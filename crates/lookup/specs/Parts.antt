@@ -1,4 +1,4 @@
--- The part that the second search call hands back, with its place in memory. Assumes nothing.
+-- The part that the second search call hands back, with its place in memory.
 use mathlib.Core.Path.{_≡_}
 use mathlib.Core.Bool.{Bool, true, false}
 use mathlib.Core.List.{List, []}

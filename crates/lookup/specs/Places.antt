@@ -1,4 +1,4 @@
--- Where a search looks, as the code holds it. Assumes nothing.
+-- Where a search looks, as the code holds it.
 use mathlib.Core.Path.{_≡_}
 use mathlib.Core.Bool.{Bool, true, false, cond, not}
 use mathlib.Core.List.{List}

@@ -1,4 +1,4 @@
--- Where a scan of records ended, as the code holds it. Assumes nothing.
+-- Where a scan of records ended, as the code holds it.
 use mathlib.Core.Path.{_≡_}
 use mathlib.Core.Bool.{true, cond}
 use mathlib.Core.List.{List}

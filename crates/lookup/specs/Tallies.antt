@@ -1,4 +1,4 @@
--- What tally gives, as the code holds it. Assumes nothing.
+-- What tally gives, as the code holds it.
 use mathlib.Core.List.{List, []}
 use Prim.Native.Nat.{ℕ}
 use Rattle.theory.specs.Layout.{Areas}

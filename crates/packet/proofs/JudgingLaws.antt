@@ -1,4 +1,4 @@
--- What judging a packet gives: the facts that reading counts on, and the answer of `read-packet` at each outcome. Assumes nothing.
+-- What judging a packet gives: the facts that reading counts on, and the answer of `read-packet` at each outcome.
 use mathlib.Core.Path.{_≡_, refl}
 use mathlib.Core.Bool.{Bool, true, false, cond, not, _||_}
 use mathlib.Core.List.{List}

@@ -1,4 +1,4 @@
--- A key written part by part: each part goes behind what is written already. Addresses of w bytes, four bytes of ports, one of the protocol. Assumes nothing.
+-- A key written part by part: each part goes behind what is written already. Addresses of w bytes, four bytes of ports, one of the protocol.
 use mathlib.Core.Path.{_≡_, sym, ap, _∙_}
 use mathlib.Core.List.{List, [], _∷_, _++_, append-assoc}
 use Prim.Native.Nat.{ℕ, suc, _+_, _≤_}

@@ -1,4 +1,4 @@
--- The packet's own refusals as one number, and what reading may count on in a packet that is not refused. Assumes nothing.
+-- The packet's own refusals as one number, and what reading may count on in a packet that is not refused.
 use mathlib.Core.Path.{_≡_}
 use mathlib.Core.Bool.{true, cond}
 use mathlib.Core.List.{List}

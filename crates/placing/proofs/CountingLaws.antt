@@ -1,5 +1,5 @@
 -- What the loops that count ask: what passes a test, with one element more, and a count raised once for each bucket number of a key.
--- By the last element of a list that grows at its end. Assumes nothing.
+-- By the last element of a list that grows at its end.
 use mathlib.Core.Path.{_≡_, refl, sym}
 use mathlib.Core.Bool.{Bool, true, false, cond, _||_, or-assoc, or-false}
 use mathlib.Core.List.{List, [], _∷_, _++_, map, map-append}

@@ -1,5 +1,5 @@
 -- What allowed settings and the right table give: the card is sound, and a key's bucket numbers and its choice are those of its hashes.
--- From the laws of settings. Assumes nothing.
+-- From the laws of settings.
 use mathlib.Core.Path.{_≡_, sym, _∙_}
 use mathlib.Core.Bool.{true, false}
 use mathlib.Core.List.{List, map}

@@ -1,5 +1,5 @@
 -- What the loops over the records of an area ask: the next record and its key, and what is counted of the records, with one record more.
--- By the last record of a list that grows at its end. Assumes nothing.
+-- By the last record of a list that grows at its end.
 use mathlib.Core.Path.{_≡_, refl, sym, ap, _∙_}
 use mathlib.Core.Bool.{Bool, cond, not, _&&_}
 use mathlib.Core.List.{List, [], _∷_, _++_, map-append}

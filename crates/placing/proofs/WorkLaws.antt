@@ -1,5 +1,5 @@
 -- What is asked of the work area and of the kept choices: parts lent and back, and that a list whose counts, choosers and choices they hold is placed
--- as the definitions place it, since the counts, as functions of every bucket, are those of the list. Assumes nothing.
+-- as the definitions place it, since the counts, as functions of every bucket, are those of the list.
 use mathlib.Core.Path.{_≡_, refl, ap, _∙_}
 use mathlib.Core.Bool.{Bool, cond}
 use mathlib.Core.List.{List, [], _∷_, _++_, append-nil, append-assoc}

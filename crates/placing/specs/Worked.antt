@@ -1,4 +1,4 @@
--- What the work area holds once a list is placed, and the list that a call would make as it lies in memory. Assumes nothing.
+-- What the work area holds once a list is placed, and the list that a call would make as it lies in memory.
 use mathlib.Core.Path.{_≡_}
 use mathlib.Core.Bool.{Bool, cond, _||_}
 use mathlib.Core.List.{List, _++_, map}

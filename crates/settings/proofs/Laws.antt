@@ -1,5 +1,5 @@
 -- What callers cite: what `Settings::new` tells in each arm, what the sizes and lengths are, and their bounds.
--- The first by the two values of the test, the second by unfolding, the third from the ranges. Assumes nothing.
+-- The first by the two values of the test, the second by unfolding, the third from the ranges.
 use mathlib.Core.Path.{_≡_, refl, sym, ap, _∙_}
 use mathlib.Core.Bool.{Bool, true, false, cond}
 use Prim.Native.Nat.{ℕ, _+_, _*_, _/_, _%_, _^_, _≤_, _<_}

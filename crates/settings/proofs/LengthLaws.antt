@@ -1,4 +1,4 @@
--- Laws of the lengths that a call is lent: they are judged as the definitions say, and areas of these lengths are sized. Assumes nothing.
+-- Laws of the lengths that a call is lent: they are judged as the definitions say, and areas of these lengths are sized.
 use mathlib.Core.Path.{_≡_}
 use mathlib.Core.Bool.{true, and-true}
 use lib.Dec.{eqb}

@@ -1,4 +1,4 @@
--- The settings of the code and those of the paper, field by field, and what checking six numbers answers. Assumes nothing.
+-- The settings of the code and those of the paper, field by field, and what checking six numbers answers.
 use mathlib.Core.Bool.{cond}
 use Prim.Native.Nat.{ℕ}
 use Rattle.theory.specs.Settings as plain

@@ -1,4 +1,4 @@
--- The lengths of the five areas that a call is lent, as the code holds them. Assumes nothing.
+-- The lengths of the five areas that a call is lent, as the code holds them.
 use mathlib.Core.Bool.{Bool, _&&_}
 use Prim.Native.Nat.{ℕ}
 use lib.Dec.{eqb}

@@ -1,4 +1,4 @@
--- Laws of a file as it is read: its head, its settings, its second count, and the refusals that it decides alone. Assumes nothing.
+-- Laws of a file as it is read: its head, its settings, its second count, and the refusals that it decides alone.
 use mathlib.Core.Path.{_≡_, refl, sym, _∙_}
 use mathlib.Core.Bool.{Bool, true, false, cond, not}
 use mathlib.Core.List.{List}

@@ -1,4 +1,4 @@
--- Laws of loading: the ledger area and the layout of a file's records, and each answer is `load`'s. Assumes nothing.
+-- Laws of loading: the ledger area and the layout of a file's records, and each answer is `load`'s.
 use mathlib.Core.Path.{_≡_, _∙_}
 use mathlib.Core.Bool.{true, false, cond, not, _&&_}
 use mathlib.Core.List.{List, _++_, map, append-assoc}

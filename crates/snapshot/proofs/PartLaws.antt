@@ -1,4 +1,4 @@
--- Laws of a list that lies in one area. Assumes nothing.
+-- Laws of a list that lies in one area.
 use mathlib.Core.Path.{_≡_}
 use mathlib.Core.List.{List, append-nil}
 use Prim.Native.Nat.{ℕ, _*_, _≤_}

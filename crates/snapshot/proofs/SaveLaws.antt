@@ -1,4 +1,4 @@
--- Laws of saving: eight numbers put one after the other are the head, with the records' bytes the snapshot; and each answer is `save`'s. Assumes nothing.
+-- Laws of saving: eight numbers put one after the other are the head, with the records' bytes the snapshot; and each answer is `save`'s.
 use mathlib.Core.Path.{_≡_, refl, sym, ap, _∙_}
 use mathlib.Core.Bool.{true, false, cond, not, _&&_, and-true}
 use mathlib.Core.List.{List, [], _∷_, _++_, append-assoc, append-nil}

@@ -1,4 +1,4 @@
--- What save and load share with a file as the code reads and writes it. Assumes nothing.
+-- What save and load share with a file as the code reads and writes it.
 use mathlib.Core.Path.{_≡_}
 use mathlib.Core.Bool.{cond, not}
 use mathlib.Core.List.{List, _++_}

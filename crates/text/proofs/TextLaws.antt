@@ -1,4 +1,4 @@
--- Laws of text at the start of a buffer: a number's digits, and one text after another. Assumes nothing.
+-- Laws of text at the start of a buffer: a number's digits, and one text after another.
 use mathlib.Core.Path.{_≡_, refl, sym, ap, subst, _∙_}
 use mathlib.Core.List.{List, [], _∷_, _++_, append-assoc}
 use Prim.Native.Nat.{ℕ, zero, suc, _+_, _-_, _*_, _/_, _%_, _^_, _≤_, _<_}

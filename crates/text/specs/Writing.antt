@@ -1,4 +1,4 @@
--- Text at the start of a buffer. Assumes nothing.
+-- Text at the start of a buffer.
 use mathlib.Core.Path.{_≡_}
 use mathlib.Core.List.{List, _++_}
 use Prim.Native.Nat.{ℕ}

@@ -1,4 +1,4 @@
--- Laws of bytes: numbers and records written and read back, and read and written back. Assumes nothing.
+-- Laws of bytes: numbers and records written and read back, and read and written back.
 use mathlib.Core.Path.{_≡_, refl, sym, ap}
 use mathlib.Core.List.{List, [], _∷_, _++_, append-assoc}
 use Prim.Native.Nat.{ℕ, zero, suc, _+_, _*_, _/_, _%_, _^_, _≤_, _<_}

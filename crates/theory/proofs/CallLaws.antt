@@ -1,4 +1,4 @@
--- Laws of the calls on a card: on the layout of a list each call answers, and leaves the areas, as the plain ledger says. Assumes nothing.
+-- Laws of the calls on a card: on the layout of a list each call answers, and leaves the areas, as the plain ledger says.
 use mathlib.Core.Path.{_≡_, refl, ap, _∙_}
 use mathlib.Core.Bool.{Bool, true, false, cond, not, _&&_, _||_, and-false}
 use mathlib.Core.List.{List, [], _∷_, _++_, map, append-assoc}

@@ -1,5 +1,5 @@
 -- The cases of document 01, 'Proved about the definitions', as one table: what the definitions compute, and what the paper says. One test over the table, and a
--- lemma that gives each row. Assumes nothing.
+-- lemma that gives each row.
 use mathlib.Core.Path.{_≡_, refl}
 use mathlib.Core.Bool.{Bool, true}
 use mathlib.Core.List.{List, [], _∷_, map}

@@ -1,4 +1,4 @@
--- The demands of specs/Demands.antt, but for the two on snapshots, which SnapshotLaws proves. Assumes nothing.
+-- The demands of specs/Demands.antt, but for the two on snapshots, which SnapshotLaws proves.
 use mathlib.Core.Path.{_≡_, refl, sym, ap, _∙_}
 use mathlib.Core.Logic.{_≢_}
 use mathlib.Core.Bool.{Bool, true, false, cond, not, false≢true}

@@ -1,4 +1,4 @@
--- Laws of flowrun's text: a number's digits, the length of a line, lines printed in blocks, and that they are the plain ledger's answers. Assumes nothing.
+-- Laws of flowrun's text: a number's digits, the length of a line, lines printed in blocks, and that they are the plain ledger's answers.
 use mathlib.Core.Path.{_≡_, refl}
 use mathlib.Core.Bool.{true}
 use mathlib.Core.List.{List, [], _∷_, _++_, append-assoc}

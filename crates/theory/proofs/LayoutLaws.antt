@@ -1,4 +1,4 @@
--- Laws of the layout: the lengths of its areas, and what is read back from them. Assumes nothing.
+-- Laws of the layout: the lengths of its areas, and what is read back from them.
 use mathlib.Core.Path.{_≡_, refl, ap, _∙_}
 use mathlib.Core.Logic.{_≢_}
 use mathlib.Core.Bool.{Bool, true, false, cond}

@@ -1,4 +1,4 @@
--- Laws of what a call is lent: contracts speak of those areas alone, `run` of all five. Assumes nothing.
+-- Laws of what a call is lent: contracts speak of those areas alone, `run` of all five.
 use mathlib.Core.Path.{_≡_, refl, sym, ap, _∙_}
 use mathlib.Core.Bool.{true}
 use mathlib.Core.List.{List, _∷_}

@@ -1,4 +1,4 @@
--- Laws of lists by Boolean tests. Assumes nothing.
+-- Laws of lists by Boolean tests.
 use mathlib.Core.Path.{_≡_, refl, sym, ap, _∙_, subst}
 use mathlib.Core.Logic.{_≢_}
 use mathlib.Core.Bool.{Bool, true, false, cond, not, _&&_, _||_, true≢false, false≢true}

@@ -1,4 +1,4 @@
--- Laws of search: over the bytes of a list's layout both search calls give what the plain ledger gives. Assumes nothing.
+-- Laws of search: over the bytes of a list's layout both search calls give what the plain ledger gives.
 use mathlib.Core.Path.{_≡_, refl, ap, _∙_}
 use mathlib.Core.Bool.{Bool, true, false, cond}
 use mathlib.Core.List.{List, map}

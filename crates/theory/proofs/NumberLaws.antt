@@ -1,4 +1,4 @@
--- Laws of bucket numbers: repeats dropped, none lost. Assumes nothing.
+-- Laws of bucket numbers: repeats dropped, none lost.
 use mathlib.Core.Path.{_≡_, refl, sym, ap, _∙_}
 use mathlib.Core.Bool.{Bool, true, false, not, _&&_, _||_, true≢false}
 use mathlib.Core.List.{List, [], _∷_}

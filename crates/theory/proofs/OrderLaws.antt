@@ -1,4 +1,4 @@
--- Laws of the order of keys, and of a rising list that gains, changes or loses a record. Assumes nothing.
+-- Laws of the order of keys, and of a rising list that gains, changes or loses a record.
 use mathlib.Core.Path.{_≡_, refl, sym, ap, _∙_}
 use mathlib.Core.Logic.{_≢_}
 use mathlib.Core.Bool.{Bool, true, false, cond, _&&_, _||_, true≢false, false≢true}

@@ -1,4 +1,4 @@
--- Laws of placing: clipped counts choose as the counts do; a held key has no zero counter; a key's record lies where the key is looked for. Assumes nothing.
+-- Laws of placing: clipped counts choose as the counts do; a held key has no zero counter; a key's record lies where the key is looked for.
 use mathlib.Core.Path.{_≡_, refl, sym, ap, _∙_}
 use mathlib.Core.Logic.{_≢_, _⊎_, inl, inr}
 use mathlib.Core.Bool.{Bool, true, false, cond, _&&_, true≢false, false≢true}

@@ -1,5 +1,5 @@
 -- A key's counters, ranked: the least of counter and bucket number as one number has the least counter and the lowest bucket with it, and repeated hashes
--- alter nothing. For any counters; the loops over a key's hashes in placing and in search cite these laws. Assumes nothing.
+-- alter nothing. For any counters; the loops over a key's hashes in placing and in search cite these laws.
 use mathlib.Core.Path.{_≡_, refl, sym, _∙_}
 use mathlib.Core.Bool.{Bool, true, false, _||_, or-assoc, or-false, true≢false}
 use mathlib.Core.List.{List, [], _∷_, map}

@@ -1,4 +1,4 @@
--- Laws of settings: allowed settings make a sound card. Assumes nothing.
+-- Laws of settings: allowed settings make a sound card.
 use mathlib.Core.Path.{_≡_}
 use mathlib.Core.Bool.{true}
 use mathlib.Core.List.{List, [], map}

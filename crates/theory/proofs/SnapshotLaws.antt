@@ -1,4 +1,4 @@
--- Laws of snapshots: what was saved loads to the same settings and flows, and a file that loads is the one that saving then writes. Assumes nothing.
+-- Laws of snapshots: what was saved loads to the same settings and flows, and a file that loads is the one that saving then writes.
 use mathlib.Core.Path.{_≡_, refl, sym, ap, _∙_}
 use mathlib.Core.Bool.{Bool, true, false, cond, not}
 use mathlib.Core.List.{List, [], _∷_, _++_, append-assoc, append-nil}

@@ -1,4 +1,4 @@
--- Document 01, 'The calls' and 'Who brings on a refusal': the seven calls on areas with any contents and any lengths, and lists of calls. Assumes nothing.
+-- Document 01, 'The calls' and 'Who brings on a refusal': the seven calls on areas with any contents and any lengths, and lists of calls.
 use mathlib.Core.Bool.{Bool, true, false, cond, not, _&&_, _||_}
 use mathlib.Core.List.{List, [], _∷_, map}
 use Prim.Native.Nat.{ℕ, _+_, _*_}

@@ -1,6 +1,6 @@
 -- The three demands as statements in the words of the other files of this folder, and what they assume of records, lists, areas and calls. The name of the law
 -- that proves a statement stands at it: `load-save` and `save-load` are in proofs/SnapshotLaws.antt, `as-lent` is in proofs/LentLaws.antt, the others are in
--- proofs/Demands.antt. Assumes nothing.
+-- proofs/Demands.antt.
 use mathlib.Core.Path.{_≡_}
 use mathlib.Core.Logic.{_≢_}
 use mathlib.Core.Bool.{Bool, true, not, _&&_}

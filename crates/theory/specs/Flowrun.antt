@@ -1,4 +1,4 @@
--- Document 01, 'Program flowrun': the text that the program prints for the bytes of its input. Assumes nothing.
+-- Document 01, 'Program flowrun': the text that the program prints for the bytes of its input.
 use mathlib.Core.Bool.{cond, not}
 use mathlib.Core.List.{List, [], _∷_, _++_}
 use mathlib.Core.Option.{Option, none, some}

@@ -1,4 +1,4 @@
--- Document 01, 'Settings and areas' and 'Placing': the bytes of the five areas that a list of records lays out. Assumes nothing.
+-- Document 01, 'Settings and areas' and 'Placing': the bytes of the five areas that a list of records lays out.
 use mathlib.Core.List.{List, _∷_, _++_, map}
 use Prim.Native.Nat.{ℕ, _+_, _-_, _*_, _/_}
 use lib.ListN.{length, replicate}

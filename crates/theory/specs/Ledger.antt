@@ -1,5 +1,5 @@
 -- Document 01, 'The plain ledger': a list of records in rising key order, and what each call makes of it. It is fed the settings and, of each call, the kind,
--- the key and the class; it never sees an area. Assumes nothing.
+-- the key and the class; it never sees an area.
 use mathlib.Core.Bool.{Bool, cond, not}
 use mathlib.Core.List.{List, [], _∷_, map}
 use mathlib.Core.Option.{Option}

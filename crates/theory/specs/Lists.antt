@@ -1,4 +1,4 @@
--- Functions on lists that the definitions of document 01 are made of: tests are Booleans, counts are lengths of what passes. Assumes nothing.
+-- Functions on lists that the definitions of document 01 are made of: tests are Booleans, counts are lengths of what passes.
 use mathlib.Core.Bool.{Bool, true, false, cond, _&&_, _||_}
 use mathlib.Core.List.{List, [], _∷_, _++_}
 use Prim.Native.Nat.{ℕ, zero, suc, _+_, min}

@@ -1,4 +1,4 @@
--- Document 01, 'The calls': both search calls over the lookup areas (clipped counts, buckets, side store) with any contents. Assumes nothing.
+-- Document 01, 'The calls': both search calls over the lookup areas (clipped counts, buckets, side store) with any contents.
 use mathlib.Core.Bool.{Bool, true, false, cond, not, _&&_, _||_}
 use mathlib.Core.List.{List, []}
 use mathlib.Core.Option.{Option, none, some}

@@ -1,4 +1,4 @@
--- Document 01, 'Snapshot, packet, driver': the key of an IPv4 packet (RFC 791). A packet is the lent bytes; its length field is not read. Assumes nothing.
+-- Document 01, 'Snapshot, packet, driver': the key of an IPv4 packet (RFC 791). A packet is the lent bytes; its length field is not read.
 use mathlib.Core.Bool.{Bool, cond, not, _&&_, _||_}
 use mathlib.Core.List.{List, [], _∷_, _++_}
 use Prim.Native.Nat.{ℕ, _*_, _/_, _%_}

@@ -1,5 +1,5 @@
 -- Document 01, 'Placing': which records lie in which bucket and which in the side store. Every definition takes the card s, and those that place take a
--- counter c b for each bucket b: in the base its true count. Assumes nothing.
+-- counter c b for each bucket b: in the base its true count.
 use mathlib.Core.Bool.{Bool, cond, not, _&&_, _||_}
 use mathlib.Core.List.{List, [], map}
 use Prim.Native.Nat.{ℕ, min}

@@ -1,4 +1,4 @@
--- Document 01, 'Settings and areas': records and their bytes, the order of keys, and the record of a key in a list. Assumes nothing.
+-- Document 01, 'Settings and areas': records and their bytes, the order of keys, and the record of a key in a list.
 use mathlib.Core.Bool.{Bool, true, false, cond, _&&_, _||_}
 use mathlib.Core.List.{List, [], _∷_, _++_}
 use mathlib.Core.Option.{Option, none, some}

@@ -1,4 +1,4 @@
--- Document 01, 'Settings and areas': the six settings, their limits, and the lengths of the six areas. Assumes nothing.
+-- Document 01, 'Settings and areas': the six settings, their limits, and the lengths of the six areas.
 use mathlib.Core.Bool.{Bool, _&&_}
 use mathlib.Core.List.{List, [], _∷_}
 use Prim.Native.Nat.{ℕ, _+_, _*_, _/_, _^_}

@@ -1,4 +1,4 @@
--- Document 01, 'Snapshot': a file of settings and records, saved from a ledger area and loaded into every area. Assumes nothing.
+-- Document 01, 'Snapshot': a file of settings and records, saved from a ledger area and loaded into every area.
 use mathlib.Core.Bool.{Bool, cond, not, _||_}
 use mathlib.Core.List.{List, [], _∷_, _++_}
 use Prim.Native.Nat.{ℕ, _+_, _*_}

@@ -1,4 +1,4 @@
--- Laws of the calls with their settings and lengths: each is `perform`'s. Assumes nothing.
+-- Laws of the calls with their settings and lengths: each is `perform`'s.
 use mathlib.Core.Path.{_≡_, refl, _∙_}
 use mathlib.Core.Bool.{true, false, _&&_}
 use mathlib.Core.List.{List, [], _∷_}

@@ -1,4 +1,4 @@
--- Laws of the edits: the list that one makes lies in three areas in a row, and its refusal is the plain ledger's. Assumes nothing.
+-- Laws of the edits: the list that one makes lies in three areas in a row, and its refusal is the plain ledger's.
 use mathlib.Core.Path.{_≡_, refl, sym, _∙_}
 use mathlib.Core.Bool.{false, cond}
 use mathlib.Core.List.{List, [], _∷_, append-nil}

@@ -1,4 +1,4 @@
--- Laws of writing the new list: what stands in the edited ledger is that list, and the five areas are its layout. Assumes nothing.
+-- Laws of writing the new list: what stands in the edited ledger is that list, and the five areas are its layout.
 use mathlib.Core.Path.{_≡_, sym, ap, _∙_}
 use mathlib.Core.Bool.{false}
 use mathlib.Core.List.{List, [], _∷_, _++_, map}

@@ -1,4 +1,4 @@
--- Add, change and remove as one: what they share as the code holds it. Assumes nothing.
+-- Add, change and remove as one: what they share as the code holds it.
 use mathlib.Core.Path.{_≡_}
 use mathlib.Core.Bool.{Bool, true, false, cond, not}
 use mathlib.Core.List.{List}

@@ -1,5 +1,5 @@
 -- What the writers of the buckets ask: the bucket area with no record, with one record more, and with all of them. A record that belongs to the side leaves
--- the area as it is; another changes the part of the bucket that it chooses, and no other part. Assumes nothing.
+-- the area as it is; another changes the part of the bucket that it chooses, and no other part.
 use mathlib.Core.Path.{_≡_, refl, sym, ap, _∙_}
 use mathlib.Core.Bool.{Bool, true, false, cond, not, _&&_}
 use mathlib.Core.List.{List, [], _∷_, _++_, append-assoc, append-nil}

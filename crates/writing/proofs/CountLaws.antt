@@ -1,4 +1,4 @@
--- What the writers of true counts and of clipped counts ask: one byte of clipped counts more, all of them, and the true counts that work holds. Assumes nothing.
+-- What the writers of true counts and of clipped counts ask: one byte of clipped counts more, all of them, and the true counts that work holds.
 use mathlib.Core.Path.{_≡_, refl, sym, ap, _∙_}
 use mathlib.Core.List.{List, [], _∷_, _++_, map, map-append}
 use Prim.Native.Nat.{ℕ, _+_, _*_, _/_, _<_, _≤_, min}

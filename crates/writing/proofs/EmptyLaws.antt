@@ -1,4 +1,4 @@
--- The layout of the empty list is zeros in every area, each of its length. Assumes nothing.
+-- The layout of the empty list is zeros in every area, each of its length.
 use mathlib.Core.Path.{_≡_, refl, ap}
 use mathlib.Core.List.{List, [], _∷_, _++_, map}
 use Prim.Native.Nat.{ℕ, zero, suc, _+_, _*_, _/_}

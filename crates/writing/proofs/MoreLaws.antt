@@ -1,5 +1,4 @@
 -- What a loop that goes up asks: pieces and numbers with one more at the end, pieces of one size with one of them changed, and the first records of an area.
--- Assumes nothing.
 use mathlib.Core.Path.{_≡_, refl, sym, ap, _∙_, subst}
 use mathlib.Core.Logic.{_≢_}
 use mathlib.Core.Bool.{Bool}

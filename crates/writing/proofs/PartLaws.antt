@@ -1,4 +1,4 @@
--- Parts of an area that are lent: their lengths, the area once they are back, and the same parts in other words. Assumes nothing.
+-- Parts of an area that are lent: their lengths, the area once they are back, and the same parts in other words.
 use mathlib.Core.Path.{_≡_}
 use mathlib.Core.List.{List, _++_, append-assoc}
 use Prim.Native.Nat.{ℕ, zero, suc, _+_, _-_, _*_, _≤_, _<_}

@@ -1,4 +1,4 @@
--- What the writers of the side store ask: its record places with none, with one more, and with all that belong to the side. Assumes nothing.
+-- What the writers of the side store ask: its record places with none, with one more, and with all that belong to the side.
 use mathlib.Core.Path.{_≡_, refl, sym, ap, _∙_}
 use mathlib.Core.Bool.{Bool, true, false}
 use mathlib.Core.List.{List, [], _∷_, _++_, append-nil}

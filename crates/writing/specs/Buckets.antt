@@ -1,4 +1,4 @@
--- The bucket area while it is written: a crowded bucket has its mark from the start, and the mark of another counts its records up. Assumes nothing.
+-- The bucket area while it is written: a crowded bucket has its mark from the start, and the mark of another counts its records up.
 use mathlib.Core.Bool.{Bool, cond}
 use mathlib.Core.List.{List, [], _∷_, _++_}
 use Prim.Native.Nat.{ℕ, _+_, _*_}

@@ -1,4 +1,4 @@
--- Clipped counts, two to a byte, over a free top count and a free number of bytes. Assumes nothing.
+-- Clipped counts, two to a byte, over a free top count and a free number of bytes.
 use mathlib.Core.List.{List, map}
 use Prim.Native.Nat.{ℕ, _+_, _*_, min}
 use Rattle.theory.specs.Lists.{upto}

@@ -1,4 +1,4 @@
--- The records that the work area sends to the side. Assumes nothing.
+-- The records that the work area sends to the side.
 use mathlib.Core.List.{List}
 use Prim.Native.Nat.{ℕ}
 use lib.ListN.{take, drop}

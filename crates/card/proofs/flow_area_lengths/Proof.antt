@@ -1,4 +1,4 @@
--- `flow_area_lengths` meets its contract: each outcome is what the definition gives after the same tests. Assumes nothing.
+-- `flow_area_lengths` meets its contract: each outcome is what the definition gives after the same tests.
 use mathlib.Core.Path.{_≡_, ap, _∙_}
 use mathlib.Core.Bool.{true}
 use Rattle.theory.specs.Settings.{Settings, allowed}

@@ -1,4 +1,4 @@
--- `flow_hash` meets its contract: the one number of the area is stored. Assumes nothing.
+-- `flow_hash` meets its contract: the one number of the area is stored.
 use Rattle.card.proofs.AreaLaws.{one-stored}
 use Rattle.card.proofs.DoorLaws.{hash-2, hash-3, hash-0}
 use borrow.Author.Needs.{needs}

@@ -1,4 +1,4 @@
--- `flow_hash_table` meets its contract: `fill_table` writes the whole table. Assumes nothing.
+-- `flow_hash_table` meets its contract: `fill_table` writes the whole table.
 use Rattle.card.proofs.DoorLaws.{hash-table-2, hash-table-0}
 use borrow.Author.Needs.{needs}
 use Rattle.card.proofs.flow_hash_table.Statement.{statement}

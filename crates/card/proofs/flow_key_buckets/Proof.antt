@@ -1,4 +1,4 @@
--- `flow_key_buckets` meets its contract: each outcome is what the definition gives after the same tests. Assumes nothing.
+-- `flow_key_buckets` meets its contract: each outcome is what the definition gives after the same tests.
 use mathlib.Core.Path.{_≡_, ap, _∙_}
 use mathlib.Core.Bool.{true}
 use native.Mathlib.Omega.{arith}

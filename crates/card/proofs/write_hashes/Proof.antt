@@ -1,4 +1,4 @@
--- `write_hashes` meets its contract: all four numbers are stored. Assumes nothing.
+-- `write_hashes` meets its contract: all four numbers are stored.
 use Rattle.card.specs.Doors.{first-hashes}
 use Rattle.card.proofs.AreaLaws.{four-stored}
 use borrow.Author.Needs.{needs}

@@ -1,4 +1,4 @@
--- `write_lengths` meets its contract: all six numbers are stored. Assumes nothing.
+-- `write_lengths` meets its contract: all six numbers are stored.
 use native.Mathlib.Omega.{arith}
 use lib.ListN.{length-set}
 use Rattle.card.specs.Doors.{lengths-of}

@@ -1,4 +1,4 @@
--- `write_numbers` meets its contract: all five numbers are stored. Assumes nothing.
+-- `write_numbers` meets its contract: all five numbers are stored.
 use mathlib.Core.Path.{ap, _∙_}
 use mathlib.Core.List.{List, _∷_}
 use Prim.Native.Nat.{ℕ}

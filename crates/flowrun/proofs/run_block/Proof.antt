@@ -1,4 +1,4 @@
--- `flowrun::run_block` meets its contract: a block of input is within the buffer, and so are its lines. Assumes nothing.
+-- `flowrun::run_block` meets its contract: a block of input is within the buffer, and so are its lines.
 use mathlib.Core.Path.{_≡_}
 use Prim.Native.Nat.{_≤_}
 use native.Mathlib.Omega.{arith}

@@ -1,4 +1,4 @@
--- `flowrun::run_blocks` ends: each block is one of so many. Assumes nothing.
+-- `flowrun::run_blocks` ends: each block is one of so many.
 use mathlib.Core.Path.{_≡_, refl}
 use Prim.Native.Nat.{_-_}
 use native.Mathlib.Omega.{arith}

@@ -1,5 +1,4 @@
 -- `hash::among` meets its contract: x is not among the numbers before i.
--- Assumes nothing.
 use mathlib.Core.Path.{_≡_, refl, sym, _∙_}
 use Prim.Native.Nat.{_≤_, _-_}
 use native.Mathlib.Omega.{arith}

@@ -1,5 +1,4 @@
 -- `hash::byte_rows` meets its contract: each bit's row, one inside the other; the last is xor 0.
--- Assumes nothing.
 use lib.Bits.{xor-zero-r}
 use Rattle.hash.specs.Table.{xor-set}
 use Rattle.hash.proofs.byte_rows.Statement.{statement}

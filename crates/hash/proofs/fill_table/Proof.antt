@@ -1,5 +1,4 @@
 -- `hash::fill_table` meets its contract: the first i entries are copied.
--- Assumes nothing.
 use mathlib.Core.Path.{_≡_, refl, sym, _∙_}
 use mathlib.Core.List.{List}
 use Prim.Native.Nat.{ℕ, _+_, _≤_, _-_, _<_}

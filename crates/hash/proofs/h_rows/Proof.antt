@@ -1,5 +1,4 @@
 -- `hash::h_rows` meets its contract: from the last byte to the first, h is H of the bytes from there on.
--- Assumes nothing.
 use native.Mathlib.Omega.{arith}
 use lib.Dec.{lit<}
 use Rattle.theory.specs.Hash.{H}

@@ -1,5 +1,4 @@
 -- `hash::hash_at` meets its contract: 1 shifted left by p is 2^p, since p is small.
--- Assumes nothing.
 use mathlib.Core.Path.{_≡_, ap, _∙_, subst⁻¹}
 use Prim.Native.Nat.{ℕ, _*_, _/_, _%_, _^_, _<_, _≤_}
 use native.Mathlib.Nat.{one-mul, mod-lt, lt-of-lt-of-le}

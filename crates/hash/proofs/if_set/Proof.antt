@@ -1,5 +1,4 @@
 -- `hash::if_set` meets its contract: the bit is 0 or it is not.
--- Assumes nothing.
 use mathlib.Core.Path.{_≡_, refl, sym, ap}
 use Prim.Native.Nat.{ℕ, zero, suc}
 use Rattle.theory.specs.Hash.{if-set}

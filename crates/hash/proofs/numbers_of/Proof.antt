@@ -1,5 +1,4 @@
 -- `hash::numbers_of` meets its contract: of the first j hashes the new ones are in the first `count` places, and zeros after them.
--- Assumes nothing.
 use mathlib.Core.Path.{_≡_, refl, sym, ap, _∙_}
 use mathlib.Core.List.{[], map}
 use mathlib.Core.Logic.{⊎-elim}

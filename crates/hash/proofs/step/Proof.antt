@@ -1,5 +1,4 @@
 -- `hash::step` meets its contract: what the code computes is the definition.
--- Assumes nothing.
 use mathlib.Core.Path.{refl}
 use Rattle.theory.specs.Hash.{xorshift64}
 use Rattle.hash.proofs.step.Statement.{statement}

@@ -1,5 +1,4 @@
 -- `hash::table` meets its contract: the constant table is the table of the definitions.
--- Assumes nothing.
 use mathlib.Core.Path.{subst⁻¹}
 use mathlib.Core.List.{List}
 use Prim.Native.Nat.{ℕ}

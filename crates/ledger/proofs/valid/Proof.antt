@@ -1,4 +1,4 @@
--- `ledger::valid` meets its contract: each of its three tests is one of the rules, the laws `invalid-many`, `invalid-order` and `invalid-after`. Assumes nothing.
+-- `ledger::valid` meets its contract: each of its three tests is one of the rules, the laws `invalid-many`, `invalid-order` and `invalid-after`.
 use borrow.Author.Needs.{needs}
 use mathlib.Core.Path.{_≡_, sym, ap, _∙_}
 use mathlib.Core.Bool.{not}

@@ -1,4 +1,4 @@
--- `lines::append_line` meets its contract: the law `line-after`. Assumes nothing.
+-- `lines::append_line` meets its contract: the law `line-after`.
 use native.Mathlib.Omega.{arith}
 use Rattle.lines.proofs.LineLaws.{line-after}
 use borrow.Author.Needs.{needs}

@@ -1,4 +1,4 @@
--- `lines::read_letter` meets its contract. Assumes nothing.
+-- `lines::read_letter` meets its contract.
 use Rattle.theory.specs.Flowrun.{letter-call}
 use Rattle.lines.proofs.LineLaws.{no-call}
 use Rattle.lines.proofs.read_letter.Statement.{statement}

@@ -1,4 +1,4 @@
--- `lines::run_call` meets its contract. Assumes nothing.
+-- `lines::run_call` meets its contract.
 use Rattle.lines.proofs.LineLaws.{prints-after}
 use borrow.Author.Needs.{needs}
 use Rattle.lines.proofs.run_call.Statement.{statement}

@@ -1,4 +1,4 @@
--- `lines::run_calls` meets its contract: after i calls, what `Ran` says. Assumes nothing.
+-- `lines::run_calls` meets its contract: after i calls, what `Ran` says.
 use mathlib.Core.Path.{_≡_, refl, ap, _∙_}
 use mathlib.Core.List.{List}
 use Prim.Native.Nat.{ℕ, _+_, _-_, _*_, _≤_}

@@ -1,4 +1,4 @@
--- `lines::show_call` meets its contract. Assumes nothing.
+-- `lines::show_call` meets its contract.
 use lib.ListN.{length, take, drop}
 use Rattle.theory.specs.Flowrun.{flowrun-settings}
 use Rattle.lines.proofs.LineLaws.{shown-left-over, shown-unknown, shown-call}

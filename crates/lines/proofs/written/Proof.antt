@@ -1,4 +1,4 @@
--- `lines::written` meets its contract. Assumes nothing.
+-- `lines::written` meets its contract.
 use borrow.Author.Tests.{ne-eqb}
 use Rattle.theory.specs.Flowrun as flowrun
 use Rattle.lines.proofs.written.Statement.{statement}

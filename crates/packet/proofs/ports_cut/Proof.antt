@@ -1,4 +1,4 @@
--- `packet::ports_cut` meets its contract, by what the header says. Assumes nothing.
+-- `packet::ports_cut` meets its contract, by what the header says.
 use lib.ListN.{length-drop}
 use Rattle.theory.specs.Packet.{ports-cut, after-header}
 use borrow.Author.Needs.{needs}

@@ -1,4 +1,4 @@
--- `packet::read_packet_key` meets its contract: each answer is that of `read-packet` at its outcome. Assumes nothing.
+-- `packet::read_packet_key` meets its contract: each answer is that of `read-packet` at its outcome.
 use mathlib.Core.Path.{sym, _∙_}
 use Rattle.packet.proofs.JudgingLaws.{unrefused-right, keyed-3, keyed-refused, keyed-0}
 use borrow.Author.Needs.{needs}

@@ -1,4 +1,4 @@
--- `packet::refusal` meets its contract, by the two tests. Assumes nothing.
+-- `packet::refusal` meets its contract, by the two tests.
 use mathlib.Core.Path.{sym, _∙_}
 use Rattle.packet.specs.Judging.{refusal-of}
 use Rattle.packet.proofs.JudgingLaws.{header-right}

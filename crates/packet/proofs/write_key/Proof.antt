@@ -1,4 +1,4 @@
--- `packet::write_key` meets its contract: each part is written behind the one before, the law `key-written`. Assumes nothing.
+-- `packet::write_key` meets its contract: each part is written behind the one before, the law `key-written`.
 use mathlib.Core.Path.{_≡_, sym, ap, _∙_}
 use native.Mathlib.Omega.{arith}
 use lib.ListN.{length, length-take, length-drop, length-set}

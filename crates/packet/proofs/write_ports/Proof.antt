@@ -1,4 +1,4 @@
--- `packet::write_ports` meets its contract: what is lent to the port reader is the part after the header. Assumes nothing.
+-- `packet::write_ports` meets its contract: what is lent to the port reader is the part after the header.
 use mathlib.Core.Path.{sym, _∙_}
 use borrow.Author.Tests.{not-true, not-false}
 use Rattle.packet.proofs.JudgingLaws.{no-ports, ports-fit, ports-lent}

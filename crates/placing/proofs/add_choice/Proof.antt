@@ -1,4 +1,4 @@
--- `placing::add_choice` meets its contract: no count changes where all counts are top, else the chosen bucket's is one more. Assumes nothing.
+-- `placing::add_choice` meets its contract: no count changes where all counts are top, else the chosen bucket's is one more.
 use native.Mathlib.Nat.{add-zero}
 use native.Mathlib.Omega.{arith}
 use borrow.Author.Needs.{needs}

@@ -1,4 +1,4 @@
--- `placing::count_parts` meets its contract: the true counts of three lists, added up, are those of the three in a row. Assumes nothing.
+-- `placing::count_parts` meets its contract: the true counts of three lists, added up, are those of the three in a row.
 use mathlib.Core.Path.{_∙_}
 use mathlib.Core.List.{_++_}
 use native.Mathlib.Omega.{arith}

@@ -1,4 +1,4 @@
--- `placing::zero_counts` meets its contract: the first i counts are zeros, and the others as they were. Assumes nothing.
+-- `placing::zero_counts` meets its contract: the first i counts are zeros, and the others as they were.
 use Prim.Native.Nat.{_≤_, _-_}
 use mathlib.Core.Path.{_≡_}
 use mathlib.Core.List.{_++_, append-nil}

@@ -1,4 +1,4 @@
--- `text::append_decimal` meets its contract: the law `append-lent`. Assumes nothing.
+-- `text::append_decimal` meets its contract: the law `append-lent`.
 use borrow.Author.Needs.{needs}
 use mathlib.Core.List.{[], _∷_, _++_}
 use native.Mathlib.Omega.{arith}

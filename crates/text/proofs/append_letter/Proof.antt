@@ -1,4 +1,4 @@
--- `text::append_letter` meets its contract: the law `append-lent`. Assumes nothing.
+-- `text::append_letter` meets its contract: the law `append-lent`.
 use borrow.Author.Needs.{needs}
 use mathlib.Core.List.{[], _∷_}
 use native.Mathlib.Omega.{arith}

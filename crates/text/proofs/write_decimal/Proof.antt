@@ -1,4 +1,4 @@
--- `text::write_decimal` meets its contract: the law `decimal-written`. Assumes nothing.
+-- `text::write_decimal` meets its contract: the law `decimal-written`.
 use borrow.Author.Needs.{needs}
 use mathlib.Core.Path.{sym, _∙_}
 use native.Mathlib.Omega.{arith}

@@ -1,4 +1,4 @@
--- `text::write_letter` meets its contract. Assumes nothing.
+-- `text::write_letter` meets its contract.
 use borrow.Author.Needs.{needs}
 use mathlib.Core.Path.{refl}
 use native.Mathlib.Omega.{arith}

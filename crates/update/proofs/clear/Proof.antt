@@ -1,4 +1,4 @@
--- `update::clear` meets its contract: 1, 2, or the layout of the empty list. Assumes nothing.
+-- `update::clear` meets its contract: 1, 2, or the layout of the empty list.
 use mathlib.Core.Path.{sym, _∙_}
 use borrow.Author.Tests.{not-true, not-false}
 use Rattle.theory.specs.Settings.{card-of}

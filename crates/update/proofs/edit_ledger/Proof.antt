@@ -1,4 +1,4 @@
--- `update::edit_ledger` meets its contract: each edit is its callee's. Assumes nothing.
+-- `update::edit_ledger` meets its contract: each edit is its callee's.
 use mathlib.Core.Path.{subst}
 use Prim.Native.Nat.{_+_, _≤_}
 use native.Mathlib.Omega.{arith}

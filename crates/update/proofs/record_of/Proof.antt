@@ -1,4 +1,4 @@
--- `update::record_of` meets its contract: what is written to the first bytes stands there. Assumes nothing.
+-- `update::record_of` meets its contract: what is written to the first bytes stands there.
 use mathlib.Core.Path.{_≡_, sym, _∙_}
 use native.Mathlib.Omega.{arith}
 use lib.ListN.{length, drop, length-append, length-drop}

@@ -1,4 +1,4 @@
--- `update::refusal_by_list` meets its contract: by the edit and the two tests. Assumes nothing.
+-- `update::refusal_by_list` meets its contract: by the edit and the two tests.
 use borrow.Author.Tests.{le-leb, lt-leb}
 use borrow.Author.Needs.{needs}
 use Rattle.update.proofs.refusal_by_list.Statement.{statement}

@@ -1,4 +1,4 @@
--- `update::update` meets its contract: 1, 2, then the call on areas of their lengths with a table made once. Assumes nothing.
+-- `update::update` meets its contract: 1, 2, then the call on areas of their lengths with a table made once.
 use mathlib.Core.Path.{sym, ap, _∙_}
 use mathlib.Core.Bool.{Bool, _&&_}
 use borrow.Author.Needs.{needs}

@@ -1,4 +1,4 @@
--- `clear_areas` meets its contract: each area is zeros of its length, and so is the layout of the empty list. Assumes nothing.
+-- `clear_areas` meets its contract: each area is zeros of its length, and so is the layout of the empty list.
 use mathlib.Core.Path.{ap, _∙_}
 use Rattle.theory.specs.Settings.{card-of}
 use Rattle.settings.specs.Checked.{paper}

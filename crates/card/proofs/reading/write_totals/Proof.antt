@@ -1,4 +1,4 @@
--- `card::reading::write_totals` meets its contract: four stores fill an area of four numbers. Assumes nothing.
+-- `card::reading::write_totals` meets its contract: four stores fill an area of four numbers.
 use Rattle.card.proofs.AreaLaws.{four-stored}
 use borrow.Author.Needs.{needs}
 use Rattle.card.proofs.reading.write_totals.Statement.{statement}

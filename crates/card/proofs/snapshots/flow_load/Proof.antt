@@ -1,4 +1,4 @@
--- `card::snapshots::flow_load` meets its contract: an area for the settings of another length; else what loading gives. Assumes nothing.
+-- `card::snapshots::flow_load` meets its contract: an area for the settings of another length; else what loading gives.
 use lib.ListN.{length}
 use Rattle.card.proofs.SnapshotLaws.{settings-area-wrong, loaded-into}
 use borrow.Author.Needs.{needs}

@@ -1,4 +1,4 @@
--- `card::snapshots::write_settings` meets its contract: all six numbers are stored. Assumes nothing.
+-- `card::snapshots::write_settings` meets its contract: all six numbers are stored.
 use native.Mathlib.Omega.{arith}
 use lib.ListN.{length-set}
 use Rattle.card.proofs.AreaLaws.{six-stored}

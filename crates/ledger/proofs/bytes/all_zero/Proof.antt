@@ -1,4 +1,4 @@
--- `ledger::bytes::all_zero` meets its contract: the loop keeps that what was seen, or the bytes from i on, have one that all have. Assumes nothing.
+-- `ledger::bytes::all_zero` meets its contract: the loop keeps that what was seen, or the bytes from i on, have one that all have.
 use mathlib.Core.Path.{_≡_, refl, sym, ap, _∙_}
 use mathlib.Core.Bool.{_||_, not, or-assoc, or-false}
 use Prim.Native.Nat.{_≤_, _+_, _-_}

@@ -1,4 +1,4 @@
--- `ledger::bytes::class_at` meets its contract: the four bytes are read one by one, the law `class-is`. Assumes nothing.
+-- `ledger::bytes::class_at` meets its contract: the four bytes are read one by one, the law `class-is`.
 use borrow.Author.Needs.{needs}
 use native.Mathlib.Omega.{arith}
 use Rattle.ledger.proofs.NumberLaws.{class-is}

@@ -1,4 +1,4 @@
--- `ledger::bytes::copy` meets its contract: the loop keeps that the bytes before i are copied. Assumes nothing.
+-- `ledger::bytes::copy` meets its contract: the loop keeps that the bytes before i are copied.
 use Prim.Native.Nat.{_-_, _≤_}
 use mathlib.Core.Path.{_≡_, refl, sym, _∙_}
 use native.Mathlib.Numerals.{add-one}

@@ -1,4 +1,4 @@
--- `ledger::bytes::count_at` meets its contract: the two bytes are read one by one, the law `count-is`. Assumes nothing.
+-- `ledger::bytes::count_at` meets its contract: the two bytes are read one by one, the law `count-is`.
 use borrow.Author.Needs.{needs}
 use native.Mathlib.Omega.{arith}
 use Rattle.ledger.proofs.NumberLaws.{count-is}

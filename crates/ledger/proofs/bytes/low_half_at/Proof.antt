@@ -1,4 +1,4 @@
--- `ledger::bytes::low_half_at` meets its contract: the four bytes are read one by one, the law `low-half-is`. Assumes nothing.
+-- `ledger::bytes::low_half_at` meets its contract: the four bytes are read one by one, the law `low-half-is`.
 use native.Mathlib.Omega.{arith}
 use Rattle.ledger.proofs.NumberLaws.{low-half-is}
 use borrow.Author.Needs.{needs}

@@ -1,4 +1,4 @@
--- `ledger::bytes::low_word_at` meets its contract: the eight bytes are read by four, the law `low-word-is`. Assumes nothing.
+-- `ledger::bytes::low_word_at` meets its contract: the eight bytes are read by four, the law `low-word-is`.
 use native.Mathlib.Omega.{arith}
 use Rattle.ledger.proofs.NumberLaws.{low-word-is}
 use borrow.Author.Needs.{needs}

@@ -1,4 +1,4 @@
--- `ledger::bytes::write_class` meets its contract: the four bytes are stored one by one, the law `four-written`. Assumes nothing.
+-- `ledger::bytes::write_class` meets its contract: the four bytes are stored one by one, the law `four-written`.
 use borrow.Author.Needs.{needs}
 use Rattle.ledger.proofs.NumberLaws.{four-written}
 use Rattle.ledger.proofs.bytes.write_class.Statement.{statement}

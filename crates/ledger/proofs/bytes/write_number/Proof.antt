@@ -1,4 +1,4 @@
--- `ledger::bytes::write_number` meets its contract: the two bytes are stored one by one, the law `two-written`. Assumes nothing.
+-- `ledger::bytes::write_number` meets its contract: the two bytes are stored one by one, the law `two-written`.
 use borrow.Author.Needs.{needs}
 use Rattle.ledger.proofs.NumberLaws.{two-written}
 use Rattle.ledger.proofs.bytes.write_number.Statement.{statement}

@@ -1,4 +1,4 @@
--- `ledger::bytes::write_record` meets its contract: the key is copied to the front, the class written behind it, the law `record-written`. Assumes nothing.
+-- `ledger::bytes::write_record` meets its contract: the key is copied to the front, the class written behind it, the law `record-written`.
 use borrow.Author.Needs.{needs}
 use mathlib.Core.Path.{sym}
 use native.Mathlib.Omega.{arith}

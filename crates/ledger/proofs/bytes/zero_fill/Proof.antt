@@ -1,4 +1,4 @@
--- `ledger::bytes::zero_fill` meets its contract: the loop keeps that the bytes before i are zero and the others as they were. Assumes nothing.
+-- `ledger::bytes::zero_fill` meets its contract: the loop keeps that the bytes before i are zero and the others as they were.
 use Prim.Native.Nat.{_≤_, _-_}
 use mathlib.Core.Path.{_≡_}
 use mathlib.Core.List.{_++_, append-nil}

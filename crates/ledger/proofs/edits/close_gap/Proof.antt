@@ -1,4 +1,4 @@
--- `ledger::edits::close_gap` meets its contract: the loop keeps that the bytes up to j have moved down, the law `close-more`. Assumes nothing.
+-- `ledger::edits::close_gap` meets its contract: the loop keeps that the bytes up to j have moved down, the law `close-more`.
 use mathlib.Core.Path.{_≡_, refl, _∙_}
 use mathlib.Core.List.{_++_}
 use Prim.Native.Nat.{_≤_, _-_, _+_}

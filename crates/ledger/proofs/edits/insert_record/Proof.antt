@@ -1,4 +1,4 @@
--- `ledger::edits::insert_record` meets its contract: the gap opened, filled and counted is the ledger area of the new list, the law `inserted`. Assumes nothing.
+-- `ledger::edits::insert_record` meets its contract: the gap opened, filled and counted is the ledger area of the new list, the law `inserted`.
 use borrow.Author.Needs.{needs}
 use mathlib.Core.Path.{sym, _∙_}
 use Prim.Native.Nat.{_+_, _-_, _*_, _≤_}

@@ -1,4 +1,4 @@
--- `ledger::edits::open_gap` meets its contract: the loop keeps that the bytes from j on have moved up, the law `open-more`. Assumes nothing.
+-- `ledger::edits::open_gap` meets its contract: the loop keeps that the bytes from j on have moved up, the law `open-more`.
 use mathlib.Core.Path.{_≡_, refl, _∙_}
 use mathlib.Core.List.{_++_}
 use Prim.Native.Nat.{_≤_, _-_, _+_}

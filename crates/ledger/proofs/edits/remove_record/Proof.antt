@@ -1,4 +1,4 @@
--- `ledger::edits::remove_record` meets its contract: the gap closed, the end cleared and the count lowered is the ledger area of the new list, the law `removed`. Assumes nothing.
+-- `ledger::edits::remove_record` meets its contract: the gap closed, the end cleared and the count lowered is the ledger area of the new list, the law `removed`.
 use borrow.Author.Needs.{needs}
 use mathlib.Core.Path.{_∙_}
 use Prim.Native.Nat.{_+_, _-_, _*_, _≤_}

@@ -1,4 +1,4 @@
--- `ledger::edits::replace_record` meets its contract: the record's bytes put in place is the ledger area of the new list, the law `replaced`. Assumes nothing.
+-- `ledger::edits::replace_record` meets its contract: the record's bytes put in place is the ledger area of the new list, the law `replaced`.
 use borrow.Author.Needs.{needs}
 use mathlib.Core.Path.{refl, sym, _∙_}
 use Prim.Native.Nat.{_+_, _*_, _≤_}

@@ -1,4 +1,4 @@
--- `ledger::keys::below_key` meets its contract: the loop keeps that the test of the bytes from i on is that of the keys. Assumes nothing.
+-- `ledger::keys::below_key` meets its contract: the loop keeps that the test of the bytes from i on is that of the keys.
 use mathlib.Core.Path.{_≡_, refl, sym, _∙_}
 use Prim.Native.Nat.{_≤_, _-_}
 use native.Mathlib.Omega.{arith}

@@ -1,4 +1,4 @@
--- `ledger::keys::keys_rise` meets its contract: the loop keeps that the records that are left, one at least, rise just when all do. Assumes nothing.
+-- `ledger::keys::keys_rise` meets its contract: the loop keeps that the records that are left, one at least, rise just when all do.
 use mathlib.Core.Path.{_≡_, refl, sym, _∙_}
 use Prim.Native.Nat.{_≤_, _+_, _*_}
 use native.Mathlib.Nat.{add-sub-cancel-left, mul-le-mul-right}

@@ -1,4 +1,4 @@
--- `ledger::keys::same_word` meets its contract: eight bytes are the same where their numbers are, the law `same-by-word`. Assumes nothing.
+-- `ledger::keys::same_word` meets its contract: eight bytes are the same where their numbers are, the law `same-by-word`.
 use Rattle.ledger.proofs.KeyLaws.{bytes-of, same-by-word}
 use borrow.Author.Needs.{needs}
 use Rattle.ledger.proofs.keys.same_word.Statement.{statement}

@@ -1,4 +1,4 @@
--- `ledger::keys::same_words` meets its contract: the loop keeps that the test is that of the first i bytes and of the last eight. Assumes nothing.
+-- `ledger::keys::same_words` meets its contract: the loop keeps that the test is that of the first i bytes and of the last eight.
 use mathlib.Core.Path.{_≡_, _∙_}
 use mathlib.Core.Bool.{_&&_}
 use Prim.Native.Nat.{_≤_, _+_, _-_}

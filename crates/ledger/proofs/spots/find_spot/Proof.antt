@@ -1,4 +1,4 @@
--- `ledger::spots::find_spot` meets its contract: the loop keeps `Halving`, that every record before low is below the key and none from high on is. Assumes nothing.
+-- `ledger::spots::find_spot` meets its contract: the loop keeps `Halving`, that every record before low is below the key and none from high on is.
 use mathlib.Core.Path.{_≡_, sym, _∙_}
 use Prim.Native.Nat.{_≤_, _<_, _-_, _+_, _*_, _/_}
 use native.Mathlib.Nat.{add-sub-cancel-left}

@@ -1,4 +1,4 @@
--- `lookup::judging::judge` meets its contract: refusal 1, then the areas' judgement. Assumes nothing.
+-- `lookup::judging::judge` meets its contract: refusal 1, then the areas' judgement.
 use mathlib.Core.Path.{ap, _∙_}
 use Rattle.settings.specs.Checked.{given-of}
 use Rattle.theory.specs.Settings.{Settings}

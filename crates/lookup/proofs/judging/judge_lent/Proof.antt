@@ -1,4 +1,4 @@
--- `lookup::judging::judge_lent` meets its contract: refusal 1, the table's length, then the areas' judgement. Assumes nothing.
+-- `lookup::judging::judge_lent` meets its contract: refusal 1, the table's length, then the areas' judgement.
 use mathlib.Core.Path.{_∙_}
 use native.Mathlib.Omega.{arith}
 use Rattle.settings.specs.Checked.{paper, given-of}

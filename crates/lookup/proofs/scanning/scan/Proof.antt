@@ -1,4 +1,4 @@
--- `lookup::scanning::scan` meets its contract: what is left of the scan gives what the whole does. Assumes nothing.
+-- `lookup::scanning::scan` meets its contract: what is left of the scan gives what the whole does.
 use mathlib.Core.Path.{sym, _∙_}
 use Prim.Native.Nat.{_+_}
 use native.Mathlib.Nat.{add-sub-cancel-left, add-assoc}

@@ -1,4 +1,4 @@
--- `lookup::scanning::scan_all` meets its contract: the loop keeps the first of the places behind it that has the key. Assumes nothing.
+-- `lookup::scanning::scan_all` meets its contract: the loop keeps the first of the places behind it that has the key.
 use mathlib.Core.Path.{_≡_, refl, sym, subst}
 use Prim.Native.Nat.{ℕ, _+_, _-_, _*_, _≤_}
 use native.Mathlib.Omega.{arith}

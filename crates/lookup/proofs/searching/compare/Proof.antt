@@ -1,4 +1,4 @@
--- `lookup::searching::compare` meets its contract, by what the scan says. Assumes nothing.
+-- `lookup::searching::compare` meets its contract, by what the scan says.
 use native.Mathlib.Omega.{arith}
 use lib.ListN.{length}
 use lib.Seq.{drop-drop}

@@ -1,4 +1,4 @@
--- `lookup::searching::compare_all` meets its contract, by what the scan says, in both cases of what it found. Assumes nothing.
+-- `lookup::searching::compare_all` meets its contract, by what the scan says, in both cases of what it found.
 use lib.ListN.{length}
 use lib.Seq.{drop-drop}
 use Rattle.theory.specs.Records.{record-at}

@@ -1,4 +1,4 @@
--- `lookup::searching::compare_bucket` meets its contract: the part that is lent on is the bucket after its mark, and the key as wide as the settings say is the key. Assumes nothing.
+-- `lookup::searching::compare_bucket` meets its contract: the part that is lent on is the bucket after its mark, and the key as wide as the settings say is the key.
 use mathlib.Core.Path.{sym, _∙_}
 use Prim.Native.Nat.{_-_}
 use native.Mathlib.Nat.{add-sub-cancel-left}

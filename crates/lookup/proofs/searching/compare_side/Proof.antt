@@ -1,4 +1,4 @@
--- `lookup::searching::compare_side` meets its contract: the part that is lent on is the side store after its count. Assumes nothing.
+-- `lookup::searching::compare_side` meets its contract: the part that is lent on is the side store after its count.
 use native.Mathlib.Omega.{arith}
 use lib.ListN.{length}
 use Rattle.theory.specs.Lookup.{answer-at}

@@ -1,4 +1,4 @@
--- `lookup::searching::search` meets its contract: the refusals are judged first, then the answer is that of the areas by the key's own H. Assumes nothing.
+-- `lookup::searching::search` meets its contract: the refusals are judged first, then the answer is that of the areas by the key's own H.
 use mathlib.Core.Path.{sym, ap, _∙_}
 use Rattle.theory.specs.Settings.{Settings, card-of}
 use Rattle.theory.specs.Lookup.{bare, search-areas}

@@ -1,4 +1,4 @@
--- `lookup::searching::search_at` meets its contract: the answer at the place where the search looks. Assumes nothing.
+-- `lookup::searching::search_at` meets its contract: the answer at the place where the search looks.
 use mathlib.Core.Path.{sym, ap, _∙_, subst}
 use native.Mathlib.Omega.{arith}
 use Rattle.theory.specs.Settings.{card-of}

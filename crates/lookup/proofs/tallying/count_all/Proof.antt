@@ -1,4 +1,4 @@
--- `lookup::tallying::count_all` meets its contract, by what its callees count. Assumes nothing.
+-- `lookup::tallying::count_all` meets its contract, by what its callees count.
 use native.Mathlib.Omega.{arith}
 use Rattle.theory.specs.Ledger.{totals-of}
 use Rattle.settings.specs.Checked.{paper}

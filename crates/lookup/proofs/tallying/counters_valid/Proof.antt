@@ -1,4 +1,4 @@
--- `lookup::tallying::counters_valid` meets its contract: whether a counter from bucket b on is above T is whether any is. Assumes nothing.
+-- `lookup::tallying::counters_valid` meets its contract: whether a counter from bucket b on is above T is whether any is.
 use mathlib.Core.Path.{_≡_, ap, sym, _∙_}
 use mathlib.Core.List.{List, map}
 use Prim.Native.Nat.{ℕ, _-_, _≤_}

@@ -1,4 +1,4 @@
--- `lookup::tallying::lookup_valid` meets its contract: the three tests in their order. Assumes nothing.
+-- `lookup::tallying::lookup_valid` meets its contract: the three tests in their order.
 use mathlib.Core.Bool.{not, _&&_}
 use native.Mathlib.Omega.{arith}
 use lib.Dec.{eqb, ltb}

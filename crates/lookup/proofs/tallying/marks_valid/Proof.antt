@@ -1,4 +1,4 @@
--- `lookup::tallying::marks_valid` meets its contract: whether a mark from bucket b on cannot be is whether any cannot. Assumes nothing.
+-- `lookup::tallying::marks_valid` meets its contract: whether a mark from bucket b on cannot be is whether any cannot.
 use mathlib.Core.Path.{_≡_, ap}
 use mathlib.Core.Bool.{not, _&&_}
 use mathlib.Core.List.{List, map}

@@ -1,4 +1,4 @@
--- `lookup::tallying::sum_marks` meets its contract: what is summed so far, with the marks from bucket b on, is the whole sum. Assumes nothing.
+-- `lookup::tallying::sum_marks` meets its contract: what is summed so far, with the marks from bucket b on, is the whole sum.
 use mathlib.Core.Path.{_≡_, ap, _∙_}
 use mathlib.Core.Bool.{not}
 use mathlib.Core.List.{List, map}

@@ -1,4 +1,4 @@
--- `lookup::tallying::tally_lent` meets its contract: 4, then 5, then the four numbers. Assumes nothing.
+-- `lookup::tallying::tally_lent` meets its contract: 4, then 5, then the four numbers.
 use borrow.Author.Tests.{not-true, not-false}
 use Rattle.theory.specs.Calls.{ledger-invalid, lookup-invalid, tally-areas}
 use Rattle.theory.specs.Settings.{card-of}

@@ -1,4 +1,4 @@
--- `lookup::tallying::with_mark` meets its contract: by the test of the mark. Assumes nothing.
+-- `lookup::tallying::with_mark` meets its contract: by the test of the mark.
 use mathlib.Core.Path.{refl}
 use native.Mathlib.Omega.{arith}
 use borrow.Author.Tests.{eq-eqb, ne-eqb}

@@ -1,4 +1,4 @@
--- `packet::header::has_ports` meets its contract, by the protocol. Assumes nothing.
+-- `packet::header::has_ports` meets its contract, by the protocol.
 use Rattle.theory.specs.Packet.{has-ports}
 use borrow.Author.Needs.{needs}
 use Rattle.packet.proofs.header.has_ports.Statement.{statement}

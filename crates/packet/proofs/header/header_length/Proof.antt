@@ -1,4 +1,4 @@
--- `packet::header::header_length` meets its contract, by the definition. Assumes nothing.
+-- `packet::header::header_length` meets its contract, by the definition.
 use mathlib.Core.Path.{refl}
 use Rattle.theory.specs.Packet.{header-length}
 use borrow.Author.Needs.{needs}

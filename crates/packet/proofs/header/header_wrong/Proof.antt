@@ -1,4 +1,4 @@
--- `packet::header::header_wrong` meets its contract: the tests are those of the definition. Assumes nothing.
+-- `packet::header::header_wrong` meets its contract: the tests are those of the definition.
 use borrow.Author.Tests.{lt-ltb, le-ltb}
 use lib.ListN.{length}
 use Rattle.theory.specs.Packet.{header-wrong}

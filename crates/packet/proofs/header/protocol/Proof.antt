@@ -1,4 +1,4 @@
--- `packet::header::protocol` meets its contract, by the definition. Assumes nothing.
+-- `packet::header::protocol` meets its contract, by the definition.
 use mathlib.Core.Path.{refl}
 use Rattle.theory.specs.Packet.{protocol}
 use borrow.Author.Needs.{needs}

@@ -1,4 +1,4 @@
--- `packet::header::version` meets its contract, by the definition. Assumes nothing.
+-- `packet::header::version` meets its contract, by the definition.
 use mathlib.Core.Path.{refl}
 use Rattle.theory.specs.Packet.{version}
 use borrow.Author.Needs.{needs}

@@ -1,4 +1,4 @@
--- `packet::ports::read_ports` meets its contract: the first four bytes are copied. Assumes nothing.
+-- `packet::ports::read_ports` meets its contract: the first four bytes are copied.
 use mathlib.Core.Path.{sym}
 use native.Mathlib.Omega.{arith}
 use lib.Seq.{length-take-le}

@@ -1,4 +1,4 @@
--- `Settings::buckets` meets its contract: p is at most 12, so 1 shifted by p is 2^p. Assumes nothing.
+-- `Settings::buckets` meets its contract: p is at most 12, so 1 shifted by p is 2^p.
 use native.Mathlib.Nat.{mod-eq-of-lt, one-mul}
 use native.Mathlib.Omega.{arith}
 use lib.Pow.{pow-lt}

@@ -1,4 +1,4 @@
--- `Settings::clipped_length` meets its contract: half a byte for each bucket. Assumes nothing.
+-- `Settings::clipped_length` meets its contract: half a byte for each bucket.
 use borrow.Author.Needs.{needs}
 use Rattle.theory.specs.Settings.{clipped-length}
 use Rattle.settings.proofs.Settings.clipped_length.Statement.{statement}

@@ -1,4 +1,4 @@
--- `Settings::ledger_length` meets its contract: a record has 17 bytes, and there are at most 4,096, so no sum wraps. Assumes nothing.
+-- `Settings::ledger_length` meets its contract: a record has 17 bytes, and there are at most 4,096, so no sum wraps.
 use borrow.Author.Needs.{needs}
 use native.Mathlib.Omega.{arith}
 use Rattle.theory.specs.Settings.{card-of, record-size, ledger-length}

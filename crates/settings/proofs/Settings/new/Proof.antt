@@ -1,5 +1,4 @@
 -- `Settings::new` meets its contract: the six tests are those of `in-ranges`, and each arm rewrites with the value of all of them.
--- Assumes nothing.
 use mathlib.Core.Bool.{and-true}
 use Rattle.theory.specs.Settings.{allowed, in-ranges}
 use Rattle.settings.proofs.Settings.new.Statement.{statement}

@@ -1,4 +1,4 @@
--- `Settings::record_size` meets its contract: the card's keys have 13 bytes, and a class has 4. Assumes nothing.
+-- `Settings::record_size` meets its contract: the card's keys have 13 bytes, and a class has 4.
 use borrow.Author.Needs.{needs}
 use mathlib.Core.Path.{refl}
 use Rattle.theory.specs.Settings.{card-of, record-size}

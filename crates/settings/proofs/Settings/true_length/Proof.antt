@@ -1,4 +1,4 @@
--- `Settings::true_length` meets its contract: a number for each bucket. Assumes nothing.
+-- `Settings::true_length` meets its contract: a number for each bucket.
 use borrow.Author.Needs.{needs}
 use Rattle.theory.specs.Settings.{true-length}
 use Rattle.settings.proofs.Settings.true_length.Statement.{statement}

@@ -1,4 +1,4 @@
--- `Settings::work_length` meets its contract: two numbers for each of at most 4,096 buckets. Assumes nothing.
+-- `Settings::work_length` meets its contract: two numbers for each of at most 4,096 buckets.
 use borrow.Author.Needs.{needs}
 use native.Mathlib.Omega.{arith}
 use Rattle.theory.specs.Settings.{work-length}

@@ -1,4 +1,4 @@
--- `snapshot::loading::load` meets its contract: 12, 1, 2, then the call with a table made once. Assumes nothing.
+-- `snapshot::loading::load` meets its contract: 12, 1, 2, then the call with a table made once.
 use mathlib.Core.Path.{sym, ap, _∙_}
 use mathlib.Core.Bool.{Bool, _&&_}
 use borrow.Author.Tests.{eqb-true, not-true, not-false}

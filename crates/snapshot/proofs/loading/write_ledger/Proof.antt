@@ -1,4 +1,4 @@
--- `snapshot::loading::write_ledger` meets its contract: the count, the records, zeros. Assumes nothing.
+-- `snapshot::loading::write_ledger` meets its contract: the count, the records, zeros.
 use native.Mathlib.Omega.{arith}
 use Rattle.theory.specs.Settings.{card-of}
 use Rattle.theory.proofs.SettingsLaws.{sound}

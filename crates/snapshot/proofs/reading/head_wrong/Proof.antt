@@ -1,4 +1,4 @@
--- `snapshot::reading::head_wrong` meets its contract: too short, or by the first count. Assumes nothing.
+-- `snapshot::reading::head_wrong` meets its contract: too short, or by the first count.
 use Rattle.snapshot.proofs.FileLaws.{head-cut, head-count}
 use borrow.Author.Needs.{needs}
 use Rattle.snapshot.proofs.reading.head_wrong.Statement.{statement}

@@ -1,4 +1,4 @@
--- `snapshot::reading::read_settings` meets its contract, field by field. Assumes nothing.
+-- `snapshot::reading::read_settings` meets its contract, field by field.
 use mathlib.Core.Path.{_∙_}
 use Rattle.snapshot.proofs.FileLaws.{settings-read}
 use borrow.Author.Needs.{needs}

@@ -1,4 +1,4 @@
--- `snapshot::reading::refusal_by_file` meets its contract: each refusal is the definition's. Assumes nothing.
+-- `snapshot::reading::refusal_by_file` meets its contract: each refusal is the definition's.
 use native.Mathlib.Omega.{arith}
 use borrow.Author.Tests.{not-true, not-false}
 use Rattle.settings.specs.Checked.{paper}

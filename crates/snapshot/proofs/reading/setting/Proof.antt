@@ -1,4 +1,4 @@
--- `snapshot::reading::setting` meets its contract: two bytes of a part that runs to the end. Assumes nothing.
+-- `snapshot::reading::setting` meets its contract: two bytes of a part that runs to the end.
 use native.Mathlib.Omega.{arith}
 use Prim.Native.Nat.{_+_, _*_}
 use Rattle.snapshot.proofs.FileLaws.{number-lent}

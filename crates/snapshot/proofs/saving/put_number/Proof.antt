@@ -1,4 +1,4 @@
--- `snapshot::saving::put_number` meets its contract: the part from a place on is back with the number in front. Assumes nothing.
+-- `snapshot::saving::put_number` meets its contract: the part from a place on is back with the number in front.
 use Rattle.snapshot.proofs.SaveLaws.{put-back}
 use borrow.Author.Needs.{needs}
 use Rattle.snapshot.proofs.saving.put_number.Statement.{statement}

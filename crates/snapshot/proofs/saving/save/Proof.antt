@@ -1,4 +1,4 @@
--- `snapshot::saving::save` meets its contract: 1, 2, then the call with a table made once. Assumes nothing.
+-- `snapshot::saving::save` meets its contract: 1, 2, then the call with a table made once.
 use mathlib.Core.Path.{_≡_, ap, _∙_}
 use mathlib.Core.Bool.{true, _&&_}
 use borrow.Author.Tests.{eqb-true, not-true, not-false}

@@ -1,4 +1,4 @@
--- `snapshot::saving::write_head` meets its contract: eight numbers, each after the last. Assumes nothing.
+-- `snapshot::saving::write_head` meets its contract: eight numbers, each after the last.
 use native.Mathlib.Omega.{arith}
 use Rattle.theory.proofs.SettingsLaws.{ranges}
 use Rattle.settings.specs.Checked.{paper}

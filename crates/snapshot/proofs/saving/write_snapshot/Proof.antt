@@ -1,4 +1,4 @@
--- `snapshot::saving::write_snapshot` meets its contract: the head, then the bytes of the ledger's records. Assumes nothing.
+-- `snapshot::saving::write_snapshot` meets its contract: the head, then the bytes of the ledger's records.
 use mathlib.Core.Path.{sym}
 use native.Mathlib.Omega.{arith}
 use lib.Seq.{length-take-le}

@@ -1,4 +1,4 @@
--- `append` meets its contract: the place that the mark counts is what the part has room for, and the part is back as `appended` says. Assumes nothing.
+-- `append` meets its contract: the place that the mark counts is what the part has room for, and the part is back as `appended` says.
 use mathlib.Core.Path.{refl, sym, ap, subst}
 use mathlib.Core.List.{List}
 use Prim.Native.Nat.{ℕ, _+_, _*_, _≤_}

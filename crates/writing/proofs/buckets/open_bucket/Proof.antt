@@ -1,4 +1,4 @@
--- `open_bucket` meets its contract: zeros, and the mark by the two values of `crowded`. Assumes nothing.
+-- `open_bucket` meets its contract: zeros, and the mark by the two values of `crowded`.
 use mathlib.Core.Logic.{⊎-elim}
 use borrow.Author.Needs.{needs}
 use Rattle.writing.proofs.buckets.open_bucket.Statement.{statement}

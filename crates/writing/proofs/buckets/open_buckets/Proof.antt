@@ -1,4 +1,4 @@
--- `open_buckets` meets its contract: the first b parts are blank buckets, and each turn opens the next part. Assumes nothing.
+-- `open_buckets` meets its contract: the first b parts are blank buckets, and each turn opens the next part.
 use mathlib.Core.Path.{_≡_, refl, sym, ap, _∙_}
 use mathlib.Core.List.{List}
 use Prim.Native.Nat.{ℕ, _+_, _-_, _*_, _≤_, _<_}

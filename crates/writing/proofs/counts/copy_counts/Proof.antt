@@ -1,4 +1,4 @@
--- `copy_counts` meets its contract: the first i numbers are those of `from`. Assumes nothing.
+-- `copy_counts` meets its contract: the first i numbers are those of `from`.
 use mathlib.Core.Path.{_≡_, refl, sym, _∙_}
 use Prim.Native.Nat.{_-_, _≤_, _<_}
 use native.Mathlib.Numerals.{add-one}

@@ -1,4 +1,4 @@
--- `settings::counts::ClippedCount::higher` meets its contract, by its test. Assumes nothing.
+-- `settings::counts::ClippedCount::higher` meets its contract, by its test.
 use borrow.Author.Tests.{lt-ltb, le-ltb}
 use Rattle.settings.proofs.counts.ClippedCount.higher.Statement.{statement}
 use Rattle.settings.proofs.counts.ClippedCount.higher.Tie as tie
