@@ -9,8 +9,8 @@ ghost use mathlib.Core.Bool.{true};
 ghost use mathlib.Core.List.{_∷_};
 ghost use Prim.Native.Nat.{_^_, _≤_};
 ghost use lib.ListN.{length};
-ghost use Rattle.theory.specs.Settings.{allowed, card-of};
-ghost use Rattle.settings.specs.Checked.{paper};
+ghost use Rattle.theory.specs.Settings.{allowed};
+ghost use Rattle.settings.specs.Checked.{paper, card};
 ghost use Rattle.card.specs.Doors.{Filled, settings-check-of, lengths-of, area-lengths-of, hash-table-of, hash-of, hash-lent-of};
 ghost use Rattle.card.specs.Doors.{first-hashes, Numbered, key-buckets-of};
 
@@ -82,7 +82,7 @@ pub extern "C" fn flow_area_lengths(
 // The lengths in the paper's order.
 fn write_lengths(s: Settings, lengths: &mut [u64])
     requires { ⌜ (allowed (paper s) ≡ true) × (length (now lengths) ≡ 6) ⌝ }
-    ensures { λ _. ⌜ now (lengths .exit) ≡ lengths-of (card-of (paper s)) ⌝ }
+    ensures { λ _. ⌜ now (lengths .exit) ≡ lengths-of (card s) ⌝ }
 {
     lengths[0] = s.ledger_length() as u64;
     lengths[1] = s.true_length() as u64;

@@ -5,10 +5,10 @@ use mathlib.Core.List.{List, _∷_, _++_}
 use Prim.Native.Nat.{ℕ, _+_}
 use lib.ListN.{length, take, drop}
 use Rattle.theory.specs.Records.{Record}
-use Rattle.theory.specs.Settings.{allowed, card-of, ledger-length}
+use Rattle.theory.specs.Settings.{allowed, ledger-length}
 use Rattle.theory.specs.Calls.{ledger-invalid}
 use Rattle.settings.specs.declared.Settings.{Settings}
-use Rattle.settings.specs.Checked.{paper}
+use Rattle.settings.specs.Checked.{paper, card}
 
 abbrev pub inserted-at : ℕ → Record → List Record → List Record
 inserted-at at x l = take at l ++ (x ∷ drop at l)
@@ -22,5 +22,5 @@ replaced-at at x l = take at l ++ (x ∷ drop (at + 1) l)
 -- allowed settings, and a ledger area of their length that is within the rules
 pub record ValidLedger (s : Settings) (a : List ℕ) : Type 0 where
   pub permitted : allowed (paper s) ≡ true
-  pub size : length a ≡ ledger-length (card-of (paper s))
-  pub rules : ledger-invalid (card-of (paper s)) a ≡ false
+  pub size : length a ≡ ledger-length (card s)
+  pub rules : ledger-invalid (card s) a ≡ false

@@ -9,10 +9,10 @@ ghost use mathlib.Core.List.{_++_};
 ghost use Prim.Native.Nat.{_+_, _-_, _<_, _≤_};
 ghost use lib.ListN.{length, take, drop};
 ghost use Rattle.theory.specs.Records.{Record, record-bytes};
-ghost use Rattle.theory.specs.Settings.{card-of, record-size};
+ghost use Rattle.theory.specs.Settings.{record-size};
 ghost use Rattle.theory.specs.Layout.{counted-places};
 ghost use Rattle.theory.specs.Calls.{ledger-records};
-ghost use Rattle.settings.specs.Checked.{paper};
+ghost use Rattle.settings.specs.Checked.{card};
 ghost use Rattle.ledger.specs.Edits.{ValidLedger, inserted-at, removed-at, replaced-at};
 
 // The bytes between two places move up by a size, from the last down.
@@ -45,10 +45,10 @@ fn close_gap(area: &mut [u8], size: usize, from: usize, to: usize)
 
 // "the record is put in at its key's place"
 pub fn insert_record(s: Settings, ledger: &mut [u8], at: usize, record: &[u8])
-    requires { ⌜ ValidLedger s (now ledger) × (length (ledger-records (card-of (paper s)) (now ledger)) < card-of (paper s) .capacity)
-        × (at ≤ length (ledger-records (card-of (paper s)) (now ledger))) × (length (now «record») ≡ record-size (card-of (paper s))) ⌝ }
+    requires { ⌜ ValidLedger s (now ledger) × (length (ledger-records (card s) (now ledger)) < card s .capacity)
+        × (at ≤ length (ledger-records (card s) (now ledger))) × (length (now «record») ≡ record-size (card s)) ⌝ }
     ensures { λ _. ⌜ ((x : Record) → record-bytes x ≡ now («record» .entry)
-        → now (ledger .exit) ≡ counted-places (card-of (paper s)) (card-of (paper s) .capacity) (inserted-at at x (ledger-records (card-of (paper s)) (now (ledger .entry))))) ⌝ }
+        → now (ledger .exit) ≡ counted-places (card s) (card s .capacity) (inserted-at at x (ledger-records (card s) (now (ledger .entry))))) ⌝ }
 {
     let n = count_at(&ledger[..]);
     let size = s.record_size();
@@ -62,8 +62,8 @@ pub fn insert_record(s: Settings, ledger: &mut [u8], at: usize, record: &[u8])
 
 // "the record of that key is taken out"
 pub fn remove_record(s: Settings, ledger: &mut [u8], at: usize)
-    requires { ⌜ ValidLedger s (now ledger) × (at < length (ledger-records (card-of (paper s)) (now ledger))) ⌝ }
-    ensures { λ _. ⌜ now (ledger .exit) ≡ counted-places (card-of (paper s)) (card-of (paper s) .capacity) (removed-at at (ledger-records (card-of (paper s)) (now (ledger .entry)))) ⌝ }
+    requires { ⌜ ValidLedger s (now ledger) × (at < length (ledger-records (card s) (now ledger))) ⌝ }
+    ensures { λ _. ⌜ now (ledger .exit) ≡ counted-places (card s) (card s .capacity) (removed-at at (ledger-records (card s) (now (ledger .entry)))) ⌝ }
 {
     let n = count_at(&ledger[..]);
     let size = s.record_size();
@@ -77,9 +77,9 @@ pub fn remove_record(s: Settings, ledger: &mut [u8], at: usize)
 
 // "the record of that key gets the new class"
 pub fn replace_record(s: Settings, ledger: &mut [u8], at: usize, record: &[u8])
-    requires { ⌜ ValidLedger s (now ledger) × (at < length (ledger-records (card-of (paper s)) (now ledger))) × (length (now «record») ≡ record-size (card-of (paper s))) ⌝ }
+    requires { ⌜ ValidLedger s (now ledger) × (at < length (ledger-records (card s) (now ledger))) × (length (now «record») ≡ record-size (card s)) ⌝ }
     ensures { λ _. ⌜ ((x : Record) → record-bytes x ≡ now («record» .entry)
-        → now (ledger .exit) ≡ counted-places (card-of (paper s)) (card-of (paper s) .capacity) (replaced-at at x (ledger-records (card-of (paper s)) (now (ledger .entry))))) ⌝ }
+        → now (ledger .exit) ≡ counted-places (card s) (card s .capacity) (replaced-at at x (ledger-records (card s) (now (ledger .entry))))) ⌝ }
 {
     let size = s.record_size();
     let start = 2 + size * at;

@@ -6,9 +6,9 @@ use settings::Settings;
 ghost use mathlib.Core.Path.{_≡_};
 ghost use mathlib.Core.Bool.{true, not};
 ghost use lib.ListN.{length};
-ghost use Rattle.theory.specs.Settings.{allowed, card-of, ledger-length};
+ghost use Rattle.theory.specs.Settings.{allowed, ledger-length};
 ghost use Rattle.theory.specs.Calls.{ledger-invalid};
-ghost use Rattle.settings.specs.Checked.{paper};
+ghost use Rattle.settings.specs.Checked.{paper, card};
 
 pub mod bytes; // bytes.rt: numbers and records as bytes, and parts copied and cleared
 pub mod keys; // keys.rt: the order of keys
@@ -17,8 +17,8 @@ pub mod edits; // edits.rt: a record put in, taken out, replaced
 
 // "4, ledger count above N, keys not rising, or a nonzero byte after the last record"
 pub fn valid(s: Settings, ledger: &[u8]) -> bool
-    requires { ⌜ (allowed (paper s) ≡ true) × (length (now ledger) ≡ ledger-length (card-of (paper s))) ⌝ }
-    ensures { λ r. ⌜ r ≡ not (ledger-invalid (card-of (paper s)) (now (ledger .entry))) ⌝ }
+    requires { ⌜ (allowed (paper s) ≡ true) × (length (now ledger) ≡ ledger-length (card s)) ⌝ }
+    ensures { λ r. ⌜ r ≡ not (ledger-invalid (card s) (now (ledger .entry))) ⌝ }
 {
     let n = count_at(ledger);
     if s.capacity < n {

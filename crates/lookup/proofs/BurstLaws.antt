@@ -21,7 +21,7 @@ use Rattle.theory.proofs.ListLaws.{and-right, by-test, length-upto, getD-map-up
 use Rattle.theory.proofs.SettingsLaws.{ranges}
 use Rattle.hash.specs.Table.{table-lengths, TableFor, H-by}
 use Rattle.settings.specs.declared.Settings.{Settings}
-use Rattle.settings.specs.Checked.{paper}
+use Rattle.settings.specs.Checked.{paper, card}
 use Rattle.lookup.specs.declared.counters.Choice.{Choice}
 use Rattle.lookup.specs.Choosing.{card-at, ChoiceOf}
 use Rattle.lookup.specs.Places.{ChoiceFits, place-by}
@@ -186,7 +186,7 @@ module _ (table clipped buckets side keys before : List ℕ) (t : plain.Settings
 
   pub burst-answered : (c : Settings) → judged-burst table t clipped buckets side keys (length before) ≡ Ready c → paper c ≡ t → (answers : List ℕ)
       → answers
-      ≡ each (λ j. number-at (paper c) clipped buckets side (key-at (card-of (paper c) .width) keys j) (H-by table (key-at (card-of (paper c) .width) keys j))) (length before)
+      ≡ each (λ j. number-at (paper c) clipped buckets side (key-at (card c .width) keys j) (H-by table (key-at (card c .width) keys j))) (length before)
       → record { number = 0; answers = answers } ≡ burst-of table t clipped buckets side keys before
   unfolding burst-of
   burst-answered c e same answers is =
@@ -203,13 +203,13 @@ module _ (t : plain.Settings) (clipped buckets side key : List ℕ) where
       ∙ search-number t clipped buckets side key (bare n) (refused-is t clipped buckets side key bare (search-areas (card-of t) clipped buckets side key) n e)
 
   pub one-number : (c : Settings) → judged-of t clipped buckets side key ≡ Ready c → (h : ℕ) → h ≡ H key
-      → number-at (paper c) clipped buckets side (key-at (card-of (paper c) .width) key 0) h ≡ search-of t clipped buckets side key
+      → number-at (paper c) clipped buckets side (key-at (card c .width) key 0) h ≡ search-of t clipped buckets side key
   unfolding number-at
   one-number c e h is-H =
       let right = fine t clipped buckets side key c e in
-      let whole : key-at (card-of (paper c) .width) key 0 ≡ key
-      = ap (λ (n : ℕ). take (card-of (paper c) .width) (drop n key)) (zero-mul (card-of (paper c) .width))
-      ∙ take-all (card-of (paper c) .width) key (omega (arith, right .wide)) in
+      let whole : key-at (card c .width) key 0 ≡ key
+      = ap (λ (n : ℕ). take (card c .width) (drop n key)) (zero-mul (card c .width))
+      ∙ take-all (card c .width) key (omega (arith, right .wide)) in
       ap (λ (k : List ℕ). driver-number (search-areas (card-at (paper c) h) clipped buckets side k)) whole
       ∙ ap driver-number (hashed (paper c) clipped buckets side key h is-H)
       ∙ ap (λ (u : plain.Settings). driver-number (search-areas (card-of u) clipped buckets side key)) (right .same)

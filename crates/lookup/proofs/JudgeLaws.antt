@@ -19,7 +19,7 @@ use Rattle.hash.specs.Digits.{table-length}
 use Rattle.hash.specs.Table.{table-lengths}
 use Rattle.hash.proofs.TableLaws.{length-allowed}
 use Rattle.settings.specs.declared.Settings.{Settings}
-use Rattle.settings.specs.Checked.{paper, code}
+use Rattle.settings.specs.Checked.{paper, code, card}
 use Rattle.lookup.specs.declared.judging.Judged.the-variants.{Ready, Refused}
 use Rattle.lookup.specs.Places.{Lent}
 use Rattle.lookup.specs.Answers.{lookup-areas, driver-of, search-of, judged-of, judged-lent}
@@ -75,8 +75,8 @@ module _ (table clipped buckets side keys : List ℕ) (n : ℕ) (t : plain.Setti
   pub record FineBurst (c : Settings) : Type 0 where
     pub same : paper c ≡ t
     pub lent : Lent (paper c) clipped buckets side
-    pub table-size : has (length table) (table-lengths (card-of (paper c) .width)) ≡ true
-    pub keys-size : length keys ≡ n * card-of (paper c) .width
+    pub table-size : has (length table) (table-lengths (card c .width)) ≡ true
+    pub keys-size : length keys ≡ n * card c .width
 
   pub fine-burst : (c : Settings) → judged-burst table t clipped buckets side keys n ≡ Ready c → FineBurst c
   unfolding judged-burst lookup-lengths
@@ -105,7 +105,7 @@ module _ (table : List ℕ) (t : plain.Settings) (clipped buckets side key : Lis
   unfolding judged-lent
   lent-1 e = rw e
 
-  module _ (ok : allowed t ≡ true) (c : Settings) (same : paper c ≡ t) (w : ℕ) (wide : w ≡ card-of (paper c) .width) where
+  module _ (ok : allowed t ≡ true) (c : Settings) (same : paper c ≡ t) (w : ℕ) (wide : w ≡ card c .width) where
     is-width : w ≡ card-of t .width
     is-width = wide ∙ ap (λ (u : plain.Settings). card-of u .width) same
 
@@ -147,7 +147,7 @@ module _ (t : plain.Settings) (clipped buckets side key : List ℕ) where
   pub record Fine (c : Settings) : Type 0 where
     pub same : paper c ≡ t
     pub lent : Lent (paper c) clipped buckets side
-    pub wide : length key ≡ card-of (paper c) .width
+    pub wide : length key ≡ card c .width
 
   pub fine : (c : Settings) → judged-of t clipped buckets side key ≡ Ready c → Fine c
   unfolding judged-of key-wrong lookup-lengths

@@ -17,7 +17,7 @@ use Rattle.theory.specs.Calls.{marks, lookup-invalid, tally-areas, call, lookup
 use Rattle.theory.proofs.ListLaws.{by-test, all-every, all-each, map-cong}
 use Rattle.theory.proofs.SettingsLaws.{sound}
 use Rattle.settings.specs.declared.Settings as settings
-use Rattle.settings.specs.Checked.{paper}
+use Rattle.settings.specs.Checked.{paper, card}
 use Rattle.settings.proofs.Laws.{bucket-within}
 use Rattle.lookup.specs.Places.{Lent}
 use Rattle.lookup.specs.Answers.{lookup-areas}
@@ -123,8 +123,8 @@ module _ (t : Settings) (ledger clipped buckets side : List ℕ) where
   pub tally-1 : allowed t ≡ false → (x : Totals) → x ≡ no-totals 1 → record { reply = totalled x; state = read-areas ledger clipped buckets side } ≡ perform t 0 tally (read-areas ledger clipped buckets side)
   tally-1 a x e = tally-performs x (rw (a, e))
 
-  pub lengths-by : (c : settings.Settings) → paper c ≡ t → (u : ℕ) → u ≡ ledger-length (card-of (paper c)) → (right : Bool)
-      → right ≡ all (λ x. x) (lookup-lengths (card-of (paper c)) (lookup-areas clipped buckets side)) → lengths-right ≡ (eqb (length ledger) u && right)
+  pub lengths-by : (c : settings.Settings) → paper c ≡ t → (u : ℕ) → u ≡ ledger-length (card c) → (right : Bool)
+      → right ≡ all (λ x. x) (lookup-lengths (card c) (lookup-areas clipped buckets side)) → lengths-right ≡ (eqb (length ledger) u && right)
   unfolding lookup-lengths
   lengths-by c same u eu right er = rw (eu, er, same)
 
@@ -139,11 +139,11 @@ module _ (t : Settings) (ledger clipped buckets side : List ℕ) where
         → record { reply = totalled r; state = read-areas ledger clipped buckets side } ≡ perform t 0 tally (read-areas ledger clipped buckets side)
     tally-2 e r f = tally-performs r (rw (c .ok, c .lengths-are, e, f))
 
-    pub tally-on : lengths ≡ true → (r : Totals) → r ≡ tally-areas (card-of (paper s)) (read-areas ledger clipped buckets side)
+    pub tally-on : lengths ≡ true → (r : Totals) → r ≡ tally-areas (card s) (read-areas ledger clipped buckets side)
         → record { reply = totalled r; state = read-areas ledger clipped buckets side } ≡ perform t 0 tally (read-areas ledger clipped buckets side)
     tally-on e r f = tally-performs r (rw (c .ok, c .lengths-are, e, f, c .same))
 
-    pub tally-lent : lengths ≡ true → Lent (paper s) clipped buckets side × (length ledger ≡ ledger-length (card-of (paper s)))
+    pub tally-lent : lengths ≡ true → Lent (paper s) clipped buckets side × (length ledger ≡ ledger-length (card s))
     unfolding lookup-lengths
     tally-lent e =
         let h = all-each (λ x. x) (eqb (length ledger) (ledger-length (card-of t)) ∷ lookup-lengths (card-of t) (read-areas ledger clipped buckets side)) (c .lengths-are ∙ e) in

@@ -21,10 +21,10 @@ ghost use mathlib.Core.Bool.{true, cond};
 ghost use Prim.Native.Nat.{ℕ, _*_, _<_};
 ghost use Rattle.theory.specs.Lists.{has};
 ghost use lib.ListN.{length, getD};
-ghost use Rattle.theory.specs.Settings.{allowed, card-of, clipped-length};
+ghost use Rattle.theory.specs.Settings.{allowed, clipped-length};
 ghost use Rattle.theory.specs.Lookup as plain;
 ghost use Rattle.hash.specs.Table.{table-lengths, H-by};
-ghost use Rattle.settings.specs.Checked.{paper, given-of};
+ghost use Rattle.settings.specs.Checked.{paper, given-of, card};
 ghost use Rattle.lookup.specs.Places as places;
 ghost use Rattle.lookup.specs.Places.{place-by, ChoiceFits};
 ghost use Rattle.lookup.specs.Answers.{answer-of, search-of};
@@ -56,8 +56,8 @@ fn unpacked(x: u64) -> Choice
 
 // What is left of a search once the counters are read.
 fn search_chosen(s: Settings, choice: Choice, buckets: &[u8], side: &[u8], key: &[u8]) -> Answer
-    requires { ⌜ places.Judged (paper s) (now buckets) (now side) × ChoiceFits (paper s) choice × (length (now key) ≡ card-of (paper s) .width) ⌝ }
-    ensures { λ r. ⌜ answer-of r ≡ plain.answer-at (card-of (paper s)) (now (key .entry)) (place-by (card-of (paper s)) choice (now (buckets .entry)) (now (side .entry))) ⌝ }
+    requires { ⌜ places.Judged (paper s) (now buckets) (now side) × ChoiceFits (paper s) choice × (length (now key) ≡ card s .width) ⌝ }
+    ensures { λ r. ⌜ answer-of r ≡ plain.answer-at (card s) (now (key .entry)) (place-by (card s) choice (now (buckets .entry)) (now (side .entry))) ⌝ }
 {
     let place = place_by(s, choice, buckets, side);
     match place {
@@ -70,9 +70,9 @@ fn search_chosen(s: Settings, choice: Choice, buckets: &[u8], side: &[u8], key: 
 
 // The first pass: what the table gives for each key.
 fn hash_all(s: Settings, table: &[u64], keys: &[u8], answers: &mut [u64])
-    requires { ⌜ (has (length (now table)) (table-lengths (card-of (paper s) .width)) ≡ true)
-        × (length (now keys) ≡ length (now answers) * card-of (paper s) .width) ⌝ }
-    ensures { λ _. ⌜ now (answers .exit) ≡ each (λ j. H-by (now (table .entry)) (key-at (card-of (paper s) .width) (now (keys .entry)) j)) (length (now (answers .entry))) ⌝ }
+    requires { ⌜ (has (length (now table)) (table-lengths (card s .width)) ≡ true)
+        × (length (now keys) ≡ length (now answers) * card s .width) ⌝ }
+    ensures { λ _. ⌜ now (answers .exit) ≡ each (λ j. H-by (now (table .entry)) (key-at (card s .width) (now (keys .entry)) j)) (length (now (answers .entry))) ⌝ }
 {
     let width = s.width();
     let mut i: usize = 0;
@@ -87,7 +87,7 @@ fn hash_all(s: Settings, table: &[u64], keys: &[u8], answers: &mut [u64])
 
 // The second pass: what the counters say of each key, by its H.
 fn choose_all(s: Settings, clipped: &[u8], answers: &mut [u64])
-    requires { ⌜ (allowed (paper s) ≡ true) × (length (now clipped) ≡ clipped-length (card-of (paper s))) ⌝ }
+    requires { ⌜ (allowed (paper s) ≡ true) × (length (now clipped) ≡ clipped-length (card s)) ⌝ }
     ensures { λ _. ⌜ now (answers .exit) ≡ each (λ j. packed-of (choice-at (paper s) (now (clipped .entry)) (getD (now (answers .entry)) j 0))) (length (now (answers .entry))) ⌝ }
 {
     let n = answers.len();
@@ -100,10 +100,10 @@ fn choose_all(s: Settings, clipped: &[u8], answers: &mut [u64])
 
 // The third pass: the driver's number of each key.
 fn answer_all(s: Settings, buckets: &[u8], side: &[u8], keys: &[u8], answers: &mut [u64])
-    requires { ⌜ places.Judged (paper s) (now buckets) (now side) × (length (now keys) ≡ length (now answers) * card-of (paper s) .width)
+    requires { ⌜ places.Judged (paper s) (now buckets) (now side) × (length (now keys) ≡ length (now answers) * card s .width)
         × ((j : ℕ) → j < length (now answers) → ChoiceFits (paper s) (unpacked-of (getD (now answers) j 0))) ⌝ }
     ensures { λ _. ⌜ now (answers .exit) ≡ each (λ j. number-by (paper s) (now (buckets .entry)) (now (side .entry))
-        (key-at (card-of (paper s) .width) (now (keys .entry)) j) (getD (now (answers .entry)) j 0)) (length (now (answers .entry))) ⌝ }
+        (key-at (card s .width) (now (keys .entry)) j) (getD (now (answers .entry)) j 0)) (length (now (answers .entry))) ⌝ }
 {
     let width = s.width();
     let mut i: usize = 0;

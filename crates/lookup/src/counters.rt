@@ -6,9 +6,9 @@ ghost use mathlib.Core.Path.{_≡_};
 ghost use mathlib.Core.Bool.{true};
 ghost use Prim.Native.Nat.{_/_, _<_};
 ghost use lib.ListN.{length};
-ghost use Rattle.theory.specs.Settings.{allowed, card-of, clipped-length};
+ghost use Rattle.theory.specs.Settings.{allowed, clipped-length};
 ghost use Rattle.theory.specs.Lookup as plain;
-ghost use Rattle.settings.specs.Checked.{paper};
+ghost use Rattle.settings.specs.Checked.{paper, card};
 ghost use Rattle.lookup.specs.Choosing.{ChoiceOf};
 
 // One counter above T or none; the least; of the bucket numbers with the least, the lowest.
@@ -28,7 +28,7 @@ pub fn counter(clipped: &[u8], b: usize) -> ClippedCount
 
 // The least rank of the counters has the least counter and the lowest bucket with it: no branch. Repeated hashes are read again and alter nothing.
 pub fn choose(s: Settings, h: u64, clipped: &[u8]) -> Choice
-    requires { ⌜ (allowed (paper s) ≡ true) × (length (now clipped) ≡ clipped-length (card-of (paper s))) ⌝ }
+    requires { ⌜ (allowed (paper s) ≡ true) × (length (now clipped) ≡ clipped-length (card s)) ⌝ }
     ensures { λ r. ⌜ ChoiceOf (paper s) h (now (clipped .entry)) r ⌝ }
 {
     let k = s.k;

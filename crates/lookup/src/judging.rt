@@ -6,9 +6,9 @@ use settings::lengths::lookup_lengths_right;
 ghost use mathlib.Core.Path.{_≡_};
 ghost use mathlib.Core.Bool.{true};
 ghost use Rattle.theory.specs.Lists.{all};
-ghost use Rattle.theory.specs.Settings.{allowed, card-of};
+ghost use Rattle.theory.specs.Settings.{allowed};
 ghost use Rattle.theory.specs.Calls.{lookup-lengths};
-ghost use Rattle.settings.specs.Checked.{paper, given-of};
+ghost use Rattle.settings.specs.Checked.{paper, given-of, card};
 ghost use Rattle.lookup.specs.Answers.{lookup-areas, judged-of, judged-lent};
 ghost use Rattle.lookup.specs.Bursts.{judged-burst};
 
@@ -20,7 +20,7 @@ pub enum Judged {
 // The lookup areas have their lengths.
 pub fn areas_right(s: Settings, clipped: &[u8], buckets: &[u8], side: &[u8]) -> bool
     requires { ⌜ allowed (paper s) ≡ true ⌝ }
-    ensures { λ r. ⌜ r ≡ all (λ x. x) (lookup-lengths (card-of (paper s)) (lookup-areas (now (clipped .entry)) (now (buckets .entry)) (now (side .entry)))) ⌝ }
+    ensures { λ r. ⌜ r ≡ all (λ x. x) (lookup-lengths (card s) (lookup-areas (now (clipped .entry)) (now (buckets .entry)) (now (side .entry)))) ⌝ }
 {
     lookup_lengths_right(s, clipped.len(), buckets.len(), side.len())
 }

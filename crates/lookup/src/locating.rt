@@ -14,8 +14,7 @@ use settings::Settings;
 ghost use mathlib.Core.Path.{_≡_};
 ghost use Prim.Native.Nat.{_≤_};
 ghost use lib.ListN.{length};
-ghost use Rattle.theory.specs.Settings.{card-of};
-ghost use Rattle.settings.specs.Checked.{paper, given-of};
+ghost use Rattle.settings.specs.Checked.{paper, given-of, card};
 ghost use Rattle.lookup.specs.Choosing.{card-at};
 ghost use Rattle.lookup.specs.Places.{Lent};
 ghost use Rattle.lookup.specs.Locating.{nowhere-of, located-from, LocatedAt, LocatedCall};
@@ -63,7 +62,7 @@ fn locate_at(
     side: &[u8],
     key: &[u8],
 ) -> Located
-    requires { ⌜ Lent (paper s) (now clipped) (now buckets) (now side) × (length (now key) ≡ card-of (paper s) .width) ⌝ }
+    requires { ⌜ Lent (paper s) (now clipped) (now buckets) (now side) × (length (now key) ≡ card s .width) ⌝ }
     ensures { λ r. ⌜ LocatedAt (card-at (paper s) h) (now (clipped .entry)) (now (buckets .entry)) (now (side .entry)) (now (key .entry)) r ⌝ }
 {
     let size = s.record_size();

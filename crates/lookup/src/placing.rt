@@ -8,9 +8,9 @@ ghost use mathlib.Core.List.{List};
 ghost use Prim.Native.Nat.{ℕ, _*_, _<_, _≤_};
 ghost use lib.Dec.{eqb};
 ghost use lib.ListN.{length, getD};
-ghost use Rattle.theory.specs.Settings.{allowed, card-of, buckets-length, side-length};
+ghost use Rattle.theory.specs.Settings.{allowed, buckets-length, side-length};
 ghost use Rattle.theory.specs.Lookup as plain;
-ghost use Rattle.settings.specs.Checked.{paper};
+ghost use Rattle.settings.specs.Checked.{paper, card};
 ghost use Rattle.lookup.specs.Choosing.{card-at};
 ghost use Rattle.lookup.specs.Places.{Lent, Judged, place-of, place-by, Inside, ChoiceFits, goes-by, Goes};
 
@@ -25,10 +25,10 @@ pub enum Place {
 
 // The side store is compared: 5 for a side count above S.
 fn side_place(s: Settings, side: &[u8], read: u32) -> Place
-    requires { ⌜ (allowed (paper s) ≡ true) × (length (now side) ≡ side-length (card-of (paper s))) × (read ≤ 1) ⌝ }
-    ensures { λ r. ⌜ ((buckets : List ℕ) → place-of (card-of (paper s)) buckets (now (side .entry)) r
-        ≡ plain.side-place (card-of (paper s)) (now (side .entry)) read)
-        × Inside (paper s) r × ((b : ℕ) → Goes (card-of (paper s)) b false r) ⌝ }
+    requires { ⌜ (allowed (paper s) ≡ true) × (length (now side) ≡ side-length (card s)) × (read ≤ 1) ⌝ }
+    ensures { λ r. ⌜ ((buckets : List ℕ) → place-of (card s) buckets (now (side .entry)) r
+        ≡ plain.side-place (card s) (now (side .entry)) read)
+        × Inside (paper s) r × ((b : ℕ) → Goes (card s) b false r) ⌝ }
 {
     let records = ledger::bytes::count_at(side);
     if s.side_places < records {
@@ -39,12 +39,12 @@ fn side_place(s: Settings, side: &[u8], read: u32) -> Place
 
 // One bucket is read: mark 255 sends on to the side store, 5 for another mark above B.
 fn bucket_place(s: Settings, buckets: &[u8], bucket: usize, side: &[u8]) -> Place
-    requires { ⌜ (allowed (paper s) ≡ true) × (length (now side) ≡ side-length (card-of (paper s)))
-        × (length (now buckets) ≡ buckets-length (card-of (paper s))) × (bucket < card-of (paper s) .buckets) ⌝ }
-    ensures { λ r. ⌜ (place-of (card-of (paper s)) (now (buckets .entry)) (now (side .entry)) r
-        ≡ plain.bucket-place (card-of (paper s)) (plain.bucket-part (card-of (paper s)) (now (buckets .entry)) bucket) (now (side .entry)))
+    requires { ⌜ (allowed (paper s) ≡ true) × (length (now side) ≡ side-length (card s))
+        × (length (now buckets) ≡ buckets-length (card s)) × (bucket < card s .buckets) ⌝ }
+    ensures { λ r. ⌜ (place-of (card s) (now (buckets .entry)) (now (side .entry)) r
+        ≡ plain.bucket-place (card s) (plain.bucket-part (card s) (now (buckets .entry)) bucket) (now (side .entry)))
         × Inside (paper s) r
-        × Goes (card-of (paper s)) bucket (not (eqb (getD (plain.bucket-part (card-of (paper s)) (now (buckets .entry)) bucket) 0 0) 255)) r ⌝ }
+        × Goes (card s) bucket (not (eqb (getD (plain.bucket-part (card s) (now (buckets .entry)) bucket) 0 0) 255)) r ⌝ }
 {
     let at = bucket * s.bucket_size();
     let mark = buckets[at] as usize;
@@ -63,9 +63,9 @@ fn bucket_place(s: Settings, buckets: &[u8], bucket: usize, side: &[u8]) -> Plac
 // "any counter of the key zero: absent; all equal to T: the side store is compared; otherwise the chosen bucket is read"
 pub fn place_by(s: Settings, choice: Choice, buckets: &[u8], side: &[u8]) -> Place
     requires { ⌜ Judged (paper s) (now buckets) (now side) × ChoiceFits (paper s) choice ⌝ }
-    ensures { λ r. ⌜ (place-of (card-of (paper s)) (now (buckets .entry)) (now (side .entry)) r
-        ≡ place-by (card-of (paper s)) choice (now (buckets .entry)) (now (side .entry)))
-        × Inside (paper s) r × Goes (card-of (paper s)) (choice .bucket) (goes-by (card-of (paper s)) choice (now (buckets .entry))) r ⌝ }
+    ensures { λ r. ⌜ (place-of (card s) (now (buckets .entry)) (now (side .entry)) r
+        ≡ place-by (card s) choice (now (buckets .entry)) (now (side .entry)))
+        × Inside (paper s) r × Goes (card s) (choice .bucket) (goes-by (card s) choice (now (buckets .entry))) r ⌝ }
 {
     if choice.above {
         return Place::Invalid;
@@ -83,7 +83,7 @@ pub fn place_by(s: Settings, choice: Choice, buckets: &[u8], side: &[u8]) -> Pla
 // "It reads all counters of the key, then" looks by what they say.
 pub fn find_place(s: Settings, h: u64, clipped: &[u8], buckets: &[u8], side: &[u8]) -> Place
     requires { ⌜ Lent (paper s) (now clipped) (now buckets) (now side) ⌝ }
-    ensures { λ r. ⌜ ((key : List ℕ) → place-of (card-of (paper s)) (now (buckets .entry)) (now (side .entry)) r
+    ensures { λ r. ⌜ ((key : List ℕ) → place-of (card s) (now (buckets .entry)) (now (side .entry)) r
         ≡ plain.place (card-at (paper s) h) (now (clipped .entry)) (now (buckets .entry)) (now (side .entry)) key)
         × Inside (paper s) r ⌝ }
 {

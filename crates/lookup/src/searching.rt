@@ -13,13 +13,13 @@ ghost use mathlib.Core.Bool.{true, cond};
 ghost use Prim.Native.Nat.{_+_, _-_, _*_, _≤_};
 ghost use lib.ListN.{length, take, drop};
 ghost use Rattle.theory.specs.Records.{class-width, records, find, comparisons};
-ghost use Rattle.theory.specs.Settings.{allowed, card-of, bucket-size, buckets-length, side-length};
+ghost use Rattle.theory.specs.Settings.{allowed, bucket-size, buckets-length, side-length};
 ghost use Rattle.theory.specs.Lookup as plain;
 ghost use Rattle.theory.specs.Layout.{Areas};
 ghost use Rattle.theory.specs.Ledger.{Step, answered};
 ghost use Rattle.theory.specs.Ledger as calls;
 ghost use Rattle.theory.specs.Calls.{perform};
-ghost use Rattle.settings.specs.Checked.{paper, given-of};
+ghost use Rattle.settings.specs.Checked.{paper, given-of, card};
 ghost use Rattle.lookup.specs.Choosing.{card-at};
 ghost use Rattle.lookup.specs.Places.{Lent};
 ghost use Rattle.lookup.specs.Answers.{answer-of, lookup-areas, search-with};
@@ -101,10 +101,10 @@ fn compare_all(place: &[u8], n: usize, room: usize, key: &[u8], read: u32) -> An
 
 // The records of a bucket, which start after its mark.
 pub fn compare_bucket(s: Settings, buckets: &[u8], from: usize, n: usize, key: &[u8]) -> Answer
-    requires { ⌜ (allowed (paper s) ≡ true) × (length (now buckets) ≡ buckets-length (card-of (paper s))) × (length (now key) ≡ card-of (paper s) .width)
-        × (from + (bucket-size (card-of (paper s)) - 1) ≤ length (now buckets)) × (n ≤ s .room) ⌝ }
-    ensures { λ r. ⌜ answer-of r ≡ plain.answer-at (card-of (paper s)) (now (key .entry))
-        (plain.among (take (bucket-size (card-of (paper s)) - 1) (drop from (now (buckets .entry)))) n 1) ⌝ }
+    requires { ⌜ (allowed (paper s) ≡ true) × (length (now buckets) ≡ buckets-length (card s)) × (length (now key) ≡ card s .width)
+        × (from + (bucket-size (card s) - 1) ≤ length (now buckets)) × (n ≤ s .room) ⌝ }
+    ensures { λ r. ⌜ answer-of r ≡ plain.answer-at (card s) (now (key .entry))
+        (plain.among (take (bucket-size (card s) - 1) (drop from (now (buckets .entry)))) n 1) ⌝ }
 {
     let end = from + (s.bucket_size() - 1);
     // the width as the settings have it, which the compiler knows
@@ -114,9 +114,9 @@ pub fn compare_bucket(s: Settings, buckets: &[u8], from: usize, n: usize, key: &
 
 // The records of the side store, which start after its count.
 pub fn compare_side(s: Settings, side: &[u8], n: usize, read: u32, key: &[u8]) -> Answer
-    requires { ⌜ (allowed (paper s) ≡ true) × (length (now side) ≡ side-length (card-of (paper s))) × (length (now key) ≡ card-of (paper s) .width)
+    requires { ⌜ (allowed (paper s) ≡ true) × (length (now side) ≡ side-length (card s)) × (length (now key) ≡ card s .width)
         × (n ≤ s .«side_places») ⌝ }
-    ensures { λ r. ⌜ answer-of r ≡ plain.answer-at (card-of (paper s)) (now (key .entry)) (plain.among (drop 2 (now (side .entry))) n read) ⌝ }
+    ensures { λ r. ⌜ answer-of r ≡ plain.answer-at (card s) (now (key .entry)) (plain.among (drop 2 (now (side .entry))) n read) ⌝ }
 {
     compare(&side[2..], n, key, read)
 }
@@ -131,7 +131,7 @@ pub fn search_at(
     side: &[u8],
     key: &[u8],
 ) -> Answer
-    requires { ⌜ Lent (paper s) (now clipped) (now buckets) (now side) × (length (now key) ≡ card-of (paper s) .width) ⌝ }
+    requires { ⌜ Lent (paper s) (now clipped) (now buckets) (now side) × (length (now key) ≡ card s .width) ⌝ }
     ensures { λ r. ⌜ answer-of r ≡ plain.search-areas (card-at (paper s) h) (now (clipped .entry)) (now (buckets .entry)) (now (side .entry)) (now (key .entry)) ⌝ }
 {
     let place = find_place(s, h, clipped, buckets, side);

@@ -11,14 +11,14 @@ ghost use Prim.Native.Nat.{ℕ, _+_, _*_, _≤_, _<_};
 ghost use lib.Dec.{eqb, ltb};
 ghost use lib.ListN.{length};
 ghost use Rattle.theory.specs.Lists.{any, upto, sum, filter};
-ghost use Rattle.theory.specs.Settings.{allowed, card-of, ledger-length, clipped-length, buckets-length, side-length};
+ghost use Rattle.theory.specs.Settings.{allowed, ledger-length, clipped-length, buckets-length, side-length};
 ghost use Rattle.theory.specs.Records.{count-of};
 ghost use Rattle.theory.specs.Layout.{Areas};
 ghost use Rattle.theory.specs.Lookup as plain;
 ghost use Rattle.theory.specs.Ledger as ledgers;
 ghost use Rattle.theory.specs.Ledger.{Step, totalled};
 ghost use Rattle.theory.specs.Calls.{marks, lookup-invalid, tally-areas, perform};
-ghost use Rattle.settings.specs.Checked.{paper, given-of};
+ghost use Rattle.settings.specs.Checked.{paper, given-of, card};
 ghost use Rattle.lookup.specs.Places.{Lent};
 ghost use Rattle.lookup.specs.Tallies.{totals-of, read-areas};
 
@@ -45,8 +45,8 @@ fn no_totals(number: u32) -> Totals
 
 // No clipped count is above T.
 fn counters_valid(s: Settings, clipped: &[u8]) -> bool
-    requires { ⌜ (allowed (paper s) ≡ true) × (length (now clipped) ≡ clipped-length (card-of (paper s))) ⌝ }
-    ensures { λ r. ⌜ r ≡ not (any (λ b. ltb (s .top) (plain.counter (now (clipped .entry)) b)) (upto 0 (card-of (paper s) .buckets))) ⌝ }
+    requires { ⌜ (allowed (paper s) ≡ true) × (length (now clipped) ≡ clipped-length (card s)) ⌝ }
+    ensures { λ r. ⌜ r ≡ not (any (λ b. ltb (s .top) (plain.counter (now (clipped .entry)) b)) (upto 0 (card s .buckets))) ⌝ }
 {
     let m = s.buckets();
     let top = s.top;
@@ -63,8 +63,8 @@ fn counters_valid(s: Settings, clipped: &[u8]) -> bool
 
 // No mark is above B but 255.
 fn marks_valid(s: Settings, buckets: &[u8]) -> bool
-    requires { ⌜ (allowed (paper s) ≡ true) × (length (now buckets) ≡ buckets-length (card-of (paper s))) ⌝ }
-    ensures { λ r. ⌜ r ≡ not (any (λ x. ltb (s .room) x && not (eqb x 255)) (marks (card-of (paper s)) (now (buckets .entry)))) ⌝ }
+    requires { ⌜ (allowed (paper s) ≡ true) × (length (now buckets) ≡ buckets-length (card s)) ⌝ }
+    ensures { λ r. ⌜ r ≡ not (any (λ x. ltb (s .room) x && not (eqb x 255)) (marks (card s) (now (buckets .entry)))) ⌝ }
 {
     let m = s.buckets();
     let size = s.bucket_size();
@@ -105,9 +105,9 @@ fn with_mark(sums: Marks, mark: u8) -> Marks
 }
 
 fn sum_marks(s: Settings, buckets: &[u8]) -> Marks
-    requires { ⌜ (allowed (paper s) ≡ true) × (length (now buckets) ≡ buckets-length (card-of (paper s))) ⌝ }
-    ensures { λ r. ⌜ (r .«in_buckets» ≡ sum (filter (λ x. not (eqb x 255)) (marks (card-of (paper s)) (now (buckets .entry)))))
-        × (r .«marked_255» ≡ length (filter (λ x. eqb x 255) (marks (card-of (paper s)) (now (buckets .entry))))) ⌝ }
+    requires { ⌜ (allowed (paper s) ≡ true) × (length (now buckets) ≡ buckets-length (card s)) ⌝ }
+    ensures { λ r. ⌜ (r .«in_buckets» ≡ sum (filter (λ x. not (eqb x 255)) (marks (card s) (now (buckets .entry)))))
+        × (r .«marked_255» ≡ length (filter (λ x. eqb x 255) (marks (card s) (now (buckets .entry))))) ⌝ }
 {
     let m = s.buckets();
     let size = s.bucket_size();
@@ -128,7 +128,7 @@ fn sum_marks(s: Settings, buckets: &[u8]) -> Marks
 // "5, in what a search or tally reads, a clipped count above T, a mark above B other than 255, a side count above S"
 fn lookup_valid(s: Settings, clipped: &[u8], buckets: &[u8], side: &[u8]) -> bool
     requires { ⌜ Lent (paper s) (now clipped) (now buckets) (now side) ⌝ }
-    ensures { λ r. ⌜ ((ledger : List ℕ) → r ≡ not (lookup-invalid (card-of (paper s)) (read-areas ledger (now (clipped .entry)) (now (buckets .entry)) (now (side .entry))))) ⌝ }
+    ensures { λ r. ⌜ ((ledger : List ℕ) → r ≡ not (lookup-invalid (card s) (read-areas ledger (now (clipped .entry)) (now (buckets .entry)) (now (side .entry))))) ⌝ }
 {
     if !counters_valid(s, clipped) {
         return false;
@@ -149,10 +149,10 @@ fn fill(n: usize, m: usize) -> u32
 
 // The four numbers of areas within the rules.
 fn count_all(s: Settings, ledger: &[u8], buckets: &[u8], side: &[u8]) -> Totals
-    requires { ⌜ (allowed (paper s) ≡ true) × (length (now ledger) ≡ ledger-length (card-of (paper s)))
-        × (length (now buckets) ≡ buckets-length (card-of (paper s))) × (length (now side) ≡ side-length (card-of (paper s))) ⌝ }
-    ensures { λ r. ⌜ totals-of r ≡ ledgers.totals-of (marks (card-of (paper s)) (now (buckets .entry))) (count-of (now (side .entry))) (count-of (now (ledger .entry)))
-        (card-of (paper s) .buckets) ⌝ }
+    requires { ⌜ (allowed (paper s) ≡ true) × (length (now ledger) ≡ ledger-length (card s))
+        × (length (now buckets) ≡ buckets-length (card s)) × (length (now side) ≡ side-length (card s)) ⌝ }
+    ensures { λ r. ⌜ totals-of r ≡ ledgers.totals-of (marks (card s) (now (buckets .entry))) (count-of (now (side .entry))) (count-of (now (ledger .entry)))
+        (card s .buckets) ⌝ }
 {
     let sums = sum_marks(s, buckets);
     Totals {
@@ -166,8 +166,8 @@ fn count_all(s: Settings, ledger: &[u8], buckets: &[u8], side: &[u8]) -> Totals
 
 // Tally on allowed settings and areas of their lengths: 4, then 5, then the four numbers.
 fn tally_lent(s: Settings, ledger: &[u8], clipped: &[u8], buckets: &[u8], side: &[u8]) -> Totals
-    requires { ⌜ Lent (paper s) (now clipped) (now buckets) (now side) × (length (now ledger) ≡ ledger-length (card-of (paper s))) ⌝ }
-    ensures { λ r. ⌜ totals-of r ≡ tally-areas (card-of (paper s)) (read-areas (now (ledger .entry)) (now (clipped .entry)) (now (buckets .entry)) (now (side .entry))) ⌝ }
+    requires { ⌜ Lent (paper s) (now clipped) (now buckets) (now side) × (length (now ledger) ≡ ledger-length (card s)) ⌝ }
+    ensures { λ r. ⌜ totals-of r ≡ tally-areas (card s) (read-areas (now (ledger .entry)) (now (clipped .entry)) (now (buckets .entry)) (now (side .entry))) ⌝ }
 {
     if !ledger::valid(s, ledger) {
         return no_totals(4);

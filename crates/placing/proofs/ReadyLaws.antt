@@ -17,7 +17,7 @@ use Rattle.theory.proofs.RankLaws.{any-numbers, rank, rank-least, rank-chosen}
 use Rattle.theory.proofs.SettingsLaws.{Sound, sound}
 use Rattle.theory.proofs.PlacingLaws.{chosen-below}
 use Rattle.settings.specs.declared.Settings.{Settings}
-use Rattle.settings.specs.Checked.{paper}
+use Rattle.settings.specs.Checked.{paper, card}
 use Rattle.settings.proofs.Laws.{width-is, top-is, bounds}
 use Rattle.hash.specs.Digits.{table-length}
 use Rattle.hash.specs.Table.{TableFor}
@@ -49,19 +49,19 @@ choice-by-rank t ok c m h best m-is is-least key e =
     (rw low (all-top-by t c key), rank-chosen s c (t .k) h best (omega arith) (omega arith) least-is key (numbers-by t h key e))
 
 module _ (s : Settings) (t : List ℕ) (ready : Ready s t) where
-  pub sound-card : Sound (card-of (paper s))
+  pub sound-card : Sound (card s)
   sound-card = sound (paper s) (ready .ok)
 
   -- the table serves a key of the card's width
-  module _ (k : List ℕ) (wide : length k ≡ card-of (paper s) .width) where
+  module _ (k : List ℕ) (wide : length k ≡ card s .width) where
     pub right-for : TableFor (length k) t
     right-for = rw wide (ready .right)
 
     pub long-for : table-length 8 (length k) ≤ length t
     long-for = omega (arith, wide, lent-length _ _ (ready .long))
 
-  pub chosen-within : (c : ℕ → ℕ) (k : List ℕ) → all-top (card-of (paper s)) c k ≡ false → chosen (card-of (paper s)) c k < card-of (paper s) .buckets
-  chosen-within c k e = chosen-below (card-of (paper s)) sound-card c k e
+  pub chosen-within : (c : ℕ → ℕ) (k : List ℕ) → all-top (card s) c k ≡ false → chosen (card s) c k < card s .buckets
+  chosen-within c k e = chosen-below (card s) sound-card c k e
 
 -- the table that a call makes is the right one
 pub ready : (s : Settings) → allowed (paper s) ≡ true → (t : List ℕ) → TableFor 13 t → length t ≡ table-length 8 13 → Ready s t

@@ -11,10 +11,10 @@ ghost use lib.ListN.{length, drop, replicate};
 ghost use Rattle.theory.specs.Lists.{has};
 ghost use Rattle.theory.specs.Records.{class-width, Record, records};
 ghost use Rattle.theory.specs.Hash.{H as H-of};
-ghost use Rattle.theory.specs.Settings.{allowed, card-of};
+ghost use Rattle.theory.specs.Settings.{allowed};
 ghost use Rattle.theory.specs.Placing.{true-count, all-top, chosen};
 ghost use Rattle.theory.specs.Ledger.{side-need-of};
-ghost use Rattle.settings.specs.Checked.{paper};
+ghost use Rattle.settings.specs.Checked.{paper, card};
 ghost use Rattle.placing.specs.Ready.{Ready, Choosing, Placing};
 ghost use Rattle.placing.specs.Worked.{nth, Placed, Chose, side-by-choice, parts};
 
@@ -36,9 +36,9 @@ fn pick(test: bool, a: usize, b: usize) -> usize
 
 // One more for each of a key's bucket numbers, where its H is h: "its first k hashes, repeats dropped". No branch: a repeated hash adds 0.
 fn raise_at(s: Settings, h: u64, counts: &mut [u16])
-    requires { ⌜ (allowed (paper s) ≡ true) × (length (now counts) ≡ card-of (paper s) .buckets) × ((b : ℕ) → nth (now counts) b ≤ 60000) ⌝ }
+    requires { ⌜ (allowed (paper s) ≡ true) × (length (now counts) ≡ card s .buckets) × ((b : ℕ) → nth (now counts) b ≤ 60000) ⌝ }
     ensures { λ _. ⌜ ((key : List ℕ) → h ≡ H-of key
-        → (b : ℕ) → nth (now (counts .exit)) b ≡ nth (now (counts .entry)) b + cond (has b (card-of (paper s) .numbers key)) 1 0) ⌝ }
+        → (b : ℕ) → nth (now (counts .exit)) b ≡ nth (now (counts .entry)) b + cond (has b (card s .numbers key)) 1 0) ⌝ }
 {
     let k = s.k;
     let m = s.buckets() as u64;
@@ -58,8 +58,8 @@ fn raise_at(s: Settings, h: u64, counts: &mut [u16])
 
 // The true counts of n records, on top of what is there.
 pub fn count_more(s: Settings, t: &[u64], counts: &mut [u16], area: &[u8], n: usize)
-    requires { ⌜ Ready s (now t) × (length (now counts) ≡ card-of (paper s) .buckets) × (n * (card-of (paper s) .width + class-width) ≤ length (now area)) × ((b : ℕ) → nth (now counts) b + n ≤ 60000) ⌝ }
-    ensures { λ _. ⌜ ((b : ℕ) → nth (now (counts .exit)) b ≡ nth (now (counts .entry)) b + true-count (card-of (paper s)) (records (card-of (paper s) .width) n (now (area .entry))) b) ⌝ }
+    requires { ⌜ Ready s (now t) × (length (now counts) ≡ card s .buckets) × (n * (card s .width + class-width) ≤ length (now area)) × ((b : ℕ) → nth (now counts) b + n ≤ 60000) ⌝ }
+    ensures { λ _. ⌜ ((b : ℕ) → nth (now (counts .exit)) b ≡ nth (now (counts .entry)) b + true-count (card s) (records (card s .width) n (now (area .entry))) b) ⌝ }
 {
     let width = s.width();
     let size = s.record_size();
@@ -83,10 +83,10 @@ struct Choice {
 // The choice of a key whose H is h: the least rank has the least count, or top where all are top or more, and the lowest bucket with it.
 // No branch; repeated hashes are read again and alter nothing.
 fn choose_at(s: Settings, h: u64, counts: &[u16]) -> Choice
-    requires { ⌜ (allowed (paper s) ≡ true) × (length (now counts) ≡ card-of (paper s) .buckets) ⌝ }
+    requires { ⌜ (allowed (paper s) ≡ true) × (length (now counts) ≡ card s .buckets) ⌝ }
     ensures { λ r. ⌜ ((key : List ℕ) → h ≡ H-of key
-        → (r .«all_top» ≡ all-top (card-of (paper s)) (nth (now (counts .entry))) key)
-        × (r .bucket ≡ chosen (card-of (paper s)) (nth (now (counts .entry))) key)) ⌝ }
+        → (r .«all_top» ≡ all-top (card s) (nth (now (counts .entry))) key)
+        × (r .bucket ≡ chosen (card s) (nth (now (counts .entry))) key)) ⌝ }
 {
     let k = s.k;
     let m = s.buckets() as u64;
@@ -111,8 +111,8 @@ fn choose_at(s: Settings, h: u64, counts: &[u16]) -> Choice
 
 // A key's choice by true counts.
 fn choose(s: Settings, t: &[u64], counts: &[u16], key: &[u8]) -> Choice
-    requires { ⌜ Ready s (now t) × (length (now counts) ≡ card-of (paper s) .buckets) × (length (now key) ≡ card-of (paper s) .width) ⌝ }
-    ensures { λ r. ⌜ (r .«all_top» ≡ all-top (card-of (paper s)) (nth (now (counts .entry))) (now (key .entry))) × (r .bucket ≡ chosen (card-of (paper s)) (nth (now (counts .entry))) (now (key .entry))) ⌝ }
+    requires { ⌜ Ready s (now t) × (length (now counts) ≡ card s .buckets) × (length (now key) ≡ card s .width) ⌝ }
+    ensures { λ r. ⌜ (r .«all_top» ≡ all-top (card s) (nth (now (counts .entry))) (now (key .entry))) × (r .bucket ≡ chosen (card s) (nth (now (counts .entry))) (now (key .entry))) ⌝ }
 {
     let h = hash::h_lent(t, key);
     choose_at(s, h, counts)
@@ -142,7 +142,7 @@ fn choose_more(
     kept: &mut [u16],
 )
     requires { ⌜ Choosing s (now t) m (now work) (now area) n (now kept) ⌝ }
-    ensures { λ _. ⌜ Chose (card-of (paper s)) m (records (card-of (paper s) .width) n (now (area .entry)))
+    ensures { λ _. ⌜ Chose (card s) m (records (card s .width) n (now (area .entry)))
         (now (work .entry)) (now (work .exit)) (now (kept .exit)) ⌝ }
 {
     let width = s.width();
@@ -167,8 +167,8 @@ fn wide(v: u16) -> usize
 
 // A key belongs to the side, by its choice and the choosers in work.
 pub fn aside(s: Settings, m: usize, work: &[u16], choice: u16) -> bool
-    requires { ⌜ (m ≡ card-of (paper s) .buckets) × (length (now work) ≡ m + m) × (choice ≤ m) ⌝ }
-    ensures { λ r. ⌜ r ≡ side-by-choice (card-of (paper s)) m (nth (drop m (now (work .entry)))) choice ⌝ }
+    requires { ⌜ (m ≡ card s .buckets) × (length (now work) ≡ m + m) × (choice ≤ m) ⌝ }
+    ensures { λ r. ⌜ r ≡ side-by-choice (card s) m (nth (drop m (now (work .entry)))) choice ⌝ }
 {
     let bucket = wide(choice);
     if bucket == m {
@@ -191,8 +191,8 @@ fn count_parts(
     b: &[u8],
     j: usize,
 )
-    requires { ⌜ Ready s (now t) × (length (now counts) ≡ card-of (paper s) .buckets) × (n * (card-of (paper s) .width + class-width) ≤ length (now a)) × (k * (card-of (paper s) .width + class-width) ≤ length (now mid)) × (j * (card-of (paper s) .width + class-width) ≤ length (now b)) × (n + k + j ≤ 60000) × ((x : ℕ) → nth (now counts) x ≡ 0) ⌝ }
-    ensures { λ _. ⌜ ((x : ℕ) → nth (now (counts .exit)) x ≡ true-count (card-of (paper s)) (parts (card-of (paper s) .width) (now (a .entry)) n (now (mid .entry)) k (now (b .entry)) j) x) ⌝ }
+    requires { ⌜ Ready s (now t) × (length (now counts) ≡ card s .buckets) × (n * (card s .width + class-width) ≤ length (now a)) × (k * (card s .width + class-width) ≤ length (now mid)) × (j * (card s .width + class-width) ≤ length (now b)) × (n + k + j ≤ 60000) × ((x : ℕ) → nth (now counts) x ≡ 0) ⌝ }
+    ensures { λ _. ⌜ ((x : ℕ) → nth (now (counts .exit)) x ≡ true-count (card s) (parts (card s .width) (now (a .entry)) n (now (mid .entry)) k (now (b .entry)) j) x) ⌝ }
 {
     count_more(s, t, counts, a, n);
     count_more(s, t, counts, mid, k);
@@ -214,7 +214,7 @@ fn choose_parts(
     kept: &mut [u16],
 )
     requires { ⌜ Placing s (now t) m (now work) (now a) n (now mid) k (now b) j (now kept) × ((x : ℕ) → nth (drop m (now work)) x ≡ 0) ⌝ }
-    ensures { λ _. ⌜ Chose (card-of (paper s)) m (parts (card-of (paper s) .width) (now (a .entry)) n (now (mid .entry)) k (now (b .entry)) j)
+    ensures { λ _. ⌜ Chose (card s) m (parts (card s .width) (now (a .entry)) n (now (mid .entry)) k (now (b .entry)) j)
         (now (work .entry)) (now (work .exit)) (now (kept .exit)) ⌝ }
 {
     let end = n + k;
@@ -239,7 +239,7 @@ pub fn place_parts(
     kept: &mut [u16],
 )
     requires { ⌜ Placing s (now t) m (now work) (now a) n (now mid) k (now b) j (now kept) ⌝ }
-    ensures { λ _. ⌜ Placed (card-of (paper s)) m (parts (card-of (paper s) .width) (now (a .entry)) n (now (mid .entry)) k (now (b .entry)) j)
+    ensures { λ _. ⌜ Placed (card s) m (parts (card s .width) (now (a .entry)) n (now (mid .entry)) k (now (b .entry)) j)
         (now (work .exit)) (now (kept .exit)) ⌝ }
 {
     zero_counts(work);
@@ -249,8 +249,8 @@ pub fn place_parts(
 
 // "Side need is how many keys belong there."
 pub fn side_need(s: Settings, m: usize, work: &[u16], kept: &[u16]) -> usize
-    requires { ⌜ (allowed (paper s) ≡ true) × (m ≡ card-of (paper s) .buckets) × (length (now work) ≡ m + m) × ((i : ℕ) → nth (now kept) i ≤ m) ⌝ }
-    ensures { λ r. ⌜ ((l : List Record) → Placed (card-of (paper s)) m l (now (work .entry)) (now (kept .entry)) → r ≡ side-need-of (card-of (paper s)) l) ⌝ }
+    requires { ⌜ (allowed (paper s) ≡ true) × (m ≡ card s .buckets) × (length (now work) ≡ m + m) × ((i : ℕ) → nth (now kept) i ≤ m) ⌝ }
+    ensures { λ r. ⌜ ((l : List Record) → Placed (card s) m l (now (work .entry)) (now (kept .entry)) → r ≡ side-need-of (card s) l) ⌝ }
 {
     let mut need: usize = 0;
     let mut i: usize = 0;

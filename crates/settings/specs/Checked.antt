@@ -10,6 +10,10 @@ use Rattle.settings.specs.declared.Checked.the-variants.{Allowed, Refuse
 abbrev pub paper : Settings → plain.Settings
 paper c = record { p = c .p; k = c .k; room = c .room; top = c .top; capacity = c .capacity; side-places = c .«side_places» }
 
+-- the card of the code's settings
+abbrev pub card : Settings → plain.Card
+card c = plain.card-of (paper c)
+
 abbrev pub code : plain.Settings → Settings
 code t = record { p = t .p; k = t .k; room = t .room; top = t .top; capacity = t .capacity; «side_places» = t .side-places }
 

@@ -2,8 +2,8 @@
 use super::Settings;
 ghost use mathlib.Core.Path.{_≡_};
 ghost use mathlib.Core.Bool.{true};
-ghost use Rattle.theory.specs.Settings.{allowed, card-of};
-ghost use Rattle.settings.specs.Checked.{paper};
+ghost use Rattle.theory.specs.Settings.{allowed};
+ghost use Rattle.settings.specs.Checked.{paper, card};
 ghost use Rattle.settings.specs.Lengths.{right-lookup-lengths, right-lengths};
 
 pub struct Lengths {
@@ -17,7 +17,7 @@ pub struct Lengths {
 // Each is as the settings say; else 2.
 pub fn lookup_lengths_right(s: Settings, clipped: usize, buckets: usize, side: usize) -> bool
     requires { ⌜ allowed (paper s) ≡ true ⌝ }
-    ensures { λ r. ⌜ r ≡ right-lookup-lengths (card-of (paper s)) clipped buckets side ⌝ }
+    ensures { λ r. ⌜ r ≡ right-lookup-lengths (card s) clipped buckets side ⌝ }
 {
     let clipped_right = clipped == s.clipped_length();
     let buckets_right = buckets == s.buckets_length();
@@ -27,7 +27,7 @@ pub fn lookup_lengths_right(s: Settings, clipped: usize, buckets: usize, side: u
 
 pub fn lengths_right(s: Settings, l: Lengths) -> bool
     requires { ⌜ allowed (paper s) ≡ true ⌝ }
-    ensures { λ r. ⌜ r ≡ right-lengths (card-of (paper s)) l ⌝ }
+    ensures { λ r. ⌜ r ≡ right-lengths (card s) l ⌝ }
 {
     let ledger_right = l.ledger == s.ledger_length();
     let true_right = l.true_counts == s.true_length();

@@ -1,8 +1,8 @@
 // The settings of document 01 as a type by value: their limits, the checking constructor, and the lengths of the areas.
 ghost use mathlib.Core.Path.{_≡_};
 ghost use mathlib.Core.Bool.{true};
-ghost use Rattle.theory.specs.Settings.{allowed, card-of, record-size, bucket-size, ledger-length, true-length, clipped-length, buckets-length, side-length, work-length};
-ghost use Rattle.settings.specs.Checked.{paper, given-of, checked-of};
+ghost use Rattle.theory.specs.Settings.{allowed, record-size, bucket-size, ledger-length, true-length, clipped-length, buckets-length, side-length, work-length};
+ghost use Rattle.settings.specs.Checked.{paper, given-of, checked-of, card};
 
 pub mod counts; // counts.rt: true counts and clipped counts, each a type of its own
 pub mod lengths; // lengths.rt: the lengths of the areas that a call is lent
@@ -115,21 +115,21 @@ impl Settings {
     // m = 2^p
     pub fn buckets(self) -> usize
         requires { ⌜ allowed (paper self) ≡ true ⌝ }
-        ensures { λ r. ⌜ r ≡ card-of (paper self) .buckets ⌝ }
+        ensures { λ r. ⌜ r ≡ card self .buckets ⌝ }
     {
         let p = self.p;
         1usize << p
     }
 
     pub fn width(self) -> usize
-        ensures { λ r. ⌜ r ≡ card-of (paper self) .width ⌝ }
+        ensures { λ r. ⌜ r ≡ card self .width ⌝ }
     {
         Settings::KEY_WIDTH
     }
 
     // "a record 17 bytes: the key, then the class"
     pub fn record_size(self) -> usize
-        ensures { λ r. ⌜ r ≡ record-size (card-of (paper self)) ⌝ }
+        ensures { λ r. ⌜ r ≡ record-size (card self) ⌝ }
     {
         Settings::KEY_WIDTH + Settings::CLASS_WIDTH
     }
@@ -137,7 +137,7 @@ impl Settings {
     // "one bucket of 1 + 17 × B bytes, a mark, then record places"
     pub fn bucket_size(self) -> usize
         requires { ⌜ allowed (paper self) ≡ true ⌝ }
-        ensures { λ r. ⌜ r ≡ bucket-size (card-of (paper self)) ⌝ }
+        ensures { λ r. ⌜ r ≡ bucket-size (card self) ⌝ }
     {
         1 + self.record_size() * self.room
     }
@@ -145,7 +145,7 @@ impl Settings {
     // "2 + 17 × N bytes"
     pub fn ledger_length(self) -> usize
         requires { ⌜ allowed (paper self) ≡ true ⌝ }
-        ensures { λ r. ⌜ r ≡ ledger-length (card-of (paper self)) ⌝ }
+        ensures { λ r. ⌜ r ≡ ledger-length (card self) ⌝ }
     {
         2 + self.record_size() * self.capacity
     }
@@ -153,7 +153,7 @@ impl Settings {
     // "m 16-bit numbers"
     pub fn true_length(self) -> usize
         requires { ⌜ allowed (paper self) ≡ true ⌝ }
-        ensures { λ r. ⌜ r ≡ true-length (card-of (paper self)) ⌝ }
+        ensures { λ r. ⌜ r ≡ true-length (card self) ⌝ }
     {
         self.buckets()
     }
@@ -161,7 +161,7 @@ impl Settings {
     // "m / 2 bytes"
     pub fn clipped_length(self) -> usize
         requires { ⌜ allowed (paper self) ≡ true ⌝ }
-        ensures { λ r. ⌜ r ≡ clipped-length (card-of (paper self)) ⌝ }
+        ensures { λ r. ⌜ r ≡ clipped-length (card self) ⌝ }
     {
         self.buckets() / 2
     }
@@ -169,7 +169,7 @@ impl Settings {
     // "m times one bucket"
     pub fn buckets_length(self) -> usize
         requires { ⌜ allowed (paper self) ≡ true ⌝ }
-        ensures { λ r. ⌜ r ≡ buckets-length (card-of (paper self)) ⌝ }
+        ensures { λ r. ⌜ r ≡ buckets-length (card self) ⌝ }
     {
         self.buckets() * self.bucket_size()
     }
@@ -177,7 +177,7 @@ impl Settings {
     // "2 + 17 × S bytes, shaped as the ledger"
     pub fn side_length(self) -> usize
         requires { ⌜ allowed (paper self) ≡ true ⌝ }
-        ensures { λ r. ⌜ r ≡ side-length (card-of (paper self)) ⌝ }
+        ensures { λ r. ⌜ r ≡ side-length (card self) ⌝ }
     {
         2 + self.record_size() * self.side_places
     }
@@ -185,7 +185,7 @@ impl Settings {
     // "2 × m 16-bit numbers"
     pub fn work_length(self) -> usize
         requires { ⌜ allowed (paper self) ≡ true ⌝ }
-        ensures { λ r. ⌜ r ≡ work-length (card-of (paper self)) ⌝ }
+        ensures { λ r. ⌜ r ≡ work-length (card self) ⌝ }
     {
         2 * self.buckets()
     }

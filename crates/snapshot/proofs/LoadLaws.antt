@@ -22,7 +22,7 @@ use Rattle.theory.proofs.ByteLaws.{Byte, length-to-bytes, length-records, write
 use Rattle.theory.proofs.CallLaws.{Sized}
 use Rattle.theory.proofs.Demands.{all-lengths-right}
 use Rattle.settings.specs.declared.Settings.{Settings}
-use Rattle.settings.specs.Checked.{paper}
+use Rattle.settings.specs.Checked.{paper, card}
 use Rattle.settings.specs.Lengths.{lengths-of, right-lengths}
 use Rattle.settings.proofs.LengthLaws.{lengths-are}
 use Rattle.ledger.proofs.PartLaws.{zeros, back, tail-is, tail-back}
@@ -113,10 +113,10 @@ module _ (f : List ℕ) (w : ℕ) (a : Areas) where
     unfolding load
     loads-1 e = rw (whole, e)
 
-    pub loads-2 : allowed (file-settings f) ≡ true → (s : Settings) → paper s ≡ file-settings f → (x : ℕ) → x ≡ work-length (card-of (paper s))
-        → (eqb w x && right-lengths (card-of (paper s)) (lengths-of a)) ≡ false → not-loaded 2 a ≡ load f w a
+    pub loads-2 : allowed (file-settings f) ≡ true → (s : Settings) → paper s ≡ file-settings f → (x : ℕ) → x ≡ work-length (card s)
+        → (eqb w x && right-lengths (card s) (lengths-of a)) ≡ false → not-loaded 2 a ≡ load f w a
     unfolding load
-    loads-2 ok s same x ex e = let q = rw (ex, ← lengths-are (card-of (paper s)) a, same) at e in rw (whole, ok, q)
+    loads-2 ok s same x ex e = let q = rw (ex, ← lengths-are (card s) a, same) at e in rw (whole, ok, q)
 
 -- settings t from the file, and areas of their lengths
 pub record Loading (f : List ℕ) (w : ℕ) (a : Areas) (t : plain.Settings) : Type 0 where

@@ -20,7 +20,7 @@ use Rattle.theory.proofs.ListLaws.{All, all-drop, length-drop-past}
 use Rattle.theory.proofs.ByteLaws.{Byte, length-to-bytes, write-records}
 use Rattle.theory.proofs.SnapshotLaws.{head, snapshot-is, length-head}
 use Rattle.settings.specs.declared.Settings.{Settings}
-use Rattle.settings.specs.Checked.{paper}
+use Rattle.settings.specs.Checked.{paper, card}
 use Rattle.ledger.proofs.PartLaws.{back, tail-is, tail-back}
 use Rattle.ledger.proofs.LedgerLaws.{has-count, room-for, records-room, records-are}
 use Rattle.ledger.proofs.EditLaws.{few, listed}
@@ -104,7 +104,7 @@ module _ (t : plain.Settings) (ledger : List ℕ) (w : ℕ) (target : List ℕ) 
   saves-1 e = rw e
 
   -- the two lengths, as the code judges them
-  pub saves-2 : allowed t ≡ true → (s : Settings) → paper s ≡ t → (x y : ℕ) → x ≡ work-length (card-of (paper s)) → y ≡ ledger-length (card-of (paper s))
+  pub saves-2 : allowed t ≡ true → (s : Settings) → paper s ≡ t → (x y : ℕ) → x ≡ work-length (card s) → y ≡ ledger-length (card s)
       → (eqb w x && eqb (length ledger) y) ≡ false → record { number = 2; target = target } ≡ save t ledger w target
   unfolding save
   saves-2 ok s same x y ex ey e = let q = rw (ex, ey, same) at e in rw (ok, and-true, q)

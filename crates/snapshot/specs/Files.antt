@@ -12,7 +12,7 @@ use Rattle.theory.specs.Layout.{Areas}
 use Rattle.theory.specs.Snapshot as snapshots
 use Rattle.theory.specs.Snapshot.{head-size, file-settings, file-count, head-wrong}
 use Rattle.settings.specs.declared.Settings.{Settings}
-use Rattle.settings.specs.Checked.{paper, given-of}
+use Rattle.settings.specs.Checked.{given-of, card}
 use Rattle.placing.specs.Ready.{Ready}
 use Rattle.snapshot.specs.declared.loading.Loaded.{Loaded}
 
@@ -31,10 +31,10 @@ listed t f = records (card-of t .width) (file-count f) (drop head-size f)
 -- what placing n records of an area asks, with room in work and kept
 pub record PlacingRecords (s : Settings) (t : List ℕ) (m : ℕ) (work kept area : List ℕ) (n : ℕ) : Type 0 where
   pub ready : Ready s t
-  pub buckets : m ≡ card-of (paper s) .buckets
+  pub buckets : m ≡ card s .buckets
   pub halves : length work ≡ m + m
   pub choices : n ≤ length kept
-  pub room : n * (card-of (paper s) .width + class-width) ≤ length area
+  pub room : n * (card s .width + class-width) ≤ length area
   pub few : n ≤ 4096
 
 -- 12 for the head, 1 for its settings, or 0

@@ -2,10 +2,9 @@
 use settings::Settings;
 ghost use mathlib.Core.Path.{_≡_};
 ghost use lib.ListN.{take};
-ghost use Rattle.theory.specs.Settings.{card-of};
 ghost use Rattle.theory.specs.Records.{records};
 ghost use Rattle.theory.specs.Ledger.{side-need-of};
-ghost use Rattle.settings.specs.Checked.{paper};
+ghost use Rattle.settings.specs.Checked.{card};
 ghost use Rattle.placing.specs.Worked.{Placed};
 ghost use Rattle.snapshot.specs.Files.{PlacingRecords};
 
@@ -31,8 +30,8 @@ fn place_records(
     n: usize,
 ) -> usize
     requires { ⌜ PlacingRecords s (now t) m (now work) (now kept) (now area) n ⌝ }
-    ensures { λ r. ⌜ (r ≡ side-need-of (card-of (paper s)) (records (card-of (paper s) .width) n (now (area .entry))))
-        × Placed (card-of (paper s)) m (records (card-of (paper s) .width) n (now (area .entry))) (now (work .exit)) (take n (now (kept .exit))) ⌝ }
+    ensures { λ r. ⌜ (r ≡ side-need-of (card s) (records (card s .width) n (now (area .entry))))
+        × Placed (card s) m (records (card s .width) n (now (area .entry))) (now (work .exit)) (take n (now (kept .exit))) ⌝ }
 {
     placing::place_parts(s, t, m, work, area, n, area, 0, area, 0, &mut kept[..n]);
     placing::side_need(s, m, work, &kept[..n])

@@ -16,14 +16,14 @@ ghost use mathlib.Core.Path.{_≡_};
 ghost use mathlib.Core.Bool.{true, false};
 ghost use Prim.Native.Nat.{_+_, _*_, _≤_};
 ghost use lib.ListN.{length};
-ghost use Rattle.theory.specs.Settings.{allowed, card-of, record-size, ledger-length, work-length};
+ghost use Rattle.theory.specs.Settings.{allowed, record-size, ledger-length, work-length};
 ghost use Rattle.theory.specs.Records.{records};
 ghost use Rattle.theory.specs.Ledger.{side-need-of};
 ghost use Rattle.theory.specs.Layout.{Areas, counted-places, layout};
 ghost use Rattle.theory.specs.Snapshot as plain;
 ghost use Rattle.theory.specs.Snapshot.{file-settings, head-wrong, not-loaded};
 ghost use Rattle.theory.proofs.CallLaws.{Sized};
-ghost use Rattle.settings.specs.Checked.{paper};
+ghost use Rattle.settings.specs.Checked.{paper, card};
 ghost use Rattle.placing.specs.Ready.{Ready};
 ghost use Rattle.writing.specs.Laying.{Laying};
 ghost use Rattle.snapshot.specs.Files.{loaded-of};
@@ -52,9 +52,9 @@ fn not_loaded(number: u32) -> Loaded
 
 // The ledger area of n records that fill an area.
 fn write_ledger(s: Settings, ledger: &mut [u8], area: &[u8], n: usize)
-    requires { ⌜ (allowed (paper s) ≡ true) × (length (now ledger) ≡ ledger-length (card-of (paper s))) × (n ≤ card-of (paper s) .capacity)
-        × (length (now area) ≡ record-size (card-of (paper s)) * n) ⌝ }
-    ensures { λ _. ⌜ now (ledger .exit) ≡ counted-places (card-of (paper s)) (card-of (paper s) .capacity) (records (card-of (paper s) .width) n (now (area .entry))) ⌝ }
+    requires { ⌜ (allowed (paper s) ≡ true) × (length (now ledger) ≡ ledger-length (card s)) × (n ≤ card s .capacity)
+        × (length (now area) ≡ record-size (card s) * n) ⌝ }
+    ensures { λ _. ⌜ now (ledger .exit) ≡ counted-places (card s) (card s .capacity) (records (card s .width) n (now (area .entry))) ⌝ }
 {
     let end = 2 + s.record_size() * n;
     write_number(ledger, n);
@@ -77,11 +77,11 @@ fn write_list(
     n: usize,
     need: usize,
 )
-    requires { ⌜ Laying s m (now work) (now kept) (now area) n × (n ≤ card-of (paper s) .capacity) × (length (now area) ≡ record-size (card-of (paper s)) * n)
-        × (need ≡ side-need-of (card-of (paper s)) (records (card-of (paper s) .width) n (now area))) × (need ≤ card-of (paper s) .side-places)
-        × Sized (card-of (paper s)) (record { ledger = now ledger; true-counts = now «true_counts»; clipped-counts = now clipped; buckets = now buckets; side-store = now side }) ⌝ }
+    requires { ⌜ Laying s m (now work) (now kept) (now area) n × (n ≤ card s .capacity) × (length (now area) ≡ record-size (card s) * n)
+        × (need ≡ side-need-of (card s) (records (card s .width) n (now area))) × (need ≤ card s .side-places)
+        × Sized (card s) (record { ledger = now ledger; true-counts = now «true_counts»; clipped-counts = now clipped; buckets = now buckets; side-store = now side }) ⌝ }
     ensures { λ _. ⌜ _≡_ {A = Areas} (record { ledger = now (ledger .exit); true-counts = now («true_counts» .exit); clipped-counts = now (clipped .exit); buckets = now (buckets .exit); side-store = now (side .exit) })
-        (layout (card-of (paper s)) (records (card-of (paper s) .width) n (now (area .entry)))) ⌝ }
+        (layout (card s) (records (card s .width) n (now (area .entry)))) ⌝ }
 {
     write_ledger(s, ledger, area, n);
     writing::write_areas(
@@ -111,8 +111,8 @@ fn load_lent(
     side: &mut [u8],
     work: &mut [u16],
 ) -> Loaded
-    requires { ⌜ Ready s (now t) × (head-wrong (now file) ≡ false) × (paper s ≡ file-settings (now file)) × (length (now work) ≡ work-length (card-of (paper s)))
-        × Sized (card-of (paper s)) (record { ledger = now ledger; true-counts = now «true_counts»; clipped-counts = now clipped; buckets = now buckets; side-store = now side }) ⌝ }
+    requires { ⌜ Ready s (now t) × (head-wrong (now file) ≡ false) × (paper s ≡ file-settings (now file)) × (length (now work) ≡ work-length (card s))
+        × Sized (card s) (record { ledger = now ledger; true-counts = now «true_counts»; clipped-counts = now clipped; buckets = now buckets; side-store = now side }) ⌝ }
     ensures { λ r. ⌜ loaded-of r (record { ledger = now (ledger .exit); true-counts = now («true_counts» .exit); clipped-counts = now (clipped .exit); buckets = now (buckets .exit); side-store = now (side .exit) })
         ≡ plain.load (now (file .entry)) (length (now (work .entry)))
         (record { ledger = now (ledger .entry); true-counts = now («true_counts» .entry); clipped-counts = now (clipped .entry); buckets = now (buckets .entry); side-store = now (side .entry) }) ⌝ }

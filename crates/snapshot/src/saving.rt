@@ -11,13 +11,13 @@ ghost use mathlib.Core.Bool.{true};
 ghost use Prim.Native.Nat.{_+_, _*_, _≤_, _<_};
 ghost use lib.ListN.{length};
 ghost use Rattle.theory.specs.Lists.{flat};
-ghost use Rattle.theory.specs.Settings.{allowed, card-of, record-size, ledger-length, work-length};
+ghost use Rattle.theory.specs.Settings.{allowed, record-size, ledger-length, work-length};
 ghost use Rattle.theory.specs.Records.{to-bytes, count-of};
 ghost use Rattle.theory.specs.Calls.{ledger-records};
 ghost use Rattle.theory.specs.Snapshot as plain;
 ghost use Rattle.theory.specs.Snapshot.{head-size, Saved, snapshot};
 ghost use Rattle.theory.proofs.SnapshotLaws.{head};
-ghost use Rattle.settings.specs.Checked.{paper, given-of};
+ghost use Rattle.settings.specs.Checked.{paper, given-of, card};
 ghost use Rattle.ledger.specs.Edits.{ValidLedger};
 ghost use Rattle.placing.specs.Ready.{Ready};
 ghost use Rattle.snapshot.specs.Files.{put-at};
@@ -46,8 +46,8 @@ fn write_head(s: Settings, to: &mut [u8], n: usize)
 
 // The snapshot of the n records of a ledger.
 fn write_snapshot(s: Settings, target: &mut [u8], ledger: &[u8], n: usize)
-    requires { ⌜ ValidLedger s (now ledger) × (n ≡ count-of (now ledger)) × (length (now target) ≡ head-size + record-size (card-of (paper s)) * n) ⌝ }
-    ensures { λ _. ⌜ now (target .exit) ≡ snapshot (paper s) (ledger-records (card-of (paper s)) (now (ledger .entry))) ⌝ }
+    requires { ⌜ ValidLedger s (now ledger) × (n ≡ count-of (now ledger)) × (length (now target) ≡ head-size + record-size (card s) * n) ⌝ }
+    ensures { λ _. ⌜ now (target .exit) ≡ snapshot (paper s) (ledger-records (card s) (now (ledger .entry))) ⌝ }
 {
     write_head(s, &mut target[..crate::HEAD], n);
     let end = 2 + s.record_size() * n;
@@ -56,7 +56,7 @@ fn write_snapshot(s: Settings, target: &mut [u8], ledger: &[u8], n: usize)
 
 // On allowed settings and areas of their lengths: 4, 9, 12; else the snapshot is written.
 fn save_lent(s: Settings, t: &[u64], ledger: &[u8], work: &mut [u16], target: &mut [u8]) -> u32
-    requires { ⌜ Ready s (now t) × (length (now work) ≡ work-length (card-of (paper s))) × (length (now ledger) ≡ ledger-length (card-of (paper s))) ⌝ }
+    requires { ⌜ Ready s (now t) × (length (now work) ≡ work-length (card s)) × (length (now ledger) ≡ ledger-length (card s)) ⌝ }
     ensures { λ r. ⌜ _≡_ {A = Saved} (record { number = r; target = now (target .exit) })
         (plain.save (paper s) (now (ledger .entry)) (length (now (work .entry))) (now (target .entry))) ⌝ }
 {

@@ -12,7 +12,7 @@ use Rattle.theory.specs.Lookup.{bare}
 use Rattle.theory.specs.Ledger.{clear, Step, answered}
 use Rattle.theory.specs.Calls.{refused, update, call, all-lengths, lent-lengths, perform}
 use Rattle.settings.specs.declared.Settings.{Settings}
-use Rattle.settings.specs.Checked.{paper}
+use Rattle.settings.specs.Checked.{paper, card}
 use Rattle.settings.specs.Lengths.{lengths-of, right-lengths}
 use Rattle.settings.proofs.LengthLaws.{lengths-are}
 use Rattle.update.specs.declared.Edit.{Edit}
@@ -41,16 +41,16 @@ module _ (t : plain.Settings) (edit : Edit) (k : List ℕ) (x w : ℕ) (a : Area
   unfolding perform
   performs-1 e = rw (e, refused-is edit k x 1)
 
-  module _ (ok : allowed t ≡ true) (s : Settings) (same : paper s ≡ t) (z : ℕ) (ez : z ≡ work-length (card-of (paper s))) where
-    judged : all (λ x. x) (lent-lengths (card-of t) w (call-of edit k x) a) ≡ (eqb w z && right-lengths (card-of (paper s)) (lengths-of a))
+  module _ (ok : allowed t ≡ true) (s : Settings) (same : paper s ≡ t) (z : ℕ) (ez : z ≡ work-length (card s)) where
+    judged : all (λ x. x) (lent-lengths (card-of t) w (call-of edit k x) a) ≡ (eqb w z && right-lengths (card s) (lengths-of a))
     judged = rw (shape edit k x (card-of t) w a .0, lengths-are (card-of t) a, ez, same)
 
-    pub performs-2 : (eqb w z && right-lengths (card-of (paper s)) (lengths-of a)) ≡ false → record { reply = answered (bare 2); state = a } ≡ perform t w (call-of edit k x) a
+    pub performs-2 : (eqb w z && right-lengths (card s) (lengths-of a)) ≡ false → record { reply = answered (bare 2); state = a } ≡ perform t w (call-of edit k x) a
     unfolding perform
     performs-2 e = rw (ok, judged, e, refused-is edit k x 2)
 
-    pub performs-on : (eqb w z && right-lengths (card-of (paper s)) (lengths-of a)) ≡ true → (r : Step Areas)
-        → r ≡ update (card-of (paper s)) k (call-of edit k x) a → r ≡ perform t w (call-of edit k x) a
+    pub performs-on : (eqb w z && right-lengths (card s) (lengths-of a)) ≡ true → (r : Step Areas)
+        → r ≡ update (card s) k (call-of edit k x) a → r ≡ perform t w (call-of edit k x) a
     unfolding perform
     performs-on e r f = rw (ok, judged, e, shape edit k x (card-of t) w a .1) (f ∙ rw same)
 
@@ -61,11 +61,11 @@ module _ (t : plain.Settings) (a : Areas) where
   clears-1 e = rw e
 
   module _ (ok : allowed t ≡ true) (s : Settings) (same : paper s ≡ t) where
-    pub clears-2 : right-lengths (card-of (paper s)) (lengths-of a) ≡ false → record { reply = answered (bare 2); state = a } ≡ perform t 0 clear a
+    pub clears-2 : right-lengths (card s) (lengths-of a) ≡ false → record { reply = answered (bare 2); state = a } ≡ perform t 0 clear a
     unfolding perform lent-lengths
     clears-2 e = let q = rw same at e in rw (ok, lengths-are (card-of t) a, q)
 
-    pub clears : right-lengths (card-of (paper s)) (lengths-of a) ≡ true → (b : Areas) → b ≡ layout (card-of (paper s)) []
+    pub clears : right-lengths (card s) (lengths-of a) ≡ true → (b : Areas) → b ≡ layout (card s) []
         → record { reply = answered (bare 0); state = b } ≡ perform t 0 clear a
     unfolding perform lent-lengths call
     clears e b f = let q = rw same at e in rw (ok, lengths-are (card-of t) a, q, f, same)

@@ -9,7 +9,7 @@ use lib.ListN.{length, take, drop, length-map, length-take, length-drop}
 use lib.Seq.{take-all}
 use Rattle.theory.specs.Lists.{upto}
 use Rattle.theory.specs.Records.{Record, records}
-use Rattle.theory.specs.Settings.{Card, card-of, ledger-length, work-length}
+use Rattle.theory.specs.Settings.{Card, ledger-length, work-length}
 use Rattle.theory.specs.Placing.{true-count}
 use Rattle.theory.specs.Layout.{Areas, places, counted-places, counter-bytes, buckets-bytes, side-bytes, layout, layout-by}
 use Rattle.theory.proofs.ListLaws.{by-test, All, all-drop}
@@ -22,7 +22,7 @@ use Rattle.update.specs.declared.Edit.the-variants.{Insert, Replace, Rem
 use Rattle.update.specs.declared.Plan.{Plan}
 use Rattle.update.specs.Editing.{call-of, edited, brings, leaves-out, judged-number, list-after, Planned}
 use Rattle.settings.specs.declared.Settings.{Settings}
-use Rattle.settings.specs.Checked.{paper}
+use Rattle.settings.specs.Checked.{card}
 use Rattle.theory.specs.Lookup.{bare}
 use Rattle.theory.specs.Ledger.{key-wrong, next, refusal, answered}
 use Rattle.theory.specs.Calls.{ledger-records, ledger-invalid, update}
@@ -81,19 +81,19 @@ module _ {c : Card} {l : List Record} {a : List ℕ} (w : Written c l a) where
 module _ {s : Settings} {m : ℕ} {edit : Edit} {k : List ℕ} {x : ℕ} {ledger work kept : List ℕ} {plan : Plan}
     (p : Planned s m edit k x ledger work kept plan) where
   abbrev flows : List Record
-  flows = ledger-records (card-of (paper s)) ledger
+  flows = ledger-records (card s) ledger
 
   abbrev new : Record
   new = record { key = k; class = x }
 
-  pub plan-room : length flows + brings edit ≤ card-of (paper s) .capacity + leaves-out edit
+  pub plan-room : length flows + brings edit ≤ card s .capacity + leaves-out edit
   plan-room =
-      let few : length (edited edit (plan .at) new flows) ≤ card-of (paper s) .capacity = rw (p .list) at (p .room) in
+      let few : length (edited edit (plan .at) new flows) ≤ card s .capacity = rw (p .list) at (p .room) in
       omega (arith, few, length-edited edit (plan .at) new flows (p .place), within edit (plan .at) (length flows) (p .place))
 
-  pub plan-fit : Fit (card-of (paper s) .width) new → All (Fit (card-of (paper s) .width)) flows
-      → All (Fit (card-of (paper s) .width)) (list-after s edit k x ledger)
-  plan-fit f a = rw (p .list) (all-edited (Fit (card-of (paper s) .width)) edit (plan .at) new flows f a)
+  pub plan-fit : Fit (card s .width) new → All (Fit (card s .width)) flows
+      → All (Fit (card s .width)) (list-after s edit k x ledger)
+  plan-fit f a = rw (p .list) (all-edited (Fit (card s .width)) edit (plan .at) new flows f a)
 
   -- the choices of all its records are kept
   pub plan-kept : plan .count ≤ length kept

@@ -8,7 +8,7 @@ use lib.ListN.{length, take}
 use denote.Ref.{RefT, now}
 use denote.Triple.Both.{Both}
 use Rattle.theory.specs.Settings as plain
-use Rattle.theory.specs.Settings.{Card, allowed, card-of, ledger-length}
+use Rattle.theory.specs.Settings.{Card, allowed, ledger-length}
 use Rattle.theory.specs.Records.{class-width, Record, record-bytes}
 use Rattle.theory.specs.Layout.{Areas}
 use Rattle.theory.specs.Lookup.{bare}
@@ -16,7 +16,7 @@ use Rattle.theory.specs.Ledger.{Call, add, change, remove, refusal, next, side-
 use Rattle.theory.specs.Calls.{ledger-records, ledger-invalid}
 use Rattle.theory.proofs.CallLaws.{Sized}
 use Rattle.settings.specs.declared.Settings.{Settings}
-use Rattle.settings.specs.Checked.{paper}
+use Rattle.settings.specs.Checked.{paper, card}
 use Rattle.ledger.specs.Edits.{inserted-at, removed-at, replaced-at}
 use Rattle.placing.specs.Ready.{Ready}
 use Rattle.placing.specs.Worked.{Placed}
@@ -83,46 +83,46 @@ judged-number s c ledger = cond (ledger-invalid s ledger) 4 (refusal s c (ledger
 
 -- the list that the call makes of those in a ledger area
 abbrev pub list-after : Settings → Edit → List ℕ → ℕ → List ℕ → List Record
-list-after s edit k x ledger = next (card-of (paper s)) (call-of edit k x) (ledger-records (card-of (paper s)) ledger)
+list-after s edit k x ledger = next (card s) (call-of edit k x) (ledger-records (card s) ledger)
 
 -- what placing the new list asks, of n records in a ledger area: a place of the edit among them, and room in work and kept
 pub record PlacingNew (s : Settings) (t : List ℕ) (m : ℕ) (work kept ledger : List ℕ) (n : ℕ) (edit : Edit) (at : ℕ) (bytes : List ℕ) : Type 0 where
   pub ready : Ready s t
-  pub buckets : m ≡ card-of (paper s) .buckets
+  pub buckets : m ≡ card s .buckets
   pub halves : length work ≡ m + m
   pub choices : n - leaves-out edit + brings edit ≤ length kept
-  pub room : 2 + n * (card-of (paper s) .width + class-width) ≤ length ledger
+  pub room : 2 + n * (card s .width + class-width) ≤ length ledger
   pub few : n ≤ 4096
   pub place : Fits edit at n
-  pub wide : length bytes ≡ card-of (paper s) .width + class-width
+  pub wide : length bytes ≡ card s .width + class-width
 
 -- what judging asks: settings and a table that are ready, work, kept and ledger long enough, and the record of a key of the right width
 pub record Judging (s : Settings) (t : List ℕ) (m : ℕ) (work kept ledger k : List ℕ) (x : ℕ) (bytes : List ℕ) : Type 0 where
   pub ready : Ready s t
-  pub buckets : m ≡ card-of (paper s) .buckets
+  pub buckets : m ≡ card s .buckets
   pub halves : length work ≡ m + m
-  pub choices : card-of (paper s) .capacity ≤ length kept
-  pub whole : length ledger ≡ ledger-length (card-of (paper s))
-  pub wide : length k ≡ card-of (paper s) .width
+  pub choices : card s .capacity ≤ length kept
+  pub whole : length ledger ≡ ledger-length (card s)
+  pub wide : length k ≡ card s .width
   pub written : bytes ≡ record-bytes (record { key = k; class = x })
 
 -- what judging has found where it refuses nothing: the count of the new list, its place, its side need, and that it is placed
 pub record Planned (s : Settings) (m : ℕ) (edit : Edit) (k : List ℕ) (x : ℕ) (ledger work kept : List ℕ) (r : Plan) : Type 0 where
-  pub valid : ledger-invalid (card-of (paper s)) ledger ≡ false
-  pub place : Fits edit (r .at) (length (ledger-records (card-of (paper s)) ledger))
-  pub room : length (list-after s edit k x ledger) ≤ card-of (paper s) .capacity
-  pub list : list-after s edit k x ledger ≡ edited edit (r .at) (record { key = k; class = x }) (ledger-records (card-of (paper s)) ledger)
+  pub valid : ledger-invalid (card s) ledger ≡ false
+  pub place : Fits edit (r .at) (length (ledger-records (card s) ledger))
+  pub room : length (list-after s edit k x ledger) ≤ card s .capacity
+  pub list : list-after s edit k x ledger ≡ edited edit (r .at) (record { key = k; class = x }) (ledger-records (card s) ledger)
   pub count : r .count ≡ length (list-after s edit k x ledger)
-  pub placed : Placed (card-of (paper s)) m (list-after s edit k x ledger) work (take (r .count) kept)
-  pub need : r .need ≡ side-need-of (card-of (paper s)) (list-after s edit k x ledger)
-  pub enough : r .need ≤ card-of (paper s) .side-places
+  pub placed : Placed (card s) m (list-after s edit k x ledger) work (take (r .count) kept)
+  pub need : r .need ≡ side-need-of (card s) (list-after s edit k x ledger)
+  pub enough : r .need ≤ card s .side-places
 
 -- what writing it asks: areas of their lengths, the record of a key of the right width, and the plan
 pub record Making (s : Settings) (m : ℕ) (edit : Edit) (k : List ℕ) (x : ℕ) (bytes : List ℕ) (areas : Areas) (work kept : List ℕ) (r : Plan) : Type 0 where
   pub ok : allowed (paper s) ≡ true
-  pub buckets : m ≡ card-of (paper s) .buckets
+  pub buckets : m ≡ card s .buckets
   pub halves : length work ≡ m + m
-  pub wide : length k ≡ card-of (paper s) .width
+  pub wide : length k ≡ card s .width
   pub written : bytes ≡ record-bytes (record { key = k; class = x })
-  pub sized : Sized (card-of (paper s)) areas
+  pub sized : Sized (card s) areas
   pub planned : Planned s m edit k x (areas .ledger) work kept r

@@ -7,7 +7,7 @@ use settings::lengths::lengths_right;
 ghost use mathlib.Core.Path.{_≡_};
 ghost use Prim.Native.Nat.{_+_, _-_, _≤_};
 ghost use lib.ListN.{length, take, drop};
-ghost use Rattle.theory.specs.Settings.{card-of, record-size, work-length};
+ghost use Rattle.theory.specs.Settings.{record-size, work-length};
 ghost use Rattle.theory.specs.Records.{class-width, Record, records, record-bytes};
 ghost use Rattle.theory.specs.Ledger.{side-need-of};
 ghost use Rattle.theory.specs.Calls.{ledger-records};
@@ -15,7 +15,7 @@ ghost use Rattle.theory.specs.Calls as calls;
 ghost use Rattle.theory.specs.Calls.{perform};
 ghost use Rattle.theory.specs.Ledger as ledgers;
 ghost use Rattle.theory.proofs.CallLaws.{Sized};
-ghost use Rattle.settings.specs.Checked.{paper, given-of};
+ghost use Rattle.settings.specs.Checked.{paper, given-of, card};
 ghost use Rattle.theory.specs.Layout.{counted-places, layout};
 ghost use Rattle.ledger.specs.Edits.{ValidLedger};
 ghost use Rattle.theory.proofs.ByteLaws.{Fit};
@@ -91,9 +91,9 @@ fn place_new(
     record: &[u8],
 ) -> usize
     requires { ⌜ PlacingNew s (now t) m (now work) (now kept) (now ledger) n edit at (now «record») ⌝ }
-    ensures { λ r. ⌜ ((x : Record) → record-bytes x ≡ now («record» .entry) → Fit (card-of (paper s) .width) x
-        → (r ≡ side-need-of (card-of (paper s)) (edited edit at x (records (card-of (paper s) .width) n (drop 2 (now (ledger .entry))))))
-        × Placed (card-of (paper s)) m (edited edit at x (records (card-of (paper s) .width) n (drop 2 (now (ledger .entry)))))
+    ensures { λ r. ⌜ ((x : Record) → record-bytes x ≡ now («record» .entry) → Fit (card s .width) x
+        → (r ≡ side-need-of (card s) (edited edit at x (records (card s .width) n (drop 2 (now (ledger .entry))))))
+        × Placed (card s) m (edited edit at x (records (card s .width) n (drop 2 (now (ledger .entry)))))
         (now (work .exit)) (take (n - leaves-out edit + brings edit) (now (kept .exit)))) ⌝ }
 {
     let from = at + left_out(edit);
@@ -142,7 +142,7 @@ fn judge(
     record: &[u8],
 ) -> Plan
     requires { ⌜ Judging s (now t) m (now work) (now kept) (now ledger) (now key) class (now «record») ⌝ }
-    ensures { λ r. ⌜ (r .number ≡ judged-number (card-of (paper s)) (call-of edit (now (key .entry)) class) (now (ledger .entry)))
+    ensures { λ r. ⌜ (r .number ≡ judged-number (card s) (call-of edit (now (key .entry)) class) (now (ledger .entry)))
         × (r .number ≡ 0 → Planned s m edit (now (key .entry)) class (now (ledger .entry)) (now (work .exit)) (now (kept .exit)) r) ⌝ }
 {
     if !ledger::valid(s, ledger) {
@@ -168,11 +168,11 @@ fn judge(
 
 // The ledger area of the new list.
 fn edit_ledger(s: Settings, edit: Edit, ledger: &mut [u8], at: usize, record: &[u8])
-    requires { ⌜ ValidLedger s (now ledger) × Fits edit at (length (ledger-records (card-of (paper s)) (now ledger)))
-        × (length (ledger-records (card-of (paper s)) (now ledger)) + brings edit ≤ card-of (paper s) .capacity + leaves-out edit)
-        × (length (now «record») ≡ record-size (card-of (paper s))) ⌝ }
+    requires { ⌜ ValidLedger s (now ledger) × Fits edit at (length (ledger-records (card s) (now ledger)))
+        × (length (ledger-records (card s) (now ledger)) + brings edit ≤ card s .capacity + leaves-out edit)
+        × (length (now «record») ≡ record-size (card s)) ⌝ }
     ensures { λ _. ⌜ ((x : Record) → record-bytes x ≡ now («record» .entry)
-        → now (ledger .exit) ≡ counted-places (card-of (paper s)) (card-of (paper s) .capacity) (edited edit at x (ledger-records (card-of (paper s)) (now (ledger .entry))))) ⌝ }
+        → now (ledger .exit) ≡ counted-places (card s) (card s .capacity) (edited edit at x (ledger-records (card s) (now (ledger .entry))))) ⌝ }
 {
     match edit {
         Edit::Insert => ledger::edits::insert_record(s, ledger, at, record),
@@ -200,7 +200,7 @@ fn write_new(
 )
     requires { ⌜ Making s m edit (now key) class (now «record») (lent ledger «true_counts» clipped buckets side) (now work) (now kept) plan ⌝ }
     ensures { λ _. ⌜ after ledger «true_counts» clipped buckets side
-        ≡ layout (card-of (paper s)) (list-after s edit (now (key .entry)) class (now (ledger .entry))) ⌝ }
+        ≡ layout (card s) (list-after s edit (now (key .entry)) class (now (ledger .entry))) ⌝ }
 {
     let at = plan.at;
     let count = plan.count;
@@ -252,10 +252,10 @@ fn update_lent(
     key: &[u8],
     class: u32,
 ) -> u32
-    requires { ⌜ Ready s (now t) × (length (now work) ≡ work-length (card-of (paper s)))
-        × Sized (card-of (paper s)) (lent ledger «true_counts» clipped buckets side) ⌝ }
+    requires { ⌜ Ready s (now t) × (length (now work) ≡ work-length (card s))
+        × Sized (card s) (lent ledger «true_counts» clipped buckets side) ⌝ }
     ensures { λ r. ⌜ replied r (after ledger «true_counts» clipped buckets side)
-        ≡ calls.update (card-of (paper s)) (now (key .entry)) (call-of edit (now (key .entry)) class)
+        ≡ calls.update (card s) (now (key .entry)) (call-of edit (now (key .entry)) class)
         (before ledger «true_counts» clipped buckets side) ⌝ }
 {
     if key.len() != s.width() {

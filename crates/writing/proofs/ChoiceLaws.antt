@@ -7,12 +7,12 @@ use native.Mathlib.Omega.{arith}
 use lib.ListN.{length, take, drop, length-map}
 use lib.Seq.{drop-drop}
 use Rattle.theory.specs.Records.{entries, record-at, records}
-use Rattle.theory.specs.Settings.{Card, card-of}
+use Rattle.theory.specs.Settings.{Card}
 use Rattle.theory.specs.Placing.{true-count}
 use Rattle.theory.proofs.ByteLaws.{length-records}
 use Rattle.theory.proofs.SettingsLaws.{sound}
 use Rattle.settings.specs.declared.Settings.{Settings}
-use Rattle.settings.specs.Checked.{paper}
+use Rattle.settings.specs.Checked.{paper, card}
 use Rattle.placing.specs.Worked.{nth, belongs-by, choice-by, choices-by, side-by-choice}
 use Rattle.placing.proofs.WorkLaws.{counts-are, side-choice, kept-within}
 use Rattle.writing.specs.Laying.{Laying}
@@ -38,12 +38,12 @@ module _ {s : Settings} {m n : ℕ} {work kept area : List ℕ} (h : Laying s m 
     pub kept-most : nth kept i ≤ m
     kept-most = kept-within (sound (paper s) (h .ok)) (h .buckets) (h .placed) i
 
-    pub kept-is : i < n → nth kept i ≡ choice-by (card-of (paper s)) (nth (take m work)) (key-at (card-of (paper s) .width) i area)
+    pub kept-is : i < n → nth kept i ≡ choice-by (card s) (nth (take m work)) (key-at (card s .width) i area)
     kept-is below =
-        let l = records (card-of (paper s) .width) n area in
-        rw (counts-are (card-of (paper s)) m l work (h .placed .worked))
-        (ap (λ (k : List ℕ). nth k i) (h .placed .choices) ∙ choice-at (card-of (paper s)) (true-count (card-of (paper s)) l) _ n i area below)
+        let l = records (card s .width) n area in
+        rw (counts-are (card s) m l work (h .placed .worked))
+        (ap (λ (k : List ℕ). nth k i) (h .placed .choices) ∙ choice-at (card s) (true-count (card s) l) _ n i area below)
 
-    pub kept-side : i < n → side-by-choice (card-of (paper s)) m (nth (drop m work)) (nth kept i)
-        ≡ belongs-by (card-of (paper s)) (nth (take m work)) (nth (drop m work)) (key-at (card-of (paper s) .width) i area)
-    kept-side below = rw (kept-is below) (side-choice (card-of (paper s)) (sound (paper s) (h .ok)) m (h .buckets) _ _ _)
+    pub kept-side : i < n → side-by-choice (card s) m (nth (drop m work)) (nth kept i)
+        ≡ belongs-by (card s) (nth (take m work)) (nth (drop m work)) (key-at (card s .width) i area)
+    kept-side below = rw (kept-is below) (side-choice (card s) (sound (paper s) (h .ok)) m (h .buckets) _ _ _)

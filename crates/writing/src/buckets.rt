@@ -6,11 +6,11 @@ ghost use mathlib.Core.Path.{_≡_};
 ghost use mathlib.Core.Bool.{true, cond};
 ghost use Prim.Native.Nat.{_+_, _*_, _<_, _≤_};
 ghost use lib.ListN.{length, getD, replicate, set};
-ghost use Rattle.theory.specs.Settings.{allowed, card-of, buckets-length};
+ghost use Rattle.theory.specs.Settings.{allowed, buckets-length};
 ghost use Rattle.theory.specs.Records.{records};
 ghost use Rattle.theory.specs.Placing.{true-count};
 ghost use Rattle.theory.specs.Layout.{buckets-bytes};
-ghost use Rattle.settings.specs.Checked.{paper};
+ghost use Rattle.settings.specs.Checked.{paper, card};
 ghost use Rattle.writing.specs.Laying.{Laying};
 ghost use Rattle.writing.specs.Buckets.{crowded-by, blank-buckets, placed, appended};
 
@@ -43,8 +43,8 @@ fn open_bucket(part: &mut [u8], crowded: bool)
 
 // Every part with no record; a bucket is crowded when more keys choose it than it has room for.
 fn open_buckets(s: Settings, m: usize, work: &[u16], buckets: &mut [u8])
-    requires { ⌜ (allowed (paper s) ≡ true) × (m ≡ card-of (paper s) .buckets) × (length (now work) ≡ m + m) × (length (now buckets) ≡ buckets-length (card-of (paper s))) ⌝ }
-    ensures { λ _. ⌜ now (buckets .exit) ≡ blank-buckets (card-of (paper s)) (crowded-by (card-of (paper s)) m (now (work .entry))) m ⌝ }
+    requires { ⌜ (allowed (paper s) ≡ true) × (m ≡ card s .buckets) × (length (now work) ≡ m + m) × (length (now buckets) ≡ buckets-length (card s)) ⌝ }
+    ensures { λ _. ⌜ now (buckets .exit) ≡ blank-buckets (card s) (crowded-by (card s) m (now (work .entry))) m ⌝ }
 {
     let size = s.bucket_size();
     let mut b: usize = 0;
@@ -70,8 +70,8 @@ fn place_record(
     i: usize,
 )
     requires { ⌜ Laying s m (now work) (now kept) (now area) n × (i < n)
-        × (now buckets ≡ placed (card-of (paper s)) m (now work) i (now area)) ⌝ }
-    ensures { λ _. ⌜ now (buckets .exit) ≡ placed (card-of (paper s)) m (now (work .entry)) (i + 1) (now (area .entry)) ⌝ }
+        × (now buckets ≡ placed (card s) m (now work) i (now area)) ⌝ }
+    ensures { λ _. ⌜ now (buckets .exit) ≡ placed (card s) m (now (work .entry)) (i + 1) (now (area .entry)) ⌝ }
 {
     let choice = kept[i];
     let bucket = choice as usize;
@@ -98,8 +98,8 @@ fn place_records(
     n: usize,
 )
     requires { ⌜ Laying s m (now work) (now kept) (now area) n
-        × (now buckets ≡ blank-buckets (card-of (paper s)) (crowded-by (card-of (paper s)) m (now work)) (card-of (paper s) .buckets)) ⌝ }
-    ensures { λ _. ⌜ now (buckets .exit) ≡ placed (card-of (paper s)) m (now (work .entry)) n (now (area .entry)) ⌝ }
+        × (now buckets ≡ blank-buckets (card s) (crowded-by (card s) m (now work)) (card s .buckets)) ⌝ }
+    ensures { λ _. ⌜ now (buckets .exit) ≡ placed (card s) m (now (work .entry)) n (now (area .entry)) ⌝ }
 {
     let mut i: usize = 0;
     while i < n {
@@ -120,8 +120,8 @@ pub fn write_buckets(
     n: usize,
 )
     requires { ⌜ Laying s m (now work) (now kept) (now area) n
-        × (length (now buckets) ≡ buckets-length (card-of (paper s))) ⌝ }
-    ensures { λ _. ⌜ now (buckets .exit) ≡ buckets-bytes (card-of (paper s)) (true-count (card-of (paper s)) (records (card-of (paper s) .width) n (now (area .entry)))) (records (card-of (paper s) .width) n (now (area .entry))) ⌝ }
+        × (length (now buckets) ≡ buckets-length (card s)) ⌝ }
+    ensures { λ _. ⌜ now (buckets .exit) ≡ buckets-bytes (card s) (true-count (card s) (records (card s .width) n (now (area .entry)))) (records (card s .width) n (now (area .entry))) ⌝ }
 {
     open_buckets(s, m, work, buckets);
     place_records(s, m, work, kept, buckets, area, n);

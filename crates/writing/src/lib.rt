@@ -8,11 +8,11 @@ ghost use Prim.Native.Nat.{_≤_};
 ghost use lib.ListN.{length};
 ghost use Rattle.theory.specs.Lists.{upto};
 ghost use Rattle.theory.specs.Records.{records};
-ghost use Rattle.theory.specs.Settings.{allowed, card-of, ledger-length, true-length, clipped-length, buckets-length, side-length};
+ghost use Rattle.theory.specs.Settings.{allowed, ledger-length, true-length, clipped-length, buckets-length, side-length};
 ghost use Rattle.theory.specs.Placing.{true-count};
 ghost use Rattle.theory.specs.Layout.{counter-bytes, buckets-bytes, side-bytes, layout};
 ghost use Rattle.theory.specs.Ledger.{side-need-of};
-ghost use Rattle.settings.specs.Checked.{paper};
+ghost use Rattle.settings.specs.Checked.{paper, card};
 ghost use Rattle.writing.specs.Laying.{Laying};
 
 pub mod buckets; // buckets.rt: the bucket area, each bucket's part lent on
@@ -34,13 +34,13 @@ pub fn write_areas(
     need: usize,
 )
     requires { ⌜ Laying s m (now work) (now kept) (now area) n
-        × (need ≡ side-need-of (card-of (paper s)) (records (card-of (paper s) .width) n (now area))) × (need ≤ card-of (paper s) .side-places)
-        × (length (now «true_counts») ≡ true-length (card-of (paper s))) × (length (now clipped) ≡ clipped-length (card-of (paper s)))
-        × (length (now buckets) ≡ buckets-length (card-of (paper s))) × (length (now side) ≡ side-length (card-of (paper s))) ⌝ }
-    ensures { λ _. ⌜ (now («true_counts» .exit) ≡ map (true-count (card-of (paper s)) (records (card-of (paper s) .width) n (now (area .entry)))) (upto 0 (card-of (paper s) .buckets)))
-        × (now (clipped .exit) ≡ counter-bytes (card-of (paper s)) (true-count (card-of (paper s)) (records (card-of (paper s) .width) n (now (area .entry)))))
-        × (now (buckets .exit) ≡ buckets-bytes (card-of (paper s)) (true-count (card-of (paper s)) (records (card-of (paper s) .width) n (now (area .entry)))) (records (card-of (paper s) .width) n (now (area .entry))))
-        × (now (side .exit) ≡ side-bytes (card-of (paper s)) (true-count (card-of (paper s)) (records (card-of (paper s) .width) n (now (area .entry)))) (records (card-of (paper s) .width) n (now (area .entry)))) ⌝ }
+        × (need ≡ side-need-of (card s) (records (card s .width) n (now area))) × (need ≤ card s .side-places)
+        × (length (now «true_counts») ≡ true-length (card s)) × (length (now clipped) ≡ clipped-length (card s))
+        × (length (now buckets) ≡ buckets-length (card s)) × (length (now side) ≡ side-length (card s)) ⌝ }
+    ensures { λ _. ⌜ (now («true_counts» .exit) ≡ map (true-count (card s) (records (card s .width) n (now (area .entry)))) (upto 0 (card s .buckets)))
+        × (now (clipped .exit) ≡ counter-bytes (card s) (true-count (card s) (records (card s .width) n (now (area .entry)))))
+        × (now (buckets .exit) ≡ buckets-bytes (card s) (true-count (card s) (records (card s .width) n (now (area .entry)))) (records (card s .width) n (now (area .entry))))
+        × (now (side .exit) ≡ side-bytes (card s) (true-count (card s) (records (card s .width) n (now (area .entry)))) (records (card s .width) n (now (area .entry)))) ⌝ }
 {
     counts::copy_counts(true_counts, &work[..m]);
     counts::write_clipped(s.top, clipped, &work[..m]);
@@ -57,9 +57,9 @@ pub fn clear_areas(
     buckets: &mut [u8],
     side: &mut [u8],
 )
-    requires { ⌜ (allowed (paper s) ≡ true) × (length (now ledger) ≡ ledger-length (card-of (paper s))) × (length (now «true_counts») ≡ true-length (card-of (paper s)))
-        × (length (now clipped) ≡ clipped-length (card-of (paper s))) × (length (now buckets) ≡ buckets-length (card-of (paper s))) × (length (now side) ≡ side-length (card-of (paper s))) ⌝ }
-    ensures { λ _. ⌜ record { ledger = now (ledger .exit); true-counts = now («true_counts» .exit); clipped-counts = now (clipped .exit); buckets = now (buckets .exit); side-store = now (side .exit) } ≡ layout (card-of (paper s)) [] ⌝ }
+    requires { ⌜ (allowed (paper s) ≡ true) × (length (now ledger) ≡ ledger-length (card s)) × (length (now «true_counts») ≡ true-length (card s))
+        × (length (now clipped) ≡ clipped-length (card s)) × (length (now buckets) ≡ buckets-length (card s)) × (length (now side) ≡ side-length (card s)) ⌝ }
+    ensures { λ _. ⌜ record { ledger = now (ledger .exit); true-counts = now («true_counts» .exit); clipped-counts = now (clipped .exit); buckets = now (buckets .exit); side-store = now (side .exit) } ≡ layout (card s) [] ⌝ }
 {
     zero_fill(ledger);
     placing::zero_counts(true_counts);

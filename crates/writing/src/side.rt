@@ -7,11 +7,11 @@ ghost use mathlib.Core.Path.{_≡_};
 ghost use Prim.Native.Nat.{_+_, _*_, _<_, _≤_};
 ghost use lib.ListN.{length};
 ghost use Rattle.theory.specs.Records.{records};
-ghost use Rattle.theory.specs.Settings.{card-of, record-size, side-length};
+ghost use Rattle.theory.specs.Settings.{record-size, side-length};
 ghost use Rattle.theory.specs.Placing.{true-count};
 ghost use Rattle.theory.specs.Layout.{side-bytes};
 ghost use Rattle.theory.specs.Ledger.{side-need-of};
-ghost use Rattle.settings.specs.Checked.{paper};
+ghost use Rattle.settings.specs.Checked.{card};
 ghost use Rattle.writing.specs.Laying.{Laying};
 ghost use Rattle.writing.specs.Side.{sent, sent-places};
 
@@ -28,11 +28,11 @@ fn side_record(
     free: usize,
 ) -> usize
     requires { ⌜ Laying s m (now work) (now kept) (now area) n × (i < n)
-        × (length (sent (card-of (paper s)) m (now work) n (now area)) ≤ card-of (paper s) .side-places)
-        × (free ≡ record-size (card-of (paper s)) * length (sent (card-of (paper s)) m (now work) i (now area)))
-        × (now store ≡ sent-places (card-of (paper s)) m (now work) i (now area)) ⌝ }
-    ensures { λ r. ⌜ (r ≡ record-size (card-of (paper s)) * length (sent (card-of (paper s)) m (now (work .entry)) (i + 1) (now (area .entry))))
-        × (now (store .exit) ≡ sent-places (card-of (paper s)) m (now (work .entry)) (i + 1) (now (area .entry))) ⌝ }
+        × (length (sent (card s) m (now work) n (now area)) ≤ card s .side-places)
+        × (free ≡ record-size (card s) * length (sent (card s) m (now work) i (now area)))
+        × (now store ≡ sent-places (card s) m (now work) i (now area)) ⌝ }
+    ensures { λ r. ⌜ (r ≡ record-size (card s) * length (sent (card s) m (now (work .entry)) (i + 1) (now (area .entry))))
+        × (now (store .exit) ≡ sent-places (card s) m (now (work .entry)) (i + 1) (now (area .entry))) ⌝ }
 {
     if !placing::aside(s, m, work, kept[i]) {
         return free;
@@ -56,9 +56,9 @@ fn side_records(
     n: usize,
 )
     requires { ⌜ Laying s m (now work) (now kept) (now area) n
-        × (length (sent (card-of (paper s)) m (now work) n (now area)) ≤ card-of (paper s) .side-places)
-        × (now store ≡ sent-places (card-of (paper s)) m (now work) 0 (now area)) ⌝ }
-    ensures { λ _. ⌜ now (store .exit) ≡ sent-places (card-of (paper s)) m (now (work .entry)) n (now (area .entry)) ⌝ }
+        × (length (sent (card s) m (now work) n (now area)) ≤ card s .side-places)
+        × (now store ≡ sent-places (card s) m (now work) 0 (now area)) ⌝ }
+    ensures { λ _. ⌜ now (store .exit) ≡ sent-places (card s) m (now (work .entry)) n (now (area .entry)) ⌝ }
 {
     let mut i: usize = 0;
     let mut free: usize = 0;
@@ -80,8 +80,8 @@ pub fn write_side(
     need: usize,
 )
     requires { ⌜ Laying s m (now work) (now kept) (now area) n
-        × (length (now side) ≡ side-length (card-of (paper s))) × (need ≡ side-need-of (card-of (paper s)) (records (card-of (paper s) .width) n (now area))) × (need ≤ card-of (paper s) .side-places) ⌝ }
-    ensures { λ _. ⌜ now (side .exit) ≡ side-bytes (card-of (paper s)) (true-count (card-of (paper s)) (records (card-of (paper s) .width) n (now (area .entry)))) (records (card-of (paper s) .width) n (now (area .entry))) ⌝ }
+        × (length (now side) ≡ side-length (card s)) × (need ≡ side-need-of (card s) (records (card s .width) n (now area))) × (need ≤ card s .side-places) ⌝ }
+    ensures { λ _. ⌜ now (side .exit) ≡ side-bytes (card s) (true-count (card s) (records (card s .width) n (now (area .entry)))) (records (card s .width) n (now (area .entry))) ⌝ }
 {
     zero_fill(side);
     if need == 0 {

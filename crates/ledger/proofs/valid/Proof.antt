@@ -11,80 +11,80 @@ use lib.ListN.{length, drop}
 use Rattle.theory.specs.Lists.{any}
 use Rattle.theory.specs.Records.{records, rising}
 use Rattle.theory.specs.Settings.{card-of}
-use Rattle.settings.specs.Checked.{paper}
+use Rattle.settings.specs.Checked.{card}
 use Rattle.ledger.proofs.PartLaws.{tail-is}
 use Rattle.ledger.proofs.LedgerLaws.{has-count, room-for, records-room, invalid-many, invalid-order, invalid-after}
 use Rattle.ledger.proofs.valid.Statement.{statement}
 use Rattle.ledger.proofs.valid.Tie as tie
 
--- the count against the card's capacity, the order, and the end of the records
-many : (c : tie.Then1) → card-of (paper (c .before .before .before .before .args .s)) .capacity < c .before .before .count-at .result
+-- the count against the the-card's capacity, the order, and the end of the records
+many : (c : tie.Then1) → card (c .before .before .before .before .args .s) .capacity < c .before .before .count-at .result
 unfolding card-of
 many c = c .if1 .taken
 
-few : (c : tie.Else1) → c .before .before .count-at .result ≤ card-of (paper (c .before .before .before .before .args .s)) .capacity
+few : (c : tie.Else1) → c .before .before .count-at .result ≤ card (c .before .before .before .before .args .s) .capacity
 unfolding card-of
 few c = c .if1 .left
 
 rises : (c : tie.After-keys-rise) → c .keys-rise .result ≡ rising (records
-    (card-of (paper (c .before .before .before .before .before .before .before .args .s)) .width) (c .before .before .before .before .before .count-at .result)
+    (card (c .before .before .before .before .before .before .before .args .s) .width) (c .before .before .before .before .before .count-at .result)
     (drop 2 (c .before .before .before .before .before .before .before .args .ledger .now)))
 rises c =
     let start = c .before .before .before .before .before .before .before in
     let ledger = start .args .ledger .now in
-    let card = card-of (paper (start .args .s)) in
-    rw (tail-is 2 ledger (has-count card ledger (start .pre .1)), c .before .width .ensures) at (c .keys-rise .ensures)
+    let the-card = card (start .args .s) in
+    rw (tail-is 2 ledger (has-count the-card ledger (start .pre .1)), c .before .width .ensures) at (c .keys-rise .ensures)
 
 after-records : (c : tie.After-record-size) → 2 + c .record-size .result * c .before .before .before .before .before .before .before .count-at .result ≤ length
     (c .before .before .before .before .before .before .before .before .before .args .ledger .now)
 after-records c =
     let start = c .before .before .before .before .before .before .before .before .before in
-    let card = card-of (paper (start .args .s)) in
+    let the-card = card (start .args .s) in
     let count-at = c .before .before .before .before .before .before .before .count-at in
-    rw (c .record-size .ensures) (room-for card (start .args .ledger .now) (start .pre .1) (count-at .result) (few (c .before .before .before .before .before)))
+    rw (c .record-size .ensures) (room-for the-card (start .args .ledger .now) (start .pre .1) (count-at .result) (few (c .before .before .before .before .before)))
 
 count-at-requires : tie.Need-count-at-requires
-count-at-requires c κs = has-count (card-of (paper (c .before .args .s))) (c .before .args .ledger .now) (c .before .pre .1)
+count-at-requires c κs = has-count (card (c .before .args .s)) (c .before .args .ledger .now) (c .before .pre .1)
 
 returns : tie.Need-returns
 returns c =
     let start = c .before .before .before .before in
-    let card = card-of (paper (start .args .s)) in
+    let the-card = card (start .args .s) in
     let count-at = c .before .before .count-at in
-    sym (ap not (invalid-many card (start .args .ledger .now) (count-at .result) (count-at .ensures .0) (many c)))
+    sym (ap not (invalid-many the-card (start .args .ledger .now) (count-at .result) (count-at .ensures .0) (many c)))
 
 sub-keys-rise : tie.Need-sub-keys-rise
 sub-keys-rise c =
     let start = c .before .before .before .before in
-    has-count (card-of (paper (start .args .s))) (start .args .ledger .now) (start .pre .1)
+    has-count (card (start .args .s)) (start .args .ledger .now) (start .pre .1)
 
 part-keys-rise-start : tie.Need-part-keys-rise-start
 part-keys-rise-start c =
     let start = c .before .before .before .before in
-    has-count (card-of (paper (start .args .s))) (start .args .ledger .now) (start .pre .1)
+    has-count (card (start .args .s)) (start .args .ledger .now) (start .pre .1)
 
 keys-rise-requires : tie.Need-keys-rise-requires
 keys-rise-requires c κs =
     let start = c .before .before .before .before .before .before in
     let ledger = start .args .ledger .now in
-    let card = card-of (paper (start .args .s)) in
+    let the-card = card (start .args .s) in
     let count-at = c .before .before .before .before .count-at in
-    rw (tail-is 2 ledger (has-count card ledger (start .pre .1)), c .width .ensures)
-    (records-room card ledger (start .pre .1) (count-at .result) (few (c .before .before)))
+    rw (tail-is 2 ledger (has-count the-card ledger (start .pre .1)), c .width .ensures)
+    (records-room the-card ledger (start .pre .1) (count-at .result) (few (c .before .before)))
 
 returns-2 : tie.Need-returns-2
 returns-2 c =
     let start = c .before .before .before .before .before .before .before .before in
-    let card = card-of (paper (start .args .s)) in
+    let the-card = card (start .args .s) in
     let count-at = c .before .before .before .before .before .before .count-at in
-    sym (ap not (invalid-order card (start .args .ledger .now) (count-at .result) (count-at .ensures .0) (few (c .before .before .before .before))
+    sym (ap not (invalid-order the-card (start .args .ledger .now) (count-at .result) (count-at .ensures .0) (few (c .before .before .before .before))
     (sym (rises (c .before)) ∙ not-true (c .before .keys-rise .result) (c .if2 .taken))))
 
 returns-3 : tie.Need-returns-3
 returns-3 c =
     let start = c .before .before .before .before .before .before .before .before .before .before .before in
     let ledger = start .args .ledger .now in
-    let card = card-of (paper (start .args .s)) in
+    let the-card = card (start .args .s) in
     let record-size = c .before .before .record-size in
     let count-at = c .before .before .before .before .before .before .before .before .before .count-at in
     let keys-rise = c .before .before .before .before .keys-rise in
@@ -92,7 +92,7 @@ returns-3 c =
     c .all-zero .ensures
     ∙ ap (λ (l : List ℕ). not (any (λ x. not (eqb x 0)) l)) (tail-is (2 + record-size .result * count-at .result) ledger (after-records (c .before .before))
     ∙ ap (λ (z : ℕ). drop (2 + z * count-at .result) ledger) (record-size .ensures))
-    ∙ sym (ap not (invalid-after card ledger (count-at .result) (count-at .ensures .0) (few (c .before .before .before .before .before .before .before))
+    ∙ sym (ap not (invalid-after the-card ledger (count-at .result) (count-at .ensures .0) (few (c .before .before .before .before .before .before .before))
     (sym (rises (c .before .before .before .before)) ∙ not-false (keys-rise .result) (if2 .left))))
 
 pub valid-spec : {M : Type 1} → statement M

@@ -9,9 +9,9 @@ use lib.Dec.{eqb}
 use lib.ListN.{length, take, drop, length-drop, length-set}
 use lib.Seq.{length-take-le}
 use Rattle.theory.specs.Records.{records}
-use Rattle.theory.specs.Settings.{Card, card-of}
+use Rattle.theory.specs.Settings.{Card}
 use Rattle.theory.specs.Placing.{all-top, chosen}
-use Rattle.settings.specs.Checked.{paper}
+use Rattle.settings.specs.Checked.{paper, card}
 use Rattle.settings.specs.declared.Settings.{Settings}
 use Rattle.settings.proofs.Laws.{bounds}
 use Rattle.placing.specs.declared.Choice.{Choice}
@@ -25,10 +25,10 @@ use Rattle.placing.proofs.choose_more.Tie as tie
 -- after i records
 record Passed (s : Settings) (m : ℕ) (work₀ area : List ℕ) (n : ℕ) (work kept : List ℕ) (i at : ℕ) : Type 0 where
   within : i ≤ n
-  here : at ≡ i * (card-of (paper s) .width + 4)
+  here : at ≡ i * (card s .width + 4)
   halves : length work ≡ m + m
   places : length kept ≡ n
-  chose : Chose (card-of (paper s)) m (records (card-of (paper s) .width) i area) work₀ work (take i kept)
+  chose : Chose (card s) m (records (card s .width) i area) work₀ work (take i kept)
 
 abbrev Inv-loop : tie.InvT-loop
 Inv-loop s t m work₀ area n kept₀ width size i₀ at₀ work kept i at = Passed s m work₀ area n work kept i at
@@ -42,7 +42,7 @@ module _ (c : tie.After-record-size Inv-loop μ-loop) where
   start = c .before .before .before .before .before .before
 
   abbrev s : Card
-  s = card-of (paper (start .args .s))
+  s = card (start .args .s)
 
   abbrev m : ℕ
   m = start .args .m
@@ -145,9 +145,9 @@ add-choice-requires c κs =
     let loop = at made .before .loop in
     let pre = start (sized (at made)) .pre in
     let within = chosen-within _ _ (pre .ready) (counts made) (key (at made)) in
-    let card = s (sized (at made)) in
+    let the-card = s (sized (at made)) in
     let old = nth (take (m (sized (at made))) (start (sized (at made)) .args .work .now)) in
-    let bound = choosers-bound card old (card .width) (loop .i) (area (sized (at made))) in
+    let bound = choosers-bound the-card old (the-card .width) (loop .i) (area (sized (at made))) in
     rw (tail-is (m (sized (at made))) (work (at made)) (halved (at made))) (
       λ f. rw length-drop (omega (arith, bucket-is made, pre .buckets, loop .inv .halves, within (sym (top-is made) ∙ f))),
       λ b. omega (arith, loop .inv .chose .more b, pre .few b, loop .inv .within, bound b),

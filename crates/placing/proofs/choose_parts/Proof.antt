@@ -6,9 +6,9 @@ use native.Mathlib.Omega.{arith}
 use borrow.Author.Needs.{needs}
 use lib.ListN.{length, length-append}
 use Rattle.theory.specs.Records.{Record, records}
-use Rattle.theory.specs.Settings.{Card, card-of}
+use Rattle.theory.specs.Settings.{Card}
 use Rattle.theory.proofs.ByteLaws.{length-records}
-use Rattle.settings.specs.Checked.{paper}
+use Rattle.settings.specs.Checked.{card}
 use Rattle.placing.specs.Worked.{Chose}
 use Rattle.placing.proofs.RecordLaws.{chose-append, chose-few}
 use Rattle.placing.proofs.WorkLaws.{first-lent, second-lent, third-lent, three-back}
@@ -21,7 +21,7 @@ module _ (c : tie.After-choose-more-arg2) where
   start = c .before .before .before .before .before .before .before .before
 
   abbrev s : Card
-  s = card-of (paper (start .args .s))
+  s = card (start .args .s)
 
   abbrev before : List Record
   before = records (s .width) (start .args .n) (start .args .a .now)

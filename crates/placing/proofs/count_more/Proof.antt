@@ -9,9 +9,9 @@ use borrow.Author.Needs.{needs}
 use lib.ListN.{length, take, drop}
 use Rattle.theory.specs.Lists.{has}
 use Rattle.theory.specs.Records.{records}
-use Rattle.theory.specs.Settings.{Card, card-of}
+use Rattle.theory.specs.Settings.{Card}
 use Rattle.theory.specs.Placing.{true-count}
-use Rattle.settings.specs.Checked.{paper}
+use Rattle.settings.specs.Checked.{card}
 use Rattle.settings.specs.declared.Settings.{Settings}
 use Rattle.placing.specs.Worked.{nth}
 use Rattle.placing.proofs.RecordLaws.{record-within, next-at, key-lent, key-length, count-none, count-bound, count-more}
@@ -22,9 +22,9 @@ use Rattle.placing.proofs.count_more.Tie as tie
 -- after i records
 record Passed (s : Settings) (counts₀ area : List ℕ) (n : ℕ) (counts : List ℕ) (i at : ℕ) : Type 0 where
   within : i ≤ n
-  here : at ≡ i * (card-of (paper s) .width + 4)
+  here : at ≡ i * (card s .width + 4)
   same : length counts ≡ length counts₀
-  counted : (b : ℕ) → nth counts b ≡ nth counts₀ b + true-count (card-of (paper s)) (records (card-of (paper s) .width) i area) b
+  counted : (b : ℕ) → nth counts b ≡ nth counts₀ b + true-count (card s) (records (card s .width) i area) b
 
 abbrev Inv-loop : tie.InvT-loop
 Inv-loop s t counts₀ area n width size i₀ at₀ counts i at = Passed s counts₀ area n counts i at
@@ -38,7 +38,7 @@ module _ (c : tie.After-record-size Inv-loop μ-loop) where
   start = c .before .before .before .before .before
 
   abbrev s : Card
-  s = card-of (paper (start .args .s))
+  s = card (start .args .s)
 
   abbrev area : List ℕ
   area = start .args .area .now

@@ -4,8 +4,7 @@ use mathlib.Core.List.{_++_}
 use native.Mathlib.Omega.{arith}
 use borrow.Author.Needs.{needs}
 use Rattle.theory.specs.Records.{records}
-use Rattle.theory.specs.Settings.{card-of}
-use Rattle.settings.specs.Checked.{paper}
+use Rattle.settings.specs.Checked.{card}
 use Rattle.placing.proofs.RecordLaws.{count-bound, true-count-append}
 use Rattle.placing.proofs.count_parts.Statement.{statement}
 use Rattle.placing.proofs.count_parts.Tie as tie
@@ -16,14 +15,14 @@ count-more-requires c κs = let p = c .before .before .before .before .before .b
 count-more-requires-2 : tie.Need-count-more-requires-2
 count-more-requires-2 c κs =
     let args = c .before .before .before .before .before .before .before .before .before .before .args in
-    let s = card-of (paper (args .s)) in
+    let s = card (args .s) in
     let p = c .before .before .before .before .before .before .before .before .before .before .pre in
     (p .0, c .before .before .before .count-more .kept .1 .1 .0 ∙ p .1, p .3, λ x. omega (arith, p .6 x, p .5, c .before .before .before .count-more .ensures x, count-bound s (s .width) (args .n) (args .a .now) x))
 
 count-more-requires-3 : tie.Need-count-more-requires-3
 count-more-requires-3 c κs =
     let args = c .before .before .before .before .before .before .before .before .before .before .before .before .before .before .args in
-    let s = card-of (paper (args .s)) in
+    let s = card (args .s) in
     let p = c .before .before .before .before .before .before .before .before .before .before .before .before .before .before .pre in (
       p .0,
       c .before .before .before .count-more2 .kept .1 .1 .0 ∙ c .before .before .before .before .before .before .before .count-more .kept .1 .1 .0 ∙ p .1,
@@ -42,7 +41,7 @@ count-more-requires-3 c κs =
 returns : tie.Need-returns
 returns c =
     let args = c .before .before .before .before .before .before .before .before .before .before .before .before .before .before .before .before .before .args in
-    let s = card-of (paper (args .s)) in
+    let s = card (args .s) in
     let before = records (s .width) (args .n) (args .a .now) in
     let middle = records (s .width) (args .k) (args .mid .now) in
     let after = records (s .width) (args .j) (args .b .now) in

@@ -8,9 +8,8 @@ use borrow.Author.Needs.{needs}
 use lib.ListN.{length, take, drop}
 use lib.Seq.{take-all}
 use Rattle.theory.specs.Lists.{filter}
-use Rattle.theory.specs.Settings.{card-of}
 use Rattle.theory.proofs.SettingsLaws.{sound}
-use Rattle.settings.specs.Checked.{paper}
+use Rattle.settings.specs.Checked.{card}
 use Rattle.settings.specs.declared.Settings.{Settings}
 use Rattle.placing.specs.Worked.{nth, side-by-choice}
 use Rattle.placing.proofs.CountingLaws.{one-bound, count-take}
@@ -20,7 +19,7 @@ use Rattle.placing.proofs.side_need.Tie as tie
 
 -- a key with this choice belongs to the side
 abbrev aside : Settings → ℕ → List ℕ → ℕ → Bool
-aside s m work = side-by-choice (card-of (paper s)) m (nth (drop m work))
+aside s m work = side-by-choice (card s) m (nth (drop m work))
 
 record Passed (s : Settings) (m : ℕ) (work kept : List ℕ) (need i : ℕ) : Type 0 where
   within : i ≤ length kept

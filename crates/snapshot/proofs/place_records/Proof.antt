@@ -5,10 +5,10 @@ use Prim.Native.Nat.{ℕ, _+_, _≤_}
 use native.Mathlib.Omega.{arith}
 use lib.ListN.{length, take, drop}
 use lib.Seq.{length-take-le}
-use Rattle.theory.specs.Settings.{Card, card-of}
+use Rattle.theory.specs.Settings.{Card}
 use Rattle.theory.specs.Records.{records}
 use Rattle.theory.proofs.SettingsLaws.{sound}
-use Rattle.settings.specs.Checked.{paper}
+use Rattle.settings.specs.Checked.{paper, card}
 use Rattle.placing.specs.Worked.{Placed}
 use Rattle.placing.proofs.WorkLaws.{front-length, front-take, kept-within}
 use Rattle.snapshot.proofs.PartLaws.{one-part, no-room}
@@ -19,7 +19,7 @@ use Rattle.snapshot.proofs.place_records.Tie as tie
 -- ---- at entry
 module _ (c : tie.Start) where
   abbrev s : Card
-  s = card-of (paper (c .args .s))
+  s = card (c .args .s)
 
   abbrev kept : List ℕ
   kept = c .args .kept .now

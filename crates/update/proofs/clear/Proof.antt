@@ -1,8 +1,7 @@
 -- `update::clear` meets its contract: 1, 2, or the layout of the empty list.
 use mathlib.Core.Path.{sym, _∙_}
 use borrow.Author.Tests.{not-true, not-false}
-use Rattle.theory.specs.Settings.{card-of}
-use Rattle.settings.specs.Checked.{paper, given-of}
+use Rattle.settings.specs.Checked.{given-of, card}
 use Rattle.settings.proofs.Laws.{allowed-arm, refused-arm, allowed-settings}
 use Rattle.settings.proofs.LengthLaws.{sized-by}
 use Rattle.update.proofs.CallLaws.{clears-1, clears-2, clears}
@@ -37,7 +36,7 @@ clear-areas-requires c κs =
     let checked = c .before .before .before .before .before .before .before .before .checked in
     let lengths-right = c .before .before .before .before .before .before .lengths-right in
     let if1 = c .before .before .before .before .before .if1 in
-    let z = sized-by (card-of (paper (checked .given .0 .0))) (record { ledger = start .args .ledger .now; true-counts = start .args .true-counts .now; clipped-counts = start .args .clipped .now; buckets = start .args .buckets .now; side-store = start .args .side .now }) (sym (lengths-right .ensures) ∙ not-false _ (if1 .left)) in
+    let z = sized-by (card (checked .given .0 .0)) (record { ledger = start .args .ledger .now; true-counts = start .args .true-counts .now; clipped-counts = start .args .clipped .now; buckets = start .args .buckets .now; side-store = start .args .side .now }) (sym (lengths-right .ensures) ∙ not-false _ (if1 .left)) in
     (allowed-settings (given-of (start .args .given)) (new .result) (new .ensures) (checked .given .0 .0) (checked .given .1), z .ledger, z .true-counts, z .clipped-counts, z .buckets, z .side-store)
 
 returns-3 : tie.Need-returns-3

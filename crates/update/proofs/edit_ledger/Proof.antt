@@ -3,9 +3,8 @@ use mathlib.Core.Path.{subst}
 use Prim.Native.Nat.{_+_, _≤_}
 use native.Mathlib.Omega.{arith}
 use lib.ListN.{length}
-use Rattle.theory.specs.Settings.{card-of}
 use Rattle.theory.specs.Calls.{ledger-records}
-use Rattle.settings.specs.Checked.{paper}
+use Rattle.settings.specs.Checked.{card}
 use Rattle.update.specs.declared.Edit.{Edit}
 use Rattle.update.specs.Editing.{Fits, brings, leaves-out}
 use borrow.Author.Needs.{needs}
@@ -16,17 +15,17 @@ insert-record-requires : tie.Need-insert-record-requires
 insert-record-requires c κs =
     let start = c .before .before .before .before .before in
     let enum-told = c .before .enum-told in
-    let f = subst (λ (e : Edit). Fits e (start .args .at) (length (ledger-records (card-of (paper (start .args .s))) (start .args .ledger .now)))) (enum-told .given .1) (start .pre .1) in let room = subst (λ (e : Edit). (length (ledger-records (card-of (paper (start .args .s))) (start .args .ledger .now))) + brings e ≤ card-of (paper (start .args .s)) .capacity + leaves-out e) (enum-told .given .1) (start .pre .2) in (start .pre .0, omega (arith, room), f, start .pre .3)
+    let f = subst (λ (e : Edit). Fits e (start .args .at) (length (ledger-records (card (start .args .s)) (start .args .ledger .now)))) (enum-told .given .1) (start .pre .1) in let room = subst (λ (e : Edit). (length (ledger-records (card (start .args .s)) (start .args .ledger .now))) + brings e ≤ card (start .args .s) .capacity + leaves-out e) (enum-told .given .1) (start .pre .2) in (start .pre .0, omega (arith, room), f, start .pre .3)
 
 replace-record-requires : tie.Need-replace-record-requires
 replace-record-requires c κs =
     let start = c .before .before .before .before .before in
-    (start .pre .0, subst (λ (e : Edit). Fits e (start .args .at) (length (ledger-records (card-of (paper (start .args .s))) (start .args .ledger .now)))) (c .before .enum-told2 .given .1) (start .pre .1), start .pre .3)
+    (start .pre .0, subst (λ (e : Edit). Fits e (start .args .at) (length (ledger-records (card (start .args .s)) (start .args .ledger .now)))) (c .before .enum-told2 .given .1) (start .pre .1), start .pre .3)
 
 remove-record-requires : tie.Need-remove-record-requires
 remove-record-requires c κs =
     let start = c .before .before .before .before .before in
-    (start .pre .0, subst (λ (e : Edit). Fits e (start .args .at) (length (ledger-records (card-of (paper (start .args .s))) (start .args .ledger .now)))) (c .before .enum-told3 .given .1) (start .pre .1))
+    (start .pre .0, subst (λ (e : Edit). Fits e (start .args .at) (length (ledger-records (card (start .args .s)) (start .args .ledger .now)))) (c .before .enum-told3 .given .1) (start .pre .1))
 
 returns : tie.Need-returns
 returns c = λ x e. rw (c .before .before .before .before .enum-told .given .1) (c .before .before .insert-record .ensures x e)

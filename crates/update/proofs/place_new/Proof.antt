@@ -5,11 +5,11 @@ use Prim.Native.Nat.{ℕ, _+_, _-_, _≤_}
 use native.Mathlib.Omega.{arith}
 use lib.ListN.{length, take, drop}
 use lib.Seq.{length-take-le}
-use Rattle.theory.specs.Settings.{Card, card-of}
+use Rattle.theory.specs.Settings.{Card}
 use Rattle.theory.specs.Records.{Record, records, record-bytes}
 use Rattle.theory.proofs.SettingsLaws.{sound}
 use Rattle.theory.proofs.ByteLaws.{Fit}
-use Rattle.settings.specs.Checked.{paper}
+use Rattle.settings.specs.Checked.{paper, card}
 use Rattle.placing.specs.Worked.{Placed}
 use Rattle.placing.proofs.WorkLaws.{front-length, front-take, kept-within}
 use Rattle.update.specs.Editing.{edited, brings, leaves-out}
@@ -24,7 +24,7 @@ module _ (c : tie.After-record-size) where
   start = c .before .before .before .before .before .before .before
 
   abbrev s : Card
-  s = card-of (paper (start .args .s))
+  s = card (start .args .s)
 
   abbrev left : ℕ
   left = c .before .left-out .result

@@ -5,9 +5,8 @@ use borrow.Author.Needs.{needs}
 use borrow.Author.Tests.{eqb-true, not-true, not-false}
 use lib.Dec.{eqb}
 use lib.ListN.{length}
-use Rattle.theory.specs.Settings.{card-of}
 use Rattle.theory.proofs.ListLaws.{and-left, and-right}
-use Rattle.settings.specs.Checked.{paper, given-of}
+use Rattle.settings.specs.Checked.{given-of, card}
 use Rattle.settings.proofs.Laws.{allowed-arm, refused-arm, allowed-settings}
 use Rattle.settings.proofs.LengthLaws.{sized-by}
 use Rattle.placing.proofs.ReadyLaws.{ready}
@@ -55,7 +54,7 @@ update-lent-requires c κs =
     let v = (ap (λ (b : Bool). (eqb (length (start .args .work .now)) (work-length .result)) && b) (sym (lengths-right .ensures)) ∙ not-false _ (if1 .left)) in (
       ready (checked .given .0 .0) (allowed-settings (given-of (start .args .given)) (new .result) (new .ensures) (checked .given .0 .0) (checked .given .1)) (table .result) (table .ensures) (search needs),
       eqb-true _ _ (and-left (eqb (length (start .args .work .now)) (work-length .result)) _ v) ∙ work-length .ensures,
-      sized-by (card-of (paper (checked .given .0 .0))) (record { ledger = start .args .ledger .now; true-counts = start .args .true-counts .now; clipped-counts = start .args .clipped .now; buckets = start .args .buckets .now; side-store = start .args .side .now }) (and-right (eqb (length (start .args .work .now)) (work-length .result)) _ v),
+      sized-by (card (checked .given .0 .0)) (record { ledger = start .args .ledger .now; true-counts = start .args .true-counts .now; clipped-counts = start .args .clipped .now; buckets = start .args .buckets .now; side-store = start .args .side .now }) (and-right (eqb (length (start .args .work .now)) (work-length .result)) _ v),
     )
 
 returns-3 : tie.Need-returns-3

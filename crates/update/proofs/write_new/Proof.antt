@@ -5,10 +5,10 @@ use Prim.Native.Nat.{ℕ}
 use lib.ListN.{length}
 use lib.Seq.{length-take-le}
 use Rattle.theory.specs.Records.{Record}
-use Rattle.theory.specs.Settings.{Card, card-of}
+use Rattle.theory.specs.Settings.{Card}
 use Rattle.theory.specs.Layout.{counted-places}
 use Rattle.theory.proofs.ByteLaws.{Fit, length-record}
-use Rattle.settings.specs.Checked.{paper}
+use Rattle.settings.specs.Checked.{card}
 use Rattle.ledger.proofs.LedgerLaws.{has-count}
 use Rattle.ledger.proofs.EditLaws.{records-fit-width}
 use Rattle.ledger.proofs.KeyLaws.{bytes-of}
@@ -22,7 +22,7 @@ use Rattle.update.proofs.write_new.Tie as tie
 -- ---- at entry
 module _ (c : tie.Start) where
   abbrev s : Card
-  s = card-of (paper (c .args .s))
+  s = card (c .args .s)
 
   abbrev new : Record
   new = record { key = c .args .key .now; class = c .args .class }

@@ -1,7 +1,6 @@
 -- `clear_areas` meets its contract: each area is zeros of its length, and so is the layout of the empty list.
 use mathlib.Core.Path.{ap, _∙_}
-use Rattle.theory.specs.Settings.{card-of}
-use Rattle.settings.specs.Checked.{paper}
+use Rattle.settings.specs.Checked.{card}
 use Rattle.writing.proofs.PartLaws.{zeros}
 use Rattle.writing.proofs.EmptyLaws.{cleared}
 use borrow.Author.Needs.{needs}
@@ -16,7 +15,7 @@ returns c =
     let zero-fill2 = c .before .before .before .before .before .before .before .before .before .before .zero-fill2 in
     let zero-fill3 = c .before .before .before .before .before .before .zero-fill3 in
     let zero-fill4 = c .before .before .zero-fill4 in
-    cleared (card-of (paper (start .args .s))) (zero-fill .last .0) (zero-counts .last .0) (zero-fill2 .last .0) (zero-fill3 .last .0) (zero-fill4 .last .0)
+    cleared (card (start .args .s)) (zero-fill .last .0) (zero-counts .last .0) (zero-fill2 .last .0) (zero-fill3 .last .0) (zero-fill4 .last .0)
     (zero-fill .ensures ∙ ap zeros (start .pre .1)) (zero-counts .ensures ∙ ap zeros (start .pre .2)) (zero-fill2 .ensures ∙ ap zeros (start .pre .3)) (zero-fill3 .ensures ∙ ap zeros (start .pre .4)) (zero-fill4 .ensures ∙ ap zeros (start .pre .5))
 
 pub clear-areas-spec : {M : Type 1} → statement M

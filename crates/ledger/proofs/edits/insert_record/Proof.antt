@@ -4,9 +4,8 @@ use mathlib.Core.Path.{sym, _∙_}
 use Prim.Native.Nat.{_+_, _-_, _*_, _≤_}
 use native.Mathlib.Omega.{arith}
 use lib.ListN.{length}
-use Rattle.theory.specs.Settings.{card-of}
 use Rattle.theory.proofs.SettingsLaws.{sound}
-use Rattle.settings.specs.Checked.{paper}
+use Rattle.settings.specs.Checked.{paper, card}
 use Rattle.ledger.proofs.KeyLaws.{bytes-of}
 use Rattle.ledger.proofs.PartLaws.{two-kept}
 use Rattle.ledger.proofs.LedgerLaws.{has-count}
@@ -21,17 +20,17 @@ room : (c : tie.After-record-size) → (c .record-size .result * c .before .befo
 room c =
     let start = c .before .before .before .before .before in
     let ledger = start .args .ledger .now in
-    let card = card-of (paper (start .args .s)) in (
-      place-within card ledger (start .pre .0 .size) (start .pre .0 .rules) (c .record-size .result) (c .before .count-at .result) (c .record-size .ensures)
+    let the-card = card (start .args .s) in (
+      place-within the-card ledger (start .pre .0 .size) (start .pre .0 .rules) (c .record-size .result) (c .before .count-at .result) (c .record-size .ensures)
           (c .before .count-at .ensures .0) (start .args .at) (start .pre .2),
-      one-more-within card ledger (start .pre .0 .size) (start .pre .0 .rules)
+      one-more-within the-card ledger (start .pre .0 .size) (start .pre .0 .rules)
           (c .record-size .result) (c .before .count-at .result) (c .record-size .ensures) (c .before .count-at .ensures .0) (start .pre .1),
     )
 
 count-at-requires : tie.Need-count-at-requires
 count-at-requires c κs =
     let start = c .before .before .before in
-    has-count (card-of (paper (start .args .s))) (start .args .ledger .now) (start .pre .0 .size)
+    has-count (card (start .args .s)) (start .args .ledger .now) (start .pre .0 .size)
 
 open-gap-requires : tie.Need-open-gap-requires
 open-gap-requires c κs =
@@ -44,7 +43,7 @@ part-copy-end c = omega (arith, room (c .before .before .before .before), c .bef
 write-number-requires : tie.Need-write-number-requires
 write-number-requires c κs =
     let start = c .before .before .before .before .before .before .before .before .before .before .before .before .before .before in
-    let card = card-of (paper (start .args .s)) in
+    let the-card = card (start .args .s) in
     let record-size = c .before .before .before .before .before .before .before .before .before .record-size in
     let count-at = c .before .before .before .before .before .before .before .before .before .before .count-at in
     let open-gap = c .before .before .before .before .before .before .before .open-gap in
@@ -55,7 +54,7 @@ write-number-requires c κs =
       omega (
         arith,
         count-at .ensures .0,
-        listed card (start .args .ledger .now) (start .pre .0 .size) (start .pre .0 .rules),
+        listed the-card (start .args .ledger .now) (start .pre .0 .size) (start .pre .0 .rules),
         sound (paper (start .args .s))
             (start .pre .0 .permitted) .capacity-small,
       ),
@@ -65,7 +64,7 @@ returns : tie.Need-returns
 returns c =
     let start = c .before .before .before .before .before .before .before .before .before .before .before .before .before .before .before .before .before in
     let ledger = start .args .ledger .now in
-    let card = card-of (paper (start .args .s)) in
+    let the-card = card (start .args .s) in
     let record-size = c .before .before .before .before .before .before .before .before .before .before .before .before .record-size in
     let count-at = c .before .before .before .before .before .before .before .before .before .before .before .before .before .count-at in
     let open-gap = c .before .before .before .before .before .before .before .before .before .before .open-gap in
@@ -74,7 +73,7 @@ returns c =
     let slice-known = c .before .before .before .before .before .before .before .before .before .before .before .before .before .before .before .before .slice-known
     in
     λ x q. write-number .ensures
-    ∙ inserted card ledger (start .pre .0 .size) (start .pre .0 .rules) (bytes-of ledger (slice-known .given)) (record-size .result) (record-size .ensures)
+    ∙ inserted the-card ledger (start .pre .0 .size) (start .pre .0 .rules) (bytes-of ledger (slice-known .given)) (record-size .result) (record-size .ensures)
     (start .args .at) (count-at .result) (count-at .ensures .0) (start .pre .2) (start .pre .1) (open-gap .last .0) (copy .last .0) (open-gap .ensures) x (q
     ∙ sym (copy .ensures))
 

@@ -4,8 +4,7 @@ use mathlib.Core.Path.{_∙_}
 use Prim.Native.Nat.{_+_, _-_, _*_, _≤_}
 use native.Mathlib.Omega.{arith}
 use lib.ListN.{length}
-use Rattle.theory.specs.Settings.{card-of}
-use Rattle.settings.specs.Checked.{paper}
+use Rattle.settings.specs.Checked.{card}
 use Rattle.ledger.proofs.KeyLaws.{bytes-of}
 use Rattle.ledger.proofs.PartLaws.{two-kept}
 use Rattle.ledger.proofs.LedgerLaws.{has-count}
@@ -19,17 +18,17 @@ room : (c : tie.After-record-size) → (c .record-size .result * c .before .befo
 room c =
     let start = c .before .before .before .before in
     let ledger = start .args .ledger .now in
-    let card = card-of (paper (start .args .s)) in (
-      record-within card ledger (start .pre .0 .size) (start .pre .0 .rules) (c .record-size .result) (c .before .count-at .result) (c .record-size .ensures)
+    let the-card = card (start .args .s) in (
+      record-within the-card ledger (start .pre .0 .size) (start .pre .0 .rules) (c .record-size .result) (c .before .count-at .result) (c .record-size .ensures)
           (c .before .count-at .ensures .0) (start .args .at) (start .pre .1),
-      ends-within card ledger (start .pre .0 .size) (start .pre .0 .rules)
+      ends-within the-card ledger (start .pre .0 .size) (start .pre .0 .rules)
           (c .record-size .result) (c .before .count-at .result) (c .record-size .ensures) (c .before .count-at .ensures .0),
     )
 
 count-at-requires : tie.Need-count-at-requires
 count-at-requires c κs =
     let start = c .before .before in
-    has-count (card-of (paper (start .args .s))) (start .args .ledger .now) (start .pre .0 .size)
+    has-count (card (start .args .s)) (start .args .ledger .now) (start .pre .0 .size)
 
 close-gap-requires : tie.Need-close-gap-requires
 close-gap-requires c κs =
@@ -42,9 +41,9 @@ part-zero-fill-end c = omega (arith, room (c .before .before .before .before), c
 sub-write-number : tie.Need-sub-write-number
 sub-write-number c =
     let start = c .before .before .before .before .before .before .before .before .before .before .before .before .before in
-    let card = card-of (paper (start .args .s)) in
+    let the-card = card (start .args .s) in
     let count-at = c .before .before .before .before .before .before .before .before .before .before .count-at in
-    omega (arith, count-at .ensures .0, listed card (start .args .ledger .now) (start .pre .0 .size) (start .pre .0 .rules), start .pre .1)
+    omega (arith, count-at .ensures .0, listed the-card (start .args .ledger .now) (start .pre .0 .size) (start .pre .0 .rules), start .pre .1)
 
 write-number-requires : tie.Need-write-number-requires
 write-number-requires c κs =
@@ -63,7 +62,7 @@ returns : tie.Need-returns
 returns c =
     let start = c .before .before .before .before .before .before .before .before .before .before .before .before .before .before .before .before in
     let ledger = start .args .ledger .now in
-    let card = card-of (paper (start .args .s)) in
+    let the-card = card (start .args .s) in
     let record-size = c .before .before .before .before .before .before .before .before .before .before .before .before .record-size in
     let count-at = c .before .before .before .before .before .before .before .before .before .before .before .before .before .count-at in
     let close-gap = c .before .before .before .before .before .before .before .before .before .before .close-gap in
@@ -71,7 +70,7 @@ returns c =
     let write-number = c .before .before .write-number in
     let slice-known = c .before .before .before .before .before .before .before .before .before .before .before .before .before .before .before .slice-known in
     write-number .ensures
-    ∙ removed card ledger (start .pre .0 .size) (start .pre .0 .rules) (bytes-of ledger (slice-known .given)) (record-size .result) (record-size .ensures)
+    ∙ removed the-card ledger (start .pre .0 .size) (start .pre .0 .rules) (bytes-of ledger (slice-known .given)) (record-size .result) (record-size .ensures)
     (start .args .at) (count-at .result) (count-at .ensures .0) (start .pre .1) (close-gap .last .0) (zero-fill .last .0) (close-gap .kept .0)
     (close-gap .ensures) (zero-fill .ensures)
 

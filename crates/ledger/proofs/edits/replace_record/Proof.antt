@@ -5,8 +5,7 @@ use Prim.Native.Nat.{_+_, _*_, _≤_}
 use native.Mathlib.Omega.{arith}
 use lib.ListN.{length}
 use Rattle.theory.specs.Records.{count-of}
-use Rattle.theory.specs.Settings.{card-of}
-use Rattle.settings.specs.Checked.{paper}
+use Rattle.settings.specs.Checked.{card}
 use Rattle.ledger.proofs.KeyLaws.{bytes-of}
 use Rattle.ledger.proofs.EditLaws.{record-within, ends-within, replaced}
 use Rattle.ledger.proofs.edits.replace_record.Statement.{statement}
@@ -18,12 +17,12 @@ room : (c : tie.After-record-size) → 2 + c .record-size .result * c .before .b
 room c =
     let start = c .before .before .before in
     let ledger = start .args .ledger .now in
-    let card = card-of (paper (start .args .s)) in
+    let the-card = card (start .args .s) in
     omega (
       arith,
-      record-within card ledger (start .pre .0 .size) (start .pre .0 .rules) (c .record-size .result) (count-of ledger) (c .record-size .ensures) refl
+      record-within the-card ledger (start .pre .0 .size) (start .pre .0 .rules) (c .record-size .result) (count-of ledger) (c .record-size .ensures) refl
           (start .args .at) (start .pre .1),
-      ends-within card ledger (start .pre .0 .size) (start .pre .0 .rules) (c .record-size .result) (count-of ledger)
+      ends-within the-card ledger (start .pre .0 .size) (start .pre .0 .rules) (c .record-size .result) (count-of ledger)
           (c .record-size .ensures) refl,
     )
 
@@ -31,11 +30,11 @@ returns : tie.Need-returns
 returns c =
     let start = c .before .before .before .before .before .before .before in
     let ledger = start .args .ledger .now in
-    let card = card-of (paper (start .args .s)) in
+    let the-card = card (start .args .s) in
     let record-size = c .before .before .before .before .record-size in
     let copy = c .before .before .copy in
     let slice-known = c .before .before .before .before .before .before .slice-known in
-    λ x q. replaced card ledger (start .pre .0 .size) (start .pre .0 .rules) (bytes-of ledger (slice-known .given)) (record-size .result) (record-size .ensures)
+    λ x q. replaced the-card ledger (start .pre .0 .size) (start .pre .0 .rules) (bytes-of ledger (slice-known .given)) (record-size .result) (record-size .ensures)
     (start .args .at) (start .pre .1) (copy .last .0) x (q ∙ sym (copy .ensures))
 
 pub replace-record-spec : {M : Type 1} → statement M

@@ -6,9 +6,8 @@ use native.Mathlib.Omega.{arith}
 use borrow.Author.Needs.{needs}
 use lib.ListN.{length, getD}
 use Rattle.theory.specs.Settings as plain
-use Rattle.theory.specs.Settings.{card-of}
 use Rattle.theory.specs.Lookup.{driver-number}
-use Rattle.settings.specs.Checked.{paper}
+use Rattle.settings.specs.Checked.{paper, card}
 use Rattle.lookup.specs.Places.{ChoiceFits}
 use Rattle.lookup.specs.Bursts.{key-at, each, unpacked-of, number-by}
 use Rattle.lookup.proofs.BurstLaws.{Passed, passed-none, passed-more, passed-all, key-within, key-lent, key-size, next-key, number-from}
@@ -37,7 +36,7 @@ module _ (c : tie.In-loop Inv-loop μ-loop) where
   width = measured .width .result
 
   abbrev w : ℕ
-  w = card-of (paper (start .args .s)) .width
+  w = card (start .args .s) .width
 
   inside : c .before .loop .from + width ≤ length (start .args .keys .now)
   inside =

@@ -5,10 +5,9 @@ use Prim.Native.Nat.{ℕ, _+_, _-_, _*_, _≤_}
 use native.Mathlib.Omega.{arith}
 use borrow.Author.Needs.{needs}
 use lib.ListN.{length}
-use Rattle.theory.specs.Settings.{card-of}
 use Rattle.hash.specs.Table.{H-by}
 use Rattle.hash.proofs.TableLaws.{lent-length}
-use Rattle.settings.specs.Checked.{paper}
+use Rattle.settings.specs.Checked.{card}
 use Rattle.lookup.specs.Bursts.{key-at, each}
 use Rattle.lookup.proofs.BurstLaws.{Passed, passed-none, passed-more, passed-all, key-within, key-lent, key-size, next-key}
 use Rattle.lookup.proofs.bursts.hash_all.Statement.{statement}
@@ -36,7 +35,7 @@ module _ (c : tie.In-loop Inv-loop μ-loop) where
   width = measured .width .result
 
   abbrev w : ℕ
-  w = card-of (paper (start .args .s)) .width
+  w = card (start .args .s) .width
 
   inside : c .before .loop .at + width ≤ length (start .args .keys .now)
   inside =

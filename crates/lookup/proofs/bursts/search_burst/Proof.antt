@@ -5,9 +5,8 @@ use Prim.Native.Nat.{ℕ, _*_}
 use borrow.Author.Needs.{needs}
 use lib.ListN.{length}
 use Rattle.theory.specs.Settings as plain
-use Rattle.theory.specs.Settings.{card-of}
 use Rattle.hash.specs.Table.{H-by}
-use Rattle.settings.specs.Checked.{paper, given-of}
+use Rattle.settings.specs.Checked.{paper, given-of, card}
 use Rattle.settings.specs.declared.Settings.{Settings}
 use Rattle.lookup.specs.Bursts.{key-at, judged-burst}
 use Rattle.lookup.specs.declared.judging.Judged.the-variants.{Ready}
@@ -40,7 +39,7 @@ module _ (c : tie.After-known-told2) where
 
   -- the H of key j
   abbrev h : ℕ → ℕ
-  h j = H-by (start .args .table .now) (key-at (card-of (paper s) .width) (start .args .keys .now) j)
+  h j = H-by (start .args .table .now) (key-at (card s .width) (start .args .keys .now) j)
 
 answer-all-requires : tie.Need-answer-all-requires
 answer-all-requires c κs =
@@ -49,7 +48,7 @@ answer-all-requires c κs =
     let clipped = start at .args .clipped .now in
     let long = packed-length (paper (s at)) (lent .ok) clipped (h at) (length (answers at)) _ _ (c .before .before .before .before .before .before .before .hash-all .ensures) (c .before .before .before .choose-all .ensures) in (
       record { ok = lent .ok; buckets-size = lent .buckets-size; side-size = lent .side-size },
-      fine at .keys-size ∙ ap (λ (n : ℕ). n * card-of (paper (s at)) .width) (sym long),
+      fine at .keys-size ∙ ap (λ (n : ℕ). n * card (s at) .width) (sym long),
       packed-fits (paper (s at)) (lent .ok) clipped (h at) (length (answers at)) _ _ (c .before .before .before .before .before .before .before .hash-all .ensures) (c .before .before .before .choose-all .ensures),
     )
 
@@ -59,7 +58,7 @@ returns-2 c =
     let args = start at .args in
     burst-answered (args .table .now) (args .clipped .now) (args .buckets .now) (args .side .now) (args .keys .now) (answers at) (given (start at)) (s at) (ready at) (fine at .same) _
     (numbered (paper (s at)) (fine at .lent .ok) (args .clipped .now) (h at) (length (answers at)) _ _ (c .before .before .before .before .before .before .before .before .before .before .hash-all .ensures) (c .before .before .before .before .before .before .choose-all .ensures)
-    (args .buckets .now) (args .side .now) (args .keys .now) (card-of (paper (s at)) .width) _ (c .before .before .answer-all .ensures))
+    (args .buckets .now) (args .side .now) (args .keys .now) (card (s at) .width) _ (c .before .before .answer-all .ensures))
 
 pub search-burst-spec : {M : Type 1} → statement M
 search-burst-spec =

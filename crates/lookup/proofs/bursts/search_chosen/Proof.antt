@@ -2,10 +2,9 @@
 use mathlib.Core.Path.{_≡_, sym, ap, _∙_, subst}
 use native.Mathlib.Omega.{arith}
 use borrow.Author.Needs.{needs}
-use Rattle.theory.specs.Settings.{card-of}
 use Rattle.theory.specs.Lookup as plain
 use Rattle.theory.specs.Lookup.{answer-at}
-use Rattle.settings.specs.Checked.{paper}
+use Rattle.settings.specs.Checked.{paper, card}
 use Rattle.lookup.specs.declared.placing.Place.{Place}
 use Rattle.lookup.specs.Places.{place-of, place-by, Inside}
 use Rattle.lookup.proofs.bursts.search_chosen.Statement.{statement}
@@ -18,13 +17,13 @@ module _ (c : tie.After-place-by) where
 
   -- the answer there
   abbrev answer : plain.Place → plain.Answer
-  answer x = answer-at (card-of (paper (start .args .s))) (start .args .key .now) x
+  answer x = answer-at (card (start .args .s)) (start .args .key .now) x
 
   abbrev found : Place → plain.Place
-  found x = place-of (card-of (paper (start .args .s))) (start .args .buckets .now) (start .args .side .now) x
+  found x = place-of (card (start .args .s)) (start .args .buckets .now) (start .args .side .now) x
 
   there : (x : Place) → c .place-by .result ≡ x
-      → answer (found x) ≡ answer (place-by (card-of (paper (start .args .s))) (start .args .choice) (start .args .buckets .now) (start .args .side .now))
+      → answer (found x) ≡ answer (place-by (card (start .args .s)) (start .args .choice) (start .args .buckets .now) (start .args .side .now))
   there x e = ap answer (ap found (sym e) ∙ c .place-by .ensures .0)
 
   within : (x : Place) → c .place-by .result ≡ x → Inside (paper (start .args .s)) x

@@ -6,8 +6,7 @@ use native.Mathlib.Omega.{arith}
 use borrow.Author.Needs.{needs}
 use lib.ListN.{getD}
 use Rattle.theory.specs.Settings as plain
-use Rattle.theory.specs.Settings.{card-of}
-use Rattle.settings.specs.Checked.{paper, given-of}
+use Rattle.settings.specs.Checked.{paper, given-of, card}
 use Rattle.settings.specs.declared.Settings.{Settings}
 use Rattle.settings.proofs.Laws.{width-is}
 use Rattle.lookup.specs.Answers.{judged-of}
@@ -53,7 +52,7 @@ returns-2 c =
     let at = c .before .before .before .before .before .before .before in
     let args = start at .args in
     let h : ℕ → ℕ = λ j. c .before .before .before .before .before .before .h-rows .result in
-    let numbers = numbered (paper (s at)) (right at .lent .ok) (args .clipped .now) h 1 _ _ refl (c .before .before .before .before .choose-all .ensures) (args .buckets .now) (args .side .now) (args .key .now) (card-of (paper (s at)) .width) _ (c .before .answer-all .ensures) in
+    let numbers = numbered (paper (s at)) (right at .lent .ok) (args .clipped .now) h 1 _ _ refl (c .before .before .before .before .choose-all .ensures) (args .buckets .now) (args .side .now) (args .key .now) (card (s at) .width) _ (c .before .answer-all .ensures) in
     ap (λ (l : List ℕ). getD l 0 0) numbers
     ∙ one-number (given (start at)) (args .clipped .now) (args .buckets .now) (args .side .now) (args .key .now) (s at) (ready at) (c .before .before .before .before .before .before .h-rows .result) (c .before .before .before .before .before .before .h-rows .ensures)
 

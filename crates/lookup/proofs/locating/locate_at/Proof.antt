@@ -50,17 +50,17 @@ module _ (c : tie.After-place-by) where
   abbrev key : List ℕ
   key = start .args .key .now
 
-  -- the card as the key sees it
-  abbrev card : Card
-  card = card-at t (start .args .h)
+  -- the the-card as the key sees it
+  abbrev the-card : Card
+  the-card = card-at t (start .args .h)
 
   abbrev Right : Located → Type 0
-  Right r = LocatedAt card clipped buckets side key r
+  Right r = LocatedAt the-card clipped buckets side key r
 
   abbrev found : Place → lookups.Place
   found x = place-of (card-of t) buckets side x
 
-  answered : (x : Place) → c .place-by .result ≡ x → answer-at (card-of t) key (found x) ≡ search-areas card clipped buckets side key
+  answered : (x : Place) → c .place-by .result ≡ x → answer-at (card-of t) key (found x) ≡ search-areas the-card clipped buckets side key
   answered x e =
       let is = place-by-is t (start .pre .0 .ok) (start .args .h) clipped (c .before .choose .result) (c .before .choose .ensures) buckets side key in
       search-is t (start .args .h) clipped buckets side key (found x) (ap found (sym e) ∙ c .place-by .ensures .0 ∙ is)
@@ -68,11 +68,11 @@ module _ (c : tie.After-place-by) where
   within : (x : Place) → c .place-by .result ≡ x → Inside t x
   within x e = subst (Inside t) e (c .place-by .ensures .1)
 
-  goes : (x : Place) → c .place-by .result ≡ x → Goes (card-of t) (chosen card (counter clipped) key) (goes-to-bucket card clipped buckets key) x
+  goes : (x : Place) → c .place-by .result ≡ x → Goes (card-of t) (chosen the-card (counter clipped) key) (goes-to-bucket the-card clipped buckets key) x
   goes x e =
       let of = c .before .choose .ensures in
       let is = goes-by-is t (start .pre .0 .ok) (start .args .h) clipped (c .before .choose .result) of buckets side key in
-      subst (λ (b : ℕ). Goes (card-of t) b (goes-to-bucket card clipped buckets key) x) (of .bucket key)
+      subst (λ (b : ℕ). Goes (card-of t) b (goes-to-bucket the-card clipped buckets key) x) (of .bucket key)
       (subst (λ (g : Bool). Goes (card-of t) (c .before .choose .result .bucket) g x) is
       (subst (Goes (card-of t) (c .before .choose .result .bucket) _) e (c .place-by .ensures .2)))
 

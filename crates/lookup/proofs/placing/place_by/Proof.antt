@@ -5,8 +5,7 @@ use Prim.Native.Nat.{ℕ}
 use borrow.Author.Needs.{needs}
 use borrow.Author.Tests.{eqb-false}
 use lib.Dec.{eqb}
-use Rattle.theory.specs.Settings.{card-of}
-use Rattle.settings.specs.Checked.{paper}
+use Rattle.settings.specs.Checked.{paper, card}
 use Rattle.settings.proofs.Laws.{top-is}
 use Rattle.lookup.specs.Places.{place-by, goes-by}
 use Rattle.lookup.proofs.placing.place_by.Statement.{statement}
@@ -27,7 +26,7 @@ module _ (c : tie.After-is2) where
   none-zero = sym (c .before .before .is .ensures) ∙ c .before .if2 .left
 
   -- whether all are T
-  all-top : eqb least (card-of (paper (start .args .s)) .top) ≡ c .is2 .result
+  all-top : eqb least (card (start .args .s) .top) ≡ c .is2 .result
   all-top = ap (eqb least) (top-is (paper (start .args .s))) ∙ sym (c .is2 .ensures)
 
 returns : tie.Need-returns

@@ -1,9 +1,8 @@
 -- `lookup::searching::search_at` meets its contract: the answer at the place where the search looks.
 use mathlib.Core.Path.{sym, ap, _∙_, subst}
 use native.Mathlib.Omega.{arith}
-use Rattle.theory.specs.Settings.{card-of}
 use Rattle.theory.specs.Lookup.{invalid, nowhere, answer-at}
-use Rattle.settings.specs.Checked.{paper}
+use Rattle.settings.specs.Checked.{paper, card}
 use Rattle.lookup.specs.Places.{place-of, Inside}
 use Rattle.lookup.proofs.PlaceLaws.{search-is}
 use borrow.Author.Needs.{needs}
@@ -28,7 +27,7 @@ returns c =
     let start = c .before .before .before .before .before .before .before .before in
     let find-place = c .before .before .before .find-place in
     c .bare .ensures ∙ search-is (paper (start .args .s)) (start .args .h) (start .args .clipped .now) (start .args .buckets .now) (start .args .side .now) (start .args .key .now) invalid
-    (ap (place-of (card-of (paper (start .args .s))) (start .args .buckets .now) (start .args .side .now)) (sym (c .before .enum-told .given .1)) ∙ find-place .ensures .0 (start .args .key .now))
+    (ap (place-of (card (start .args .s)) (start .args .buckets .now) (start .args .side .now)) (sym (c .before .enum-told .given .1)) ∙ find-place .ensures .0 (start .args .key .now))
 
 returns-2 : tie.Need-returns-2
 unfolding answer-at
@@ -36,7 +35,7 @@ returns-2 c =
     let start = c .before .before .before .before .before .before .before .before in
     let find-place = c .before .before .before .find-place in
     c .bare2 .ensures ∙ search-is (paper (start .args .s)) (start .args .h) (start .args .clipped .now) (start .args .buckets .now) (start .args .side .now) (start .args .key .now) nowhere
-    (ap (place-of (card-of (paper (start .args .s))) (start .args .buckets .now) (start .args .side .now)) (sym (c .before .enum-told2 .given .1)) ∙ find-place .ensures .0 (start .args .key .now))
+    (ap (place-of (card (start .args .s)) (start .args .buckets .now) (start .args .side .now)) (sym (c .before .enum-told2 .given .1)) ∙ find-place .ensures .0 (start .args .key .now))
 
 returns-3 : tie.Need-returns-3
 returns-3 c =
@@ -44,7 +43,7 @@ returns-3 c =
     let find-place = c .before .before .before .before .find-place in
     let place = c .before .before .place in
     c .compare-bucket .ensures ∙ search-is (paper (start .args .s)) (start .args .h) (start .args .clipped .now) (start .args .buckets .now) (start .args .side .now) (start .args .key .now) _
-    (ap (place-of (card-of (paper (start .args .s))) (start .args .buckets .now) (start .args .side .now)) (sym (place .given .1)) ∙ find-place .ensures .0 (start .args .key .now))
+    (ap (place-of (card (start .args .s)) (start .args .buckets .now) (start .args .side .now)) (sym (place .given .1)) ∙ find-place .ensures .0 (start .args .key .now))
 
 returns-4 : tie.Need-returns-4
 returns-4 c =
@@ -52,7 +51,7 @@ returns-4 c =
     let find-place = c .before .before .before .before .find-place in
     let place2 = c .before .before .place2 in
     c .compare-side .ensures ∙ search-is (paper (start .args .s)) (start .args .h) (start .args .clipped .now) (start .args .buckets .now) (start .args .side .now) (start .args .key .now) _
-    (ap (place-of (card-of (paper (start .args .s))) (start .args .buckets .now) (start .args .side .now)) (sym (place2 .given .1)) ∙ find-place .ensures .0 (start .args .key .now))
+    (ap (place-of (card (start .args .s)) (start .args .buckets .now) (start .args .side .now)) (sym (place2 .given .1)) ∙ find-place .ensures .0 (start .args .key .now))
 
 pub search-at-spec : {M : Type 1} → statement M
 search-at-spec =

@@ -4,10 +4,9 @@ use mathlib.Core.Bool.{Bool, _&&_}
 use borrow.Author.Tests.{eqb-true, not-true, not-false}
 use lib.Dec.{eqb}
 use lib.ListN.{length}
-use Rattle.theory.specs.Settings.{card-of}
 use Rattle.theory.specs.Snapshot.{file-settings}
 use Rattle.theory.proofs.ListLaws.{and-left, and-right}
-use Rattle.settings.specs.Checked.{paper}
+use Rattle.settings.specs.Checked.{card}
 use Rattle.settings.proofs.Laws.{allowed-arm, refused-arm, allowed-settings}
 use Rattle.settings.proofs.LengthLaws.{sized-by}
 use Rattle.placing.proofs.ReadyLaws.{ready}
@@ -76,7 +75,7 @@ load-lent-requires c κs =
       (sym (head-wrong .ensures) ∙ (if1 .left)),
       arm .1,
       eqb-true _ _ (and-left (eqb (length (start .args .work .now)) (work-length .result)) _ v) ∙ work-length .ensures,
-      sized-by (card-of (paper (checked .given .0 .0))) (record { ledger = start .args .ledger .now; true-counts = start .args .true-counts .now; clipped-counts = start .args .clipped .now; buckets = start .args .buckets .now; side-store = start .args .side .now }) (and-right (eqb (length (start .args .work .now)) (work-length .result)) _ v),
+      sized-by (card (checked .given .0 .0)) (record { ledger = start .args .ledger .now; true-counts = start .args .true-counts .now; clipped-counts = start .args .clipped .now; buckets = start .args .buckets .now; side-store = start .args .side .now }) (and-right (eqb (length (start .args .work .now)) (work-length .result)) _ v),
     )
 
 pub load-spec : {M : Type 1} → statement M

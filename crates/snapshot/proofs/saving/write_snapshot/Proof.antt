@@ -2,9 +2,8 @@
 use mathlib.Core.Path.{sym}
 use native.Mathlib.Omega.{arith}
 use lib.Seq.{length-take-le}
-use Rattle.theory.specs.Settings.{card-of}
 use Rattle.theory.proofs.SettingsLaws.{sound}
-use Rattle.settings.specs.Checked.{paper}
+use Rattle.settings.specs.Checked.{paper, card}
 use Rattle.ledger.proofs.KeyLaws.{bytes-of}
 use Rattle.ledger.proofs.EditLaws.{few}
 use Rattle.snapshot.proofs.SaveLaws.{end-within, same-room, snapshot-written}
@@ -18,7 +17,7 @@ slice-aggregate-write-head c = sym (length-take-le 16 (c .before .before .before
 write-head-requires : tie.Need-write-head-requires
 write-head-requires c κs =
     let start = c .before .before .before in
-    (start .pre .0 .permitted, length-take-le 16 (start .args .target .now) (omega (arith, start .pre .2)), omega (arith, start .pre .1, few (card-of (paper (start .args .s))) (start .args .ledger .now) (start .pre .0 .size) (start .pre .0 .rules), sound (paper (start .args .s)) (start .pre .0 .permitted) .capacity-small))
+    (start .pre .0 .permitted, length-take-le 16 (start .args .target .now) (omega (arith, start .pre .2)), omega (arith, start .pre .1, few (card (start .args .s)) (start .args .ledger .now) (start .pre .0 .size) (start .pre .0 .rules), sound (paper (start .args .s)) (start .pre .0 .permitted) .capacity-small))
 
 mul-end : tie.Need-mul-end
 mul-end c =

@@ -9,7 +9,7 @@ use lib.Dec.{ltb}
 use lib.ListN.{length, take, getD}
 use lib.Seq.{getD-drop, take-all}
 use Rattle.theory.specs.Settings.{Settings, card-of, bucket-size, buckets-length}
-use Rattle.settings.specs.Checked.{paper}
+use Rattle.settings.specs.Checked.{paper, card}
 use Rattle.settings.proofs.Laws.{room-is, buckets-length-is, bounds}
 use Rattle.ledger.proofs.PartLaws.{length-lent}
 use Rattle.writing.specs.Buckets.{crowded-by, blank-buckets}
@@ -20,7 +20,7 @@ use Rattle.writing.proofs.buckets.open_buckets.Tie as tie
 
 abbrev Inv-loop : tie.InvT-loop
 Inv-loop s m work buckets₀ size b₀ at₀ buckets b at =
-    (b ≤ m) × (at ≡ b * size) × (length buckets ≡ length buckets₀) × (take at buckets ≡ blank-buckets (card-of (paper s)) (crowded-by (card-of (paper s)) m work) b)
+    (b ≤ m) × (at ≡ b * size) × (length buckets ≡ length buckets₀) × (take at buckets ≡ blank-buckets (card s) (crowded-by (card s) m work) b)
 
 abbrev μ-loop : tie.MeasureT-loop
 μ-loop s m work buckets₀ size b₀ at₀ buckets b at = m - b
@@ -47,7 +47,7 @@ within c =
     )
 
 loop-holds : tie.Need-loop-holds Inv-loop μ-loop
-loop-holds c = let s = card-of (paper (c .before .before .before .args .s)) in
+loop-holds c = let s = card (c .before .before .before .args .s) in
     (omega arith, sym (zero-mul (c .bucket-size .result)), refl, blank-none s (crowded-by s (c .before .before .before .args .m) (c .before .before .before .args .work .now)))
 
 mul-choosers : tie.Need-mul-choosers Inv-loop μ-loop
@@ -72,7 +72,7 @@ loop-again c =
     let loop = c .before .before .before .before .before .before .before .loop in
     let before = c .before .before .before .before .before .before in
     let open-bucket = c .before .before .open-bucket in
-    let s = card-of (paper (start .args .s)) in
+    let s = card (start .args .s) in
     let crowd = crowded-by s (start .args .m) (start .args .work .now) in
     let at = loop .at in
     let size = bucket-size .result in

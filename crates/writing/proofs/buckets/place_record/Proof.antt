@@ -6,10 +6,10 @@ use Prim.Native.Nat.{ℕ, _+_, _*_, _≤_, _<_}
 use native.Mathlib.Nat.{mul-comm}
 use native.Mathlib.Omega.{arith}
 use lib.ListN.{length, take, drop}
-use Rattle.theory.specs.Settings.{Card, card-of, record-size, bucket-size}
+use Rattle.theory.specs.Settings.{Card, record-size, bucket-size}
 use Rattle.theory.proofs.SettingsLaws.{Sound, sound}
 use Rattle.theory.proofs.ByteLaws.{Byte}
-use Rattle.settings.specs.Checked.{paper}
+use Rattle.settings.specs.Checked.{paper, card}
 use Rattle.ledger.proofs.PartLaws.{length-lent}
 use Rattle.placing.specs.Worked.{nth, belongs-by}
 use Rattle.writing.proofs.ChoiceLaws.{key-at, kept-length, kept-is, kept-most, kept-side}
@@ -23,7 +23,7 @@ use Rattle.writing.proofs.buckets.place_record.Tie as tie
 -- ---- at entry: the record of the turn, and its kept choice
 module _ (c : tie.Start) where
   abbrev s : Card
-  s = card-of (paper (c .args .s))
+  s = card (c .args .s)
 
   abbrev area : List ℕ
   area = c .args .area .now

@@ -4,8 +4,8 @@ use mathlib.Core.List.{List}
 use Prim.Native.Nat.{ℕ, _-_, _≤_}
 use native.Mathlib.Omega.{arith}
 use lib.ListN.{length}
-use Rattle.theory.specs.Settings.{Card, card-of}
-use Rattle.settings.specs.Checked.{paper}
+use Rattle.theory.specs.Settings.{Card}
+use Rattle.settings.specs.Checked.{card}
 use Rattle.writing.specs.Buckets.{placed}
 use Rattle.writing.proofs.BucketLaws.{growing-none}
 use Rattle.writing.proofs.buckets.place_records.Statement.{statement}
@@ -18,7 +18,7 @@ record First (s : Card) (m : ℕ) (work area : List ℕ) (n size i : ℕ) (bucke
   is : buckets ≡ placed s m work i area
 
 abbrev Inv-loop : tie.InvT-loop
-Inv-loop s m work kept buckets₀ area n i₀ buckets i = First (card-of (paper s)) m work area n (length buckets₀) i buckets
+Inv-loop s m work kept buckets₀ area n i₀ buckets i = First (card s) m work area n (length buckets₀) i buckets
 
 abbrev μ-loop : tie.MeasureT-loop
 μ-loop s m work kept buckets₀ area n i₀ buckets i = n - i

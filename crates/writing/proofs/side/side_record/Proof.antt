@@ -8,10 +8,10 @@ use native.Mathlib.Omega.{arith}
 use borrow.Author.Tests.{not-true, not-false}
 use lib.ListN.{length, take, drop}
 use Rattle.theory.specs.Records.{Record, records}
-use Rattle.theory.specs.Settings.{Card, card-of, record-size}
+use Rattle.theory.specs.Settings.{Card, record-size}
 use Rattle.theory.specs.Layout.{places}
 use Rattle.theory.proofs.ByteLaws.{Byte}
-use Rattle.settings.specs.Checked.{paper}
+use Rattle.settings.specs.Checked.{card}
 use Rattle.placing.specs.Worked.{nth, belongs-by, Worked}
 use Rattle.writing.proofs.ChoiceLaws.{key-at, kept-length, kept-most, kept-side}
 use Rattle.writing.proofs.MoreLaws.{all-from}
@@ -24,7 +24,7 @@ use Rattle.writing.proofs.side.side_record.Tie as tie
 -- ---- at entry: the record of the turn
 module _ (c : tie.Start) where
   abbrev s : Card
-  s = card-of (paper (c .args .s))
+  s = card (c .args .s)
 
   abbrev area : List ℕ
   area = c .args .area .now

@@ -4,8 +4,8 @@ use mathlib.Core.List.{List}
 use Prim.Native.Nat.{ℕ, _-_, _*_, _≤_}
 use native.Mathlib.Omega.{arith}
 use lib.ListN.{length}
-use Rattle.theory.specs.Settings.{Card, card-of, record-size}
-use Rattle.settings.specs.Checked.{paper}
+use Rattle.theory.specs.Settings.{Card, record-size}
+use Rattle.settings.specs.Checked.{card}
 use Rattle.writing.specs.Side.{sent, sent-places}
 use Rattle.writing.proofs.SideLaws.{none-sent}
 use Rattle.writing.proofs.side.side_records.Statement.{statement}
@@ -19,7 +19,7 @@ record First (s : Card) (m : ℕ) (work area : List ℕ) (n size i free : ℕ) (
   is : store ≡ sent-places s m work i area
 
 abbrev Inv-loop : tie.InvT-loop
-Inv-loop s m work kept store₀ area n i₀ free₀ store i free = First (card-of (paper s)) m work area n (length store₀) i free store
+Inv-loop s m work kept store₀ area n i₀ free₀ store i free = First (card s) m work area n (length store₀) i free store
 
 abbrev μ-loop : tie.MeasureT-loop
 μ-loop s m work kept store₀ area n i₀ free₀ store i free = n - i
@@ -27,7 +27,7 @@ abbrev μ-loop : tie.MeasureT-loop
 loop-holds : tie.Need-loop-holds Inv-loop μ-loop
 loop-holds c =
     let start = c .before .before .before .before in
-    let none = none-sent (card-of (paper (start .args .s))) (start .args .m) (start .args .work .now) (start .args .area .now) in
+    let none = none-sent (card (start .args .s)) (start .args .m) (start .args .work .now) (start .args .area .now) in
     record { most = omega arith; same = refl; after = none; is = start .pre .2 }
 
 side-record-requires : tie.Need-side-record-requires Inv-loop μ-loop
