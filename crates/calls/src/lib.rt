@@ -10,6 +10,7 @@ ghost use Rattle.theory.specs.Layout.{Areas};
 ghost use Rattle.theory.specs.Lookup.{bare};
 ghost use Rattle.theory.specs.Ledger.{Step, answered};
 ghost use Rattle.theory.specs.Calls as plain;
+ghost use Rattle.theory.specs.CallAreas.{entry-areas, exit-areas};
 ghost use Rattle.calls.specs.Data.{call-of, reply-of};
 
 // The kinds of call; the second search call hands back a part of an area, and is lookup::fetching::fetch.
@@ -44,9 +45,9 @@ pub fn perform(
     key: &[u8],
     class: u32,
 ) -> Reply
-    ensures { λ r. ⌜ _≡_ {A = Step Areas} (record { reply = reply-of r; state = record { ledger = now (ledger .exit); true-counts = now («true_counts» .exit); clipped-counts = now (clipped .exit); buckets = now (buckets .exit); side-store = now (side .exit) } })
+    ensures { λ r. ⌜ _≡_ {A = Step Areas} (record { reply = reply-of r; state = exit-areas ledger «true_counts» clipped buckets side })
         (plain.perform (given-of given) (length (now (work .entry))) (call-of kind (now (key .entry)) class)
-        (record { ledger = now (ledger .entry); true-counts = now («true_counts» .entry); clipped-counts = now (clipped .entry); buckets = now (buckets .entry); side-store = now (side .entry) })) ⌝ }
+        (entry-areas ledger «true_counts» clipped buckets side)) ⌝ }
 {
     match kind {
         Kind::Clear => answer_only(update::clear(

@@ -3,6 +3,7 @@ use settings::Given;
 ghost use mathlib.Core.Path.{_≡_};
 ghost use lib.ListN.{length};
 ghost use Rattle.theory.specs.Snapshot.{settings-count, settings-list, Saved, save};
+ghost use Rattle.theory.specs.CallAreas.{entry-areas, exit-areas};
 ghost use Rattle.settings.specs.Checked.{given-of};
 ghost use Rattle.card.specs.Snapshots.{LoadedInto, settings-area-refusal, load-of};
 
@@ -69,8 +70,8 @@ pub extern "C" fn flow_load(
     work: &mut [u16],
     settings: &mut [u64],
 ) -> u32
-    ensures { λ r. ⌜ _≡_ {A = LoadedInto} (record { number = r; settings = now (settings .exit); areas = record { ledger = now (ledger .exit); true-counts = now («true_counts» .exit); clipped-counts = now (clipped .exit); buckets = now (buckets .exit); side-store = now (side .exit) } })
-        (load-of (now (file .entry)) (length (now (work .entry))) (record { ledger = now (ledger .entry); true-counts = now («true_counts» .entry); clipped-counts = now (clipped .entry); buckets = now (buckets .entry); side-store = now (side .entry) }) (now (settings .entry))) ⌝ }
+    ensures { λ r. ⌜ _≡_ {A = LoadedInto} (record { number = r; settings = now (settings .exit); areas = exit-areas ledger «true_counts» clipped buckets side })
+        (load-of (now (file .entry)) (length (now (work .entry))) (entry-areas ledger «true_counts» clipped buckets side) (now (settings .entry))) ⌝ }
 {
     if settings.len() != snapshot::SETTINGS {
         return refuse_settings_area(file);

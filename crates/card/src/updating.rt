@@ -8,6 +8,7 @@ ghost use Rattle.theory.specs.Lookup.{bare};
 ghost use Rattle.theory.specs.Ledger.{Step, answered};
 ghost use Rattle.theory.specs.Ledger as calls;
 ghost use Rattle.theory.specs.Calls.{perform};
+ghost use Rattle.theory.specs.CallAreas.{entry-areas, exit-areas};
 
 // "Clear lays out the empty list, on areas with any contents."
 #[no_mangle]
@@ -24,9 +25,9 @@ pub extern "C" fn flow_clear(
     buckets: &mut [u8],
     side: &mut [u8],
 ) -> u32
-    ensures { λ r. ⌜ _≡_ {A = Step Areas} (record { reply = answered (bare r); state = record { ledger = now (ledger .exit); true-counts = now («true_counts» .exit); clipped-counts = now (clipped .exit); buckets = now (buckets .exit); side-store = now (side .exit) } })
+    ensures { λ r. ⌜ _≡_ {A = Step Areas} (record { reply = answered (bare r); state = exit-areas ledger «true_counts» clipped buckets side })
         (perform (record { p = p; k = k; room = room; top = top; capacity = capacity; side-places = «side_places» }) 0 calls.clear
-        (record { ledger = now (ledger .entry); true-counts = now («true_counts» .entry); clipped-counts = now (clipped .entry); buckets = now (buckets .entry); side-store = now (side .entry) })) ⌝ }
+        (entry-areas ledger «true_counts» clipped buckets side)) ⌝ }
 {
     let given = Given {
         p,
@@ -57,9 +58,9 @@ pub extern "C" fn flow_add(
     key: &[u8],
     class: u32,
 ) -> u32
-    ensures { λ r. ⌜ _≡_ {A = Step Areas} (record { reply = answered (bare r); state = record { ledger = now (ledger .exit); true-counts = now («true_counts» .exit); clipped-counts = now (clipped .exit); buckets = now (buckets .exit); side-store = now (side .exit) } })
+    ensures { λ r. ⌜ _≡_ {A = Step Areas} (record { reply = answered (bare r); state = exit-areas ledger «true_counts» clipped buckets side })
         (perform (record { p = p; k = k; room = room; top = top; capacity = capacity; side-places = «side_places» }) (length (now (work .entry))) (calls.add (now (key .entry)) class)
-        (record { ledger = now (ledger .entry); true-counts = now («true_counts» .entry); clipped-counts = now (clipped .entry); buckets = now (buckets .entry); side-store = now (side .entry) })) ⌝ }
+        (entry-areas ledger «true_counts» clipped buckets side)) ⌝ }
 {
     let given = Given {
         p,
@@ -101,9 +102,9 @@ pub extern "C" fn flow_change(
     key: &[u8],
     class: u32,
 ) -> u32
-    ensures { λ r. ⌜ _≡_ {A = Step Areas} (record { reply = answered (bare r); state = record { ledger = now (ledger .exit); true-counts = now («true_counts» .exit); clipped-counts = now (clipped .exit); buckets = now (buckets .exit); side-store = now (side .exit) } })
+    ensures { λ r. ⌜ _≡_ {A = Step Areas} (record { reply = answered (bare r); state = exit-areas ledger «true_counts» clipped buckets side })
         (perform (record { p = p; k = k; room = room; top = top; capacity = capacity; side-places = «side_places» }) (length (now (work .entry))) (calls.change (now (key .entry)) class)
-        (record { ledger = now (ledger .entry); true-counts = now («true_counts» .entry); clipped-counts = now (clipped .entry); buckets = now (buckets .entry); side-store = now (side .entry) })) ⌝ }
+        (entry-areas ledger «true_counts» clipped buckets side)) ⌝ }
 {
     let given = Given {
         p,
@@ -144,9 +145,9 @@ pub extern "C" fn flow_remove(
     work: &mut [u16],
     key: &[u8],
 ) -> u32
-    ensures { λ r. ⌜ _≡_ {A = Step Areas} (record { reply = answered (bare r); state = record { ledger = now (ledger .exit); true-counts = now («true_counts» .exit); clipped-counts = now (clipped .exit); buckets = now (buckets .exit); side-store = now (side .exit) } })
+    ensures { λ r. ⌜ _≡_ {A = Step Areas} (record { reply = answered (bare r); state = exit-areas ledger «true_counts» clipped buckets side })
         (perform (record { p = p; k = k; room = room; top = top; capacity = capacity; side-places = «side_places» }) (length (now (work .entry))) (calls.remove (now (key .entry)))
-        (record { ledger = now (ledger .entry); true-counts = now («true_counts» .entry); clipped-counts = now (clipped .entry); buckets = now (buckets .entry); side-store = now (side .entry) })) ⌝ }
+        (entry-areas ledger «true_counts» clipped buckets side)) ⌝ }
 {
     let given = Given {
         p,

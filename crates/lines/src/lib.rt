@@ -14,6 +14,7 @@ ghost use Rattle.theory.specs.Flowrun as flowrun;
 ghost use Rattle.theory.specs.Lookup.{bare};
 ghost use Rattle.theory.specs.Ledger.{answered};
 ghost use Rattle.theory.specs.Flowrun.{letter-call, line-text, Printed, print-bytes, print-lines, call-count};
+ghost use Rattle.theory.specs.CallAreas.{entry-areas, exit-areas};
 ghost use Rattle.lookup.specs.Answers.{answer-of};
 ghost use Rattle.update.specs.Editing as edits;
 ghost use Rattle.calls.specs.Data.{call-of, reply-of};
@@ -136,8 +137,8 @@ fn show_call(
     side: &mut [u8],
     work: &mut [u16],
 ) -> Shown
-    ensures { λ r. ⌜ ((n : ℕ) → _≡_ {A = Printed} (record { text = line-text (record { call = n; letter = r .letter; answer = answer-of (r .answer) }); areas = record { ledger = now (ledger .exit); true-counts = now («true_counts» .exit); clipped-counts = now (clipped .exit); buckets = now (buckets .exit); side-store = now (side .exit) } })
-        (print-bytes (length (now (work .entry))) n (now (call .entry)) (record { ledger = now (ledger .entry); true-counts = now («true_counts» .entry); clipped-counts = now (clipped .entry); buckets = now (buckets .entry); side-store = now (side .entry) }))) ⌝ }
+    ensures { λ r. ⌜ ((n : ℕ) → _≡_ {A = Printed} (record { text = line-text (record { call = n; letter = r .letter; answer = answer-of (r .answer) }); areas = exit-areas ledger «true_counts» clipped buckets side })
+        (print-bytes (length (now (work .entry))) n (now (call .entry)) (entry-areas ledger «true_counts» clipped buckets side))) ⌝ }
 {
     if call.len() != 18 {
         return show_unknown();
@@ -187,8 +188,8 @@ pub fn run_call(
     at: usize,
 ) -> usize
     requires { ⌜ at + 128 ≤ length (now to) ⌝ }
-    ensures { λ r. ⌜ PrintsAfter (print-bytes (length (now (work .entry))) number (now (call .entry)) (record { ledger = now (ledger .entry); true-counts = now («true_counts» .entry); clipped-counts = now (clipped .entry); buckets = now (buckets .entry); side-store = now (side .entry) }))
-        (record { ledger = now (ledger .exit); true-counts = now («true_counts» .exit); clipped-counts = now (clipped .exit); buckets = now (buckets .exit); side-store = now (side .exit) })
+    ensures { λ r. ⌜ PrintsAfter (print-bytes (length (now (work .entry))) number (now (call .entry)) (entry-areas ledger «true_counts» clipped buckets side))
+        (exit-areas ledger «true_counts» clipped buckets side)
         (now (to .entry)) at (now (to .exit)) r × (at ≤ r) × (r ≤ at + 128) ⌝ }
 {
     let shown = show_call(call, ledger, true_counts, clipped, buckets, side, work);
@@ -222,8 +223,8 @@ pub fn run_calls(
     to: &mut [u8],
 ) -> usize
     requires { ⌜ (128 * call-count (now input) ≤ length (now to)) × (first + length (now input) < 9223372036854775808) ⌝ }
-    ensures { λ r. ⌜ Prints (print-lines (length (now (work .entry))) first (call-count (now (input .entry))) (now (input .entry)) (record { ledger = now (ledger .entry); true-counts = now («true_counts» .entry); clipped-counts = now (clipped .entry); buckets = now (buckets .entry); side-store = now (side .entry) }))
-        (record { ledger = now (ledger .exit); true-counts = now («true_counts» .exit); clipped-counts = now (clipped .exit); buckets = now (buckets .exit); side-store = now (side .exit) })
+    ensures { λ r. ⌜ Prints (print-lines (length (now (work .entry))) first (call-count (now (input .entry))) (now (input .entry)) (entry-areas ledger «true_counts» clipped buckets side))
+        (exit-areas ledger «true_counts» clipped buckets side)
         (now (to .entry)) (now (to .exit)) r × Counts r (now (to .exit)) ⌝ }
 {
     let length = input.len();

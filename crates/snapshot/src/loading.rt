@@ -23,6 +23,7 @@ ghost use Rattle.theory.specs.Layout.{Areas, counted-places, layout};
 ghost use Rattle.theory.specs.Snapshot as plain;
 ghost use Rattle.theory.specs.Snapshot.{file-settings, head-wrong, not-loaded};
 ghost use Rattle.theory.proofs.CallLaws.{Sized};
+ghost use Rattle.theory.specs.CallAreas.{areas-now, entry-areas, exit-areas};
 ghost use Rattle.settings.specs.Checked.{paper, card};
 ghost use Rattle.placing.specs.Ready.{Ready};
 ghost use Rattle.writing.specs.Laying.{Laying};
@@ -79,8 +80,8 @@ fn write_list(
 )
     requires { ⌜ Laying s m (now work) (now kept) (now area) n × (n ≤ card s .capacity) × (length (now area) ≡ record-size (card s) * n)
         × (need ≡ side-need-of (card s) (records (card s .width) n (now area))) × (need ≤ card s .side-places)
-        × Sized (card s) (record { ledger = now ledger; true-counts = now «true_counts»; clipped-counts = now clipped; buckets = now buckets; side-store = now side }) ⌝ }
-    ensures { λ _. ⌜ _≡_ {A = Areas} (record { ledger = now (ledger .exit); true-counts = now («true_counts» .exit); clipped-counts = now (clipped .exit); buckets = now (buckets .exit); side-store = now (side .exit) })
+        × Sized (card s) (areas-now ledger «true_counts» clipped buckets side) ⌝ }
+    ensures { λ _. ⌜ _≡_ {A = Areas} (exit-areas ledger «true_counts» clipped buckets side)
         (layout (card s) (records (card s .width) n (now (area .entry)))) ⌝ }
 {
     write_ledger(s, ledger, area, n);
@@ -112,10 +113,10 @@ fn load_lent(
     work: &mut [u16],
 ) -> Loaded
     requires { ⌜ Ready s (now t) × (head-wrong (now file) ≡ false) × (paper s ≡ file-settings (now file)) × (length (now work) ≡ work-length (card s))
-        × Sized (card s) (record { ledger = now ledger; true-counts = now «true_counts»; clipped-counts = now clipped; buckets = now buckets; side-store = now side }) ⌝ }
-    ensures { λ r. ⌜ loaded-of r (record { ledger = now (ledger .exit); true-counts = now («true_counts» .exit); clipped-counts = now (clipped .exit); buckets = now (buckets .exit); side-store = now (side .exit) })
+        × Sized (card s) (areas-now ledger «true_counts» clipped buckets side) ⌝ }
+    ensures { λ r. ⌜ loaded-of r (exit-areas ledger «true_counts» clipped buckets side)
         ≡ plain.load (now (file .entry)) (length (now (work .entry)))
-        (record { ledger = now (ledger .entry); true-counts = now («true_counts» .entry); clipped-counts = now (clipped .entry); buckets = now (buckets .entry); side-store = now (side .entry) }) ⌝ }
+        (entry-areas ledger «true_counts» clipped buckets side) ⌝ }
 {
     let number = refusal_by_file(s, file);
     if number != 0 {
@@ -159,9 +160,9 @@ pub fn load(
     side: &mut [u8],
     work: &mut [u16],
 ) -> Loaded
-    ensures { λ r. ⌜ loaded-of r (record { ledger = now (ledger .exit); true-counts = now («true_counts» .exit); clipped-counts = now (clipped .exit); buckets = now (buckets .exit); side-store = now (side .exit) })
+    ensures { λ r. ⌜ loaded-of r (exit-areas ledger «true_counts» clipped buckets side)
         ≡ plain.load (now (file .entry)) (length (now (work .entry)))
-        (record { ledger = now (ledger .entry); true-counts = now («true_counts» .entry); clipped-counts = now (clipped .entry); buckets = now (buckets .entry); side-store = now (side .entry) }) ⌝ }
+        (entry-areas ledger «true_counts» clipped buckets side) ⌝ }
 {
     if head_wrong(file) {
         return not_loaded(12);

@@ -7,6 +7,7 @@ pub mod Layout
 pub mod Lookup
 pub mod Ledger
 pub mod Calls
+pub mod CallAreas
 pub mod Snapshot
 pub mod Packet
 pub mod Flowrun

@@ -5,14 +5,11 @@ use mathlib.Core.List.{List}
 use Prim.Native.Nat.{ℕ, _+_, _-_, _*_, _≤_, _<_}
 use lib.Dec.{leb}
 use lib.ListN.{length, take}
-use denote.Ref.{RefT, now}
-use denote.Triple.Both.{Both}
 use Rattle.theory.specs.Settings as plain
 use Rattle.theory.specs.Settings.{Card, allowed, ledger-length}
 use Rattle.theory.specs.Records.{class-width, Record, record-bytes}
 use Rattle.theory.specs.Layout.{Areas}
-use Rattle.theory.specs.Lookup.{bare}
-use Rattle.theory.specs.Ledger.{Call, add, change, remove, refusal, next, side-need-of, Step, answered}
+use Rattle.theory.specs.Ledger.{Call, add, change, remove, refusal, next, side-need-of}
 use Rattle.theory.specs.Calls.{ledger-records, ledger-invalid}
 use Rattle.theory.proofs.CallLaws.{Sized}
 use Rattle.settings.specs.declared.Settings.{Settings}
@@ -23,24 +20,6 @@ use Rattle.placing.specs.Worked.{Placed}
 use Rattle.update.specs.declared.Edit.{Edit}
 use Rattle.update.specs.declared.Edit.the-variants.{Insert, Replace, Remove}
 use Rattle.update.specs.declared.Plan.{Plan}
-
--- ---- the five areas that a call is lent: where it requires, and before and after it
-abbrev Lent : Type 0
-Lent = RefT (List ℕ)
-
-abbrev pub lent : Lent → Lent → Lent → Lent → Lent → Areas
-lent ledger true-counts clipped buckets side =
-    record { ledger = now ledger; true-counts = now true-counts; clipped-counts = now clipped; buckets = now buckets; side-store = now side }
-
-abbrev pub before : Both Lent Lent → Both Lent Lent → Both Lent Lent → Both Lent Lent → Both Lent Lent → Areas
-before ledger true-counts clipped buckets side = lent (ledger .entry) (true-counts .entry) (clipped .entry) (buckets .entry) (side .entry)
-
-abbrev pub after : Both Lent Lent → Both Lent Lent → Both Lent Lent → Both Lent Lent → Both Lent Lent → Areas
-after ledger true-counts clipped buckets side = lent (ledger .exit) (true-counts .exit) (clipped .exit) (buckets .exit) (side .exit)
-
--- a call that answers a number alone, and leaves the areas so
-abbrev pub replied : ℕ → Areas → Step Areas
-replied number areas = record { reply = answered (bare number); state = areas }
 
 -- ---- the call that an edit is
 abbrev pub call-of : Edit → List ℕ → ℕ → Call

@@ -19,9 +19,10 @@ ghost use Rattle.settings.specs.Checked.{paper, given-of, card};
 ghost use Rattle.theory.specs.Layout.{counted-places, layout};
 ghost use Rattle.ledger.specs.Edits.{ValidLedger};
 ghost use Rattle.theory.proofs.ByteLaws.{Fit};
+ghost use Rattle.theory.specs.CallAreas.{areas-now, entry-areas, exit-areas, replied};
 ghost use Rattle.placing.specs.Ready.{Ready};
 ghost use Rattle.placing.specs.Worked.{Placed};
-ghost use Rattle.update.specs.Editing.{lent, before, after, replied, call-of, edited, brings, leaves-out, by-list, Fits, judged-number, list-after};
+ghost use Rattle.update.specs.Editing.{call-of, edited, brings, leaves-out, by-list, Fits, judged-number, list-after};
 ghost use Rattle.update.specs.Editing.{PlacingNew, Judging, Planned, Making};
 
 // Add, change or remove.
@@ -198,8 +199,8 @@ fn write_new(
     class: u32,
     record: &[u8],
 )
-    requires { ⌜ Making s m edit (now key) class (now «record») (lent ledger «true_counts» clipped buckets side) (now work) (now kept) plan ⌝ }
-    ensures { λ _. ⌜ after ledger «true_counts» clipped buckets side
+    requires { ⌜ Making s m edit (now key) class (now «record») (areas-now ledger «true_counts» clipped buckets side) (now work) (now kept) plan ⌝ }
+    ensures { λ _. ⌜ exit-areas ledger «true_counts» clipped buckets side
         ≡ layout (card s) (list-after s edit (now (key .entry)) class (now (ledger .entry))) ⌝ }
 {
     let at = plan.at;
@@ -253,10 +254,10 @@ fn update_lent(
     class: u32,
 ) -> u32
     requires { ⌜ Ready s (now t) × (length (now work) ≡ work-length (card s))
-        × Sized (card s) (lent ledger «true_counts» clipped buckets side) ⌝ }
-    ensures { λ r. ⌜ replied r (after ledger «true_counts» clipped buckets side)
+        × Sized (card s) (areas-now ledger «true_counts» clipped buckets side) ⌝ }
+    ensures { λ r. ⌜ replied r (exit-areas ledger «true_counts» clipped buckets side)
         ≡ calls.update (card s) (now (key .entry)) (call-of edit (now (key .entry)) class)
-        (before ledger «true_counts» clipped buckets side) ⌝ }
+        (entry-areas ledger «true_counts» clipped buckets side) ⌝ }
 {
     if key.len() != s.width() {
         return 3;
@@ -313,10 +314,10 @@ pub fn update(
     key: &[u8],
     class: u32,
 ) -> u32
-    ensures { λ r. ⌜ replied r (after ledger «true_counts» clipped buckets side)
+    ensures { λ r. ⌜ replied r (exit-areas ledger «true_counts» clipped buckets side)
         ≡ perform (given-of given) (length (now (work .entry)))
         (call-of edit (now (key .entry)) class)
-        (before ledger «true_counts» clipped buckets side) ⌝ }
+        (entry-areas ledger «true_counts» clipped buckets side) ⌝ }
 {
     let checked = Settings::new(given);
     let Checked::Allowed(s) = checked else {
@@ -357,9 +358,9 @@ pub fn clear(
     buckets: &mut [u8],
     side: &mut [u8],
 ) -> u32
-    ensures { λ r. ⌜ replied r (after ledger «true_counts» clipped buckets side)
+    ensures { λ r. ⌜ replied r (exit-areas ledger «true_counts» clipped buckets side)
         ≡ perform (given-of given) 0 ledgers.clear
-        (before ledger «true_counts» clipped buckets side) ⌝ }
+        (entry-areas ledger «true_counts» clipped buckets side) ⌝ }
 {
     let checked = Settings::new(given);
     let Checked::Allowed(s) = checked else {

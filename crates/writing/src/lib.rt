@@ -12,6 +12,7 @@ ghost use Rattle.theory.specs.Settings.{allowed, ledger-length, true-length, cl
 ghost use Rattle.theory.specs.Placing.{true-count};
 ghost use Rattle.theory.specs.Layout.{counter-bytes, buckets-bytes, side-bytes, layout};
 ghost use Rattle.theory.specs.Ledger.{side-need-of};
+ghost use Rattle.theory.specs.CallAreas.{exit-areas};
 ghost use Rattle.settings.specs.Checked.{paper, card};
 ghost use Rattle.writing.specs.Laying.{Laying};
 
@@ -59,7 +60,7 @@ pub fn clear_areas(
 )
     requires { ⌜ (allowed (paper s) ≡ true) × (length (now ledger) ≡ ledger-length (card s)) × (length (now «true_counts») ≡ true-length (card s))
         × (length (now clipped) ≡ clipped-length (card s)) × (length (now buckets) ≡ buckets-length (card s)) × (length (now side) ≡ side-length (card s)) ⌝ }
-    ensures { λ _. ⌜ record { ledger = now (ledger .exit); true-counts = now («true_counts» .exit); clipped-counts = now (clipped .exit); buckets = now (buckets .exit); side-store = now (side .exit) } ≡ layout (card s) [] ⌝ }
+    ensures { λ _. ⌜ exit-areas ledger «true_counts» clipped buckets side ≡ layout (card s) [] ⌝ }
 {
     zero_fill(ledger);
     placing::zero_counts(true_counts);

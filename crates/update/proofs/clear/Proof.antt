@@ -6,6 +6,7 @@ use Rattle.settings.proofs.Laws.{allowed-arm, refused-arm, allowed-settings}
 use Rattle.settings.proofs.LengthLaws.{sized-by}
 use Rattle.update.proofs.CallLaws.{clears-1, clears-2, clears}
 use borrow.Author.Needs.{needs}
+use Rattle.theory.specs.CallAreas.{areas-now}
 use Rattle.update.proofs.clear.Statement.{statement}
 use Rattle.update.proofs.clear.Tie as tie
 
@@ -13,7 +14,7 @@ returns : tie.Need-returns
 returns c =
     let start = c .before .before .before .before .before .before .before .before in
     let new = c .before .before .new in
-    clears-1 (given-of (start .args .given)) (record { ledger = start .args .ledger .now; true-counts = start .args .true-counts .now; clipped-counts = start .args .clipped .now; buckets = start .args .buckets .now; side-store = start .args .side .now }) (refused-arm (given-of (start .args .given)) (new .result) (new .ensures) (c .enum-told .given .1))
+    clears-1 (given-of (start .args .given)) (areas-now (start .args .ledger) (start .args .true-counts) (start .args .clipped) (start .args .buckets) (start .args .side)) (refused-arm (given-of (start .args .given)) (new .result) (new .ensures) (c .enum-told .given .1))
 
 lengths-right-requires : tie.Need-lengths-right-requires
 lengths-right-requires c κs =
@@ -27,7 +28,7 @@ returns-2 c =
     let start = c .before .before .before .before .before .before .before .before .before .before .before in
     let new = c .before .before .before .before .before .new in
     let checked = c .before .before .before .checked in
-    let arm = allowed-arm (given-of (start .args .given)) (new .result) (new .ensures) (checked .given .0 .0) (checked .given .1) in clears-2 (given-of (start .args .given)) (record { ledger = start .args .ledger .now; true-counts = start .args .true-counts .now; clipped-counts = start .args .clipped .now; buckets = start .args .buckets .now; side-store = start .args .side .now }) (arm .0) (checked .given .0 .0) (arm .1) (sym (c .before .lengths-right .ensures) ∙ not-true _ (c .if1 .taken))
+    let arm = allowed-arm (given-of (start .args .given)) (new .result) (new .ensures) (checked .given .0 .0) (checked .given .1) in clears-2 (given-of (start .args .given)) (areas-now (start .args .ledger) (start .args .true-counts) (start .args .clipped) (start .args .buckets) (start .args .side)) (arm .0) (checked .given .0 .0) (arm .1) (sym (c .before .lengths-right .ensures) ∙ not-true _ (c .if1 .taken))
 
 clear-areas-requires : tie.Need-clear-areas-requires
 clear-areas-requires c κs =
@@ -36,7 +37,7 @@ clear-areas-requires c κs =
     let checked = c .before .before .before .before .before .before .before .before .checked in
     let lengths-right = c .before .before .before .before .before .before .lengths-right in
     let if1 = c .before .before .before .before .before .if1 in
-    let z = sized-by (card (checked .given .0 .0)) (record { ledger = start .args .ledger .now; true-counts = start .args .true-counts .now; clipped-counts = start .args .clipped .now; buckets = start .args .buckets .now; side-store = start .args .side .now }) (sym (lengths-right .ensures) ∙ not-false _ (if1 .left)) in
+    let z = sized-by (card (checked .given .0 .0)) (areas-now (start .args .ledger) (start .args .true-counts) (start .args .clipped) (start .args .buckets) (start .args .side)) (sym (lengths-right .ensures) ∙ not-false _ (if1 .left)) in
     (allowed-settings (given-of (start .args .given)) (new .result) (new .ensures) (checked .given .0 .0) (checked .given .1), z .ledger, z .true-counts, z .clipped-counts, z .buckets, z .side-store)
 
 returns-3 : tie.Need-returns-3
@@ -47,7 +48,7 @@ returns-3 c =
     let lengths-right = c .before .before .before .before .before .before .before .before .before .before .before .before .before .before .before .before .before .lengths-right in
     let if1 = c .before .before .before .before .before .before .before .before .before .before .before .before .before .before .before .before .if1 in
     let clear-areas = c .before .before .before .before .before .before .before .before .before .before .clear-areas in
-    let arm = allowed-arm (given-of (start .args .given)) (new .result) (new .ensures) (checked .given .0 .0) (checked .given .1) in clears (given-of (start .args .given)) (record { ledger = start .args .ledger .now; true-counts = start .args .true-counts .now; clipped-counts = start .args .clipped .now; buckets = start .args .buckets .now; side-store = start .args .side .now }) (arm .0) (checked .given .0 .0) (arm .1) (sym (lengths-right .ensures) ∙ not-false _ (if1 .left)) _ (clear-areas .ensures)
+    let arm = allowed-arm (given-of (start .args .given)) (new .result) (new .ensures) (checked .given .0 .0) (checked .given .1) in clears (given-of (start .args .given)) (areas-now (start .args .ledger) (start .args .true-counts) (start .args .clipped) (start .args .buckets) (start .args .side)) (arm .0) (checked .given .0 .0) (arm .1) (sym (lengths-right .ensures) ∙ not-false _ (if1 .left)) _ (clear-areas .ensures)
 
 pub clear-spec : {M : Type 1} → statement M
 clear-spec =

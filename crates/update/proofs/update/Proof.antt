@@ -6,6 +6,7 @@ use borrow.Author.Tests.{eqb-true, not-true, not-false}
 use lib.Dec.{eqb}
 use lib.ListN.{length}
 use Rattle.theory.proofs.ListLaws.{and-left, and-right}
+use Rattle.theory.specs.CallAreas.{areas-now}
 use Rattle.settings.specs.Checked.{given-of, card}
 use Rattle.settings.proofs.Laws.{allowed-arm, refused-arm, allowed-settings}
 use Rattle.settings.proofs.LengthLaws.{sized-by}
@@ -18,7 +19,7 @@ returns : tie.Need-returns
 returns c =
     let start = c .before .before .before .before .before .before .before .before .before .before in
     let new = c .before .before .new in
-    performs-1 (given-of (start .args .given)) (start .args .edit) (start .args .key .now) (start .args .class) (length (start .args .work .now)) (record { ledger = start .args .ledger .now; true-counts = start .args .true-counts .now; clipped-counts = start .args .clipped .now; buckets = start .args .buckets .now; side-store = start .args .side .now }) (refused-arm (given-of (start .args .given)) (new .result) (new .ensures) (c .enum-told .given .1))
+    performs-1 (given-of (start .args .given)) (start .args .edit) (start .args .key .now) (start .args .class) (length (start .args .work .now)) (areas-now (start .args .ledger) (start .args .true-counts) (start .args .clipped) (start .args .buckets) (start .args .side)) (refused-arm (given-of (start .args .given)) (new .result) (new .ensures) (c .enum-told .given .1))
 
 work-length-requires : tie.Need-work-length-requires
 work-length-requires c κs =
@@ -40,7 +41,7 @@ returns-2 c =
     let new = c .before .before .before .before .before .before .new in
     let checked = c .before .before .before .before .checked in
     let work-length = c .before .before .work-length in
-    let arm = allowed-arm (given-of (start .args .given)) (new .result) (new .ensures) (checked .given .0 .0) (checked .given .1) in performs-2 (given-of (start .args .given)) (start .args .edit) (start .args .key .now) (start .args .class) (length (start .args .work .now)) (record { ledger = start .args .ledger .now; true-counts = start .args .true-counts .now; clipped-counts = start .args .clipped .now; buckets = start .args .buckets .now; side-store = start .args .side .now }) (arm .0) (checked .given .0 .0) (arm .1) (work-length .result) (work-length .ensures) (ap (λ (b : Bool). (eqb (length (start .args .work .now)) (work-length .result)) && b) (sym (c .before .lengths-right .ensures)) ∙ not-true _ (c .if1 .taken))
+    let arm = allowed-arm (given-of (start .args .given)) (new .result) (new .ensures) (checked .given .0 .0) (checked .given .1) in performs-2 (given-of (start .args .given)) (start .args .edit) (start .args .key .now) (start .args .class) (length (start .args .work .now)) (areas-now (start .args .ledger) (start .args .true-counts) (start .args .clipped) (start .args .buckets) (start .args .side)) (arm .0) (checked .given .0 .0) (arm .1) (work-length .result) (work-length .ensures) (ap (λ (b : Bool). (eqb (length (start .args .work .now)) (work-length .result)) && b) (sym (c .before .lengths-right .ensures)) ∙ not-true _ (c .if1 .taken))
 
 update-lent-requires : tie.Need-update-lent-requires
 update-lent-requires c κs =
@@ -54,7 +55,7 @@ update-lent-requires c κs =
     let v = (ap (λ (b : Bool). (eqb (length (start .args .work .now)) (work-length .result)) && b) (sym (lengths-right .ensures)) ∙ not-false _ (if1 .left)) in (
       ready (checked .given .0 .0) (allowed-settings (given-of (start .args .given)) (new .result) (new .ensures) (checked .given .0 .0) (checked .given .1)) (table .result) (table .ensures) (search needs),
       eqb-true _ _ (and-left (eqb (length (start .args .work .now)) (work-length .result)) _ v) ∙ work-length .ensures,
-      sized-by (card (checked .given .0 .0)) (record { ledger = start .args .ledger .now; true-counts = start .args .true-counts .now; clipped-counts = start .args .clipped .now; buckets = start .args .buckets .now; side-store = start .args .side .now }) (and-right (eqb (length (start .args .work .now)) (work-length .result)) _ v),
+      sized-by (card (checked .given .0 .0)) (areas-now (start .args .ledger) (start .args .true-counts) (start .args .clipped) (start .args .buckets) (start .args .side)) (and-right (eqb (length (start .args .work .now)) (work-length .result)) _ v),
     )
 
 returns-3 : tie.Need-returns-3
@@ -66,7 +67,7 @@ returns-3 c =
     let lengths-right = c .before .before .before .before .before .before .before .before .before .before .before .before .before .before .before .before .before .before .before .before .before .before .lengths-right in
     let if1 = c .before .before .before .before .before .before .before .before .before .before .before .before .before .before .before .before .before .before .before .before .before .if1 in
     let update-lent = c .before .before .before .before .before .before .before .before .before .before .before .before .update-lent in
-    let arm = allowed-arm (given-of (start .args .given)) (new .result) (new .ensures) (checked .given .0 .0) (checked .given .1) in performs-on (given-of (start .args .given)) (start .args .edit) (start .args .key .now) (start .args .class) (length (start .args .work .now)) (record { ledger = start .args .ledger .now; true-counts = start .args .true-counts .now; clipped-counts = start .args .clipped .now; buckets = start .args .buckets .now; side-store = start .args .side .now }) (arm .0) (checked .given .0 .0) (arm .1) (work-length .result) (work-length .ensures) (ap (λ (b : Bool). (eqb (length (start .args .work .now)) (work-length .result)) && b) (sym (lengths-right .ensures)) ∙ not-false _ (if1 .left)) _ (update-lent .ensures)
+    let arm = allowed-arm (given-of (start .args .given)) (new .result) (new .ensures) (checked .given .0 .0) (checked .given .1) in performs-on (given-of (start .args .given)) (start .args .edit) (start .args .key .now) (start .args .class) (length (start .args .work .now)) (areas-now (start .args .ledger) (start .args .true-counts) (start .args .clipped) (start .args .buckets) (start .args .side)) (arm .0) (checked .given .0 .0) (arm .1) (work-length .result) (work-length .ensures) (ap (λ (b : Bool). (eqb (length (start .args .work .now)) (work-length .result)) && b) (sym (lengths-right .ensures)) ∙ not-false _ (if1 .left)) _ (update-lent .ensures)
 
 pub update-spec : {M : Type 1} → statement M
 update-spec =

@@ -6,6 +6,7 @@ use lib.Dec.{eqb}
 use lib.ListN.{length}
 use Rattle.theory.specs.Snapshot.{file-settings}
 use Rattle.theory.proofs.ListLaws.{and-left, and-right}
+use Rattle.theory.specs.CallAreas.{areas-now}
 use Rattle.settings.specs.Checked.{card}
 use Rattle.settings.proofs.Laws.{allowed-arm, refused-arm, allowed-settings}
 use Rattle.settings.proofs.LengthLaws.{sized-by}
@@ -20,7 +21,7 @@ returns : tie.Need-returns
 returns c =
     let start = c .before .before .before .before .before .before .before .before .before .before in
     let head-wrong = c .before .before .head-wrong in
-    (c .not-loaded .ensures (record { ledger = start .args .ledger .now; true-counts = start .args .true-counts .now; clipped-counts = start .args .clipped .now; buckets = start .args .buckets .now; side-store = start .args .side .now })) ∙ loads-12 (start .args .file .now) (length (start .args .work .now)) (record { ledger = start .args .ledger .now; true-counts = start .args .true-counts .now; clipped-counts = start .args .clipped .now; buckets = start .args .buckets .now; side-store = start .args .side .now }) (sym (head-wrong .ensures) ∙ (c .before .if1 .taken))
+    (c .not-loaded .ensures (areas-now (start .args .ledger) (start .args .true-counts) (start .args .clipped) (start .args .buckets) (start .args .side))) ∙ loads-12 (start .args .file .now) (length (start .args .work .now)) (areas-now (start .args .ledger) (start .args .true-counts) (start .args .clipped) (start .args .buckets) (start .args .side)) (sym (head-wrong .ensures) ∙ (c .before .if1 .taken))
 
 read-settings-requires : tie.Need-read-settings-requires
 read-settings-requires c κs = head-long (c .before .before .before .before .before .before .before .before .before .args .file .now) (sym (c .before .head-wrong .ensures) ∙ (c .if1 .left))
@@ -31,7 +32,7 @@ returns-2 c =
     let head-wrong = c .before .before .before .before .before .head-wrong in
     let if1 = c .before .before .before .before .if1 in
     let read-settings = c .before .before .before .read-settings in
-    (c .not-loaded2 .ensures (record { ledger = start .args .ledger .now; true-counts = start .args .true-counts .now; clipped-counts = start .args .clipped .now; buckets = start .args .buckets .now; side-store = start .args .side .now })) ∙ loads-1 (start .args .file .now) (length (start .args .work .now)) (record { ledger = start .args .ledger .now; true-counts = start .args .true-counts .now; clipped-counts = start .args .clipped .now; buckets = start .args .buckets .now; side-store = start .args .side .now }) (sym (head-wrong .ensures) ∙ (if1 .left)) (refused-arm (file-settings (start .args .file .now)) (read-settings .result) (read-settings .ensures) (c .before .enum-told .given .1))
+    (c .not-loaded2 .ensures (areas-now (start .args .ledger) (start .args .true-counts) (start .args .clipped) (start .args .buckets) (start .args .side))) ∙ loads-1 (start .args .file .now) (length (start .args .work .now)) (areas-now (start .args .ledger) (start .args .true-counts) (start .args .clipped) (start .args .buckets) (start .args .side)) (sym (head-wrong .ensures) ∙ (if1 .left)) (refused-arm (file-settings (start .args .file .now)) (read-settings .result) (read-settings .ensures) (c .before .enum-told .given .1))
 
 work-length-requires : tie.Need-work-length-requires
 work-length-requires c κs =
@@ -56,7 +57,7 @@ returns-3 c =
     let checked = c .before .before .before .before .before .checked in
     let work-length = c .before .before .before .work-length in
     let lengths-right = c .before .before .lengths-right in
-    let arm = allowed-arm (file-settings (start .args .file .now)) (read-settings .result) (read-settings .ensures) (checked .given .0 .0) (checked .given .1) in (c .not-loaded3 .ensures (record { ledger = start .args .ledger .now; true-counts = start .args .true-counts .now; clipped-counts = start .args .clipped .now; buckets = start .args .buckets .now; side-store = start .args .side .now })) ∙ loads-2 (start .args .file .now) (length (start .args .work .now)) (record { ledger = start .args .ledger .now; true-counts = start .args .true-counts .now; clipped-counts = start .args .clipped .now; buckets = start .args .buckets .now; side-store = start .args .side .now }) (sym (head-wrong .ensures) ∙ (if1 .left)) (arm .0) (checked .given .0 .0) (arm .1) (work-length .result) (work-length .ensures) (ap (λ (b : Bool). (eqb (length (start .args .work .now)) (work-length .result)) && b) (sym (lengths-right .ensures)) ∙ not-true _ (c .before .if2 .taken))
+    let arm = allowed-arm (file-settings (start .args .file .now)) (read-settings .result) (read-settings .ensures) (checked .given .0 .0) (checked .given .1) in (c .not-loaded3 .ensures (areas-now (start .args .ledger) (start .args .true-counts) (start .args .clipped) (start .args .buckets) (start .args .side))) ∙ loads-2 (start .args .file .now) (length (start .args .work .now)) (areas-now (start .args .ledger) (start .args .true-counts) (start .args .clipped) (start .args .buckets) (start .args .side)) (sym (head-wrong .ensures) ∙ (if1 .left)) (arm .0) (checked .given .0 .0) (arm .1) (work-length .result) (work-length .ensures) (ap (λ (b : Bool). (eqb (length (start .args .work .now)) (work-length .result)) && b) (sym (lengths-right .ensures)) ∙ not-true _ (c .before .if2 .taken))
 
 load-lent-requires : tie.Need-load-lent-requires
 load-lent-requires c κs =
@@ -75,7 +76,7 @@ load-lent-requires c κs =
       (sym (head-wrong .ensures) ∙ (if1 .left)),
       arm .1,
       eqb-true _ _ (and-left (eqb (length (start .args .work .now)) (work-length .result)) _ v) ∙ work-length .ensures,
-      sized-by (card (checked .given .0 .0)) (record { ledger = start .args .ledger .now; true-counts = start .args .true-counts .now; clipped-counts = start .args .clipped .now; buckets = start .args .buckets .now; side-store = start .args .side .now }) (and-right (eqb (length (start .args .work .now)) (work-length .result)) _ v),
+      sized-by (card (checked .given .0 .0)) (areas-now (start .args .ledger) (start .args .true-counts) (start .args .clipped) (start .args .buckets) (start .args .side)) (and-right (eqb (length (start .args .work .now)) (work-length .result)) _ v),
     )
 
 pub load-spec : {M : Type 1} → statement M
