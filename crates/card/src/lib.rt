@@ -9,7 +9,7 @@ ghost use mathlib.Core.Bool.{true};
 ghost use mathlib.Core.List.{_∷_};
 ghost use Prim.Native.Nat.{_^_, _≤_};
 ghost use lib.ListN.{length};
-ghost use Rattle.theory.specs.Settings.{allowed};
+ghost use Rattle.theory.specs.Settings.{settings-of, allowed};
 ghost use Rattle.settings.specs.Checked.{paper, card};
 ghost use Rattle.card.specs.Doors.{Filled, settings-check-of, lengths-of, area-lengths-of, hash-table-of, hash-of, hash-lent-of};
 ghost use Rattle.card.specs.Doors.{first-hashes, Numbered, key-buckets-of};
@@ -29,7 +29,7 @@ pub extern "C" fn flow_settings_check(
     capacity: u64,
     side_places: u64,
 ) -> u32
-    ensures { λ r. ⌜ r ≡ settings-check-of (record { p = p; k = k; room = room; top = top; capacity = capacity; side-places = «side_places» }) ⌝ }
+    ensures { λ r. ⌜ r ≡ settings-check-of (settings-of p k room top capacity «side_places») ⌝ }
 {
     let given = Given {
         p,
@@ -58,7 +58,7 @@ pub extern "C" fn flow_area_lengths(
     lengths: &mut [u64],
 ) -> u32
     ensures { λ r. ⌜ _≡_ {A = Filled} (record { number = r; area = now (lengths .exit) })
-        (area-lengths-of (record { p = p; k = k; room = room; top = top; capacity = capacity; side-places = «side_places» }) (now (lengths .entry))) ⌝ }
+        (area-lengths-of (settings-of p k room top capacity «side_places») (now (lengths .entry))) ⌝ }
 {
     let given = Given {
         p,
@@ -151,7 +151,7 @@ pub extern "C" fn flow_key_buckets(
     numbers: &mut [u16],
 ) -> u32
     ensures { λ r. ⌜ _≡_ {A = Numbered} (record { number = r; hashes = now (hashes .exit); numbers = now (numbers .exit) })
-        (key-buckets-of (record { p = p; k = k; room = room; top = top; capacity = capacity; side-places = «side_places» }) (now (key .entry)) (now (hashes .entry)) (now (numbers .entry))) ⌝ }
+        (key-buckets-of (settings-of p k room top capacity «side_places») (now (key .entry)) (now (hashes .entry)) (now (numbers .entry))) ⌝ }
 {
     let given = Given {
         p,

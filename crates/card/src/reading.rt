@@ -8,6 +8,7 @@ ghost use mathlib.Core.Path.{_≡_};
 ghost use mathlib.Core.List.{[], _∷_};
 ghost use lib.ListN.{length};
 ghost use Rattle.theory.specs.Lookup.{driver-number};
+ghost use Rattle.theory.specs.Settings.{settings-of};
 ghost use Rattle.lookup.specs.Answers.{search-of, search-with, answer-of};
 ghost use Rattle.lookup.specs.Bursts.{Burst, burst-of};
 ghost use Rattle.lookup.specs.Locating.{lies-at};
@@ -28,7 +29,7 @@ pub extern "C" fn flow_search(
     side: &[u8],
     key: &[u8],
 ) -> u64
-    ensures { λ r. ⌜ r ≡ search-of (record { p = p; k = k; room = room; top = top; capacity = capacity; side-places = «side_places» }) (now (clipped .entry)) (now (buckets .entry)) (now (side .entry)) (now (key .entry)) ⌝ }
+    ensures { λ r. ⌜ r ≡ search-of (settings-of p k room top capacity «side_places») (now (clipped .entry)) (now (buckets .entry)) (now (side .entry)) (now (key .entry)) ⌝ }
 {
     let given = Given {
         p,
@@ -57,7 +58,7 @@ pub extern "C" fn flow_search_lent(
     key: &[u8],
 ) -> u64
     ensures { λ r. ⌜ r ≡ driver-number (search-with (now (table .entry))
-        (record { p = p; k = k; room = room; top = top; capacity = capacity; side-places = «side_places» })
+        (settings-of p k room top capacity «side_places»)
         (now (clipped .entry)) (now (buckets .entry)) (now (side .entry)) (now (key .entry))) ⌝ }
 {
     let given = Given {
@@ -88,7 +89,7 @@ pub extern "C" fn flow_search_burst(
     answers: &mut [u64],
 ) -> u32
     ensures { λ r. ⌜ _≡_ {A = Burst} (record { number = r; answers = now (answers .exit) })
-        (burst-of (now (table .entry)) (record { p = p; k = k; room = room; top = top; capacity = capacity; side-places = «side_places» })
+        (burst-of (now (table .entry)) (settings-of p k room top capacity «side_places»)
         (now (clipped .entry)) (now (buckets .entry)) (now (side .entry)) (now (keys .entry)) (now (answers .entry))) ⌝ }
 {
     let given = Given {
@@ -140,7 +141,7 @@ pub extern "C" fn flow_search_place(
     place: &mut [u64],
 ) -> u64
     ensures { λ r. ⌜ _≡_ {A = Filled} (record { number = r; area = now (place .exit) })
-        (search-place-of (record { p = p; k = k; room = room; top = top; capacity = capacity; side-places = «side_places» })
+        (search-place-of (settings-of p k room top capacity «side_places»)
         (now (clipped .entry)) (now (buckets .entry)) (now (side .entry)) (now (key .entry)) (now (place .entry))) ⌝ }
 {
     let given = Given {
@@ -182,7 +183,7 @@ pub extern "C" fn flow_tally(
     totals: &mut [u32],
 ) -> u32
     ensures { λ r. ⌜ _≡_ {A = Filled} (record { number = r; area = now (totals .exit) })
-        (tally-of (record { p = p; k = k; room = room; top = top; capacity = capacity; side-places = «side_places» }) (now (ledger .entry)) (now (clipped .entry)) (now (buckets .entry)) (now (side .entry)) (now (totals .entry))) ⌝ }
+        (tally-of (settings-of p k room top capacity «side_places») (now (ledger .entry)) (now (clipped .entry)) (now (buckets .entry)) (now (side .entry)) (now (totals .entry))) ⌝ }
 {
     let given = Given {
         p,

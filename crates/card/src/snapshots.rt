@@ -4,6 +4,7 @@ ghost use mathlib.Core.Path.{_≡_};
 ghost use lib.ListN.{length};
 ghost use Rattle.theory.specs.Snapshot.{settings-count, settings-list, Saved, save};
 ghost use Rattle.theory.specs.CallAreas.{entry-areas, exit-areas};
+ghost use Rattle.theory.specs.Settings.{settings-of};
 ghost use Rattle.settings.specs.Checked.{given-of};
 ghost use Rattle.card.specs.Snapshots.{LoadedInto, settings-area-refusal, load-of};
 
@@ -21,7 +22,7 @@ pub extern "C" fn flow_save(
     target: &mut [u8],
 ) -> u32
     ensures { λ r. ⌜ _≡_ {A = Saved} (record { number = r; target = now (target .exit) })
-        (save (record { p = p; k = k; room = room; top = top; capacity = capacity; side-places = «side_places» }) (now (ledger .entry)) (length (now (work .entry))) (now (target .entry))) ⌝ }
+        (save (settings-of p k room top capacity «side_places») (now (ledger .entry)) (length (now (work .entry))) (now (target .entry))) ⌝ }
 {
     let given = Given {
         p,

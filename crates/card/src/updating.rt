@@ -3,12 +3,10 @@ use settings::Given;
 use update::Edit;
 ghost use mathlib.Core.Path.{_≡_};
 ghost use lib.ListN.{length};
-ghost use Rattle.theory.specs.Layout.{Areas};
-ghost use Rattle.theory.specs.Lookup.{bare};
-ghost use Rattle.theory.specs.Ledger.{Step, answered};
 ghost use Rattle.theory.specs.Ledger as calls;
 ghost use Rattle.theory.specs.Calls.{perform};
-ghost use Rattle.theory.specs.CallAreas.{entry-areas, exit-areas};
+ghost use Rattle.theory.specs.CallAreas.{entry-areas, exit-areas, replied};
+ghost use Rattle.theory.specs.Settings.{settings-of};
 
 // "Clear lays out the empty list, on areas with any contents."
 #[no_mangle]
@@ -25,9 +23,9 @@ pub extern "C" fn flow_clear(
     buckets: &mut [u8],
     side: &mut [u8],
 ) -> u32
-    ensures { λ r. ⌜ _≡_ {A = Step Areas} (record { reply = answered (bare r); state = exit-areas ledger «true_counts» clipped buckets side })
-        (perform (record { p = p; k = k; room = room; top = top; capacity = capacity; side-places = «side_places» }) 0 calls.clear
-        (entry-areas ledger «true_counts» clipped buckets side)) ⌝ }
+    ensures { λ r. ⌜ replied r (exit-areas ledger «true_counts» clipped buckets side)
+        ≡ perform (settings-of p k room top capacity «side_places») 0 calls.clear
+        (entry-areas ledger «true_counts» clipped buckets side) ⌝ }
 {
     let given = Given {
         p,
@@ -58,9 +56,9 @@ pub extern "C" fn flow_add(
     key: &[u8],
     class: u32,
 ) -> u32
-    ensures { λ r. ⌜ _≡_ {A = Step Areas} (record { reply = answered (bare r); state = exit-areas ledger «true_counts» clipped buckets side })
-        (perform (record { p = p; k = k; room = room; top = top; capacity = capacity; side-places = «side_places» }) (length (now (work .entry))) (calls.add (now (key .entry)) class)
-        (entry-areas ledger «true_counts» clipped buckets side)) ⌝ }
+    ensures { λ r. ⌜ replied r (exit-areas ledger «true_counts» clipped buckets side)
+        ≡ perform (settings-of p k room top capacity «side_places») (length (now (work .entry))) (calls.add (now (key .entry)) class)
+        (entry-areas ledger «true_counts» clipped buckets side) ⌝ }
 {
     let given = Given {
         p,
@@ -102,9 +100,9 @@ pub extern "C" fn flow_change(
     key: &[u8],
     class: u32,
 ) -> u32
-    ensures { λ r. ⌜ _≡_ {A = Step Areas} (record { reply = answered (bare r); state = exit-areas ledger «true_counts» clipped buckets side })
-        (perform (record { p = p; k = k; room = room; top = top; capacity = capacity; side-places = «side_places» }) (length (now (work .entry))) (calls.change (now (key .entry)) class)
-        (entry-areas ledger «true_counts» clipped buckets side)) ⌝ }
+    ensures { λ r. ⌜ replied r (exit-areas ledger «true_counts» clipped buckets side)
+        ≡ perform (settings-of p k room top capacity «side_places») (length (now (work .entry))) (calls.change (now (key .entry)) class)
+        (entry-areas ledger «true_counts» clipped buckets side) ⌝ }
 {
     let given = Given {
         p,
@@ -145,9 +143,9 @@ pub extern "C" fn flow_remove(
     work: &mut [u16],
     key: &[u8],
 ) -> u32
-    ensures { λ r. ⌜ _≡_ {A = Step Areas} (record { reply = answered (bare r); state = exit-areas ledger «true_counts» clipped buckets side })
-        (perform (record { p = p; k = k; room = room; top = top; capacity = capacity; side-places = «side_places» }) (length (now (work .entry))) (calls.remove (now (key .entry)))
-        (entry-areas ledger «true_counts» clipped buckets side)) ⌝ }
+    ensures { λ r. ⌜ replied r (exit-areas ledger «true_counts» clipped buckets side)
+        ≡ perform (settings-of p k room top capacity «side_places») (length (now (work .entry))) (calls.remove (now (key .entry)))
+        (entry-areas ledger «true_counts» clipped buckets side) ⌝ }
 {
     let given = Given {
         p,

@@ -16,6 +16,11 @@ pub record Settings : Type 0 where
   pub capacity : ℕ
   pub side-places : ℕ
 
+-- six numbers, in this order, as settings
+abbrev pub settings-of : ℕ → ℕ → ℕ → ℕ → ℕ → ℕ → Settings
+settings-of p k room top capacity side-places =
+    record { p = p; k = k; room = room; top = top; capacity = capacity; side-places = side-places }
+
 abbrev pub within : ℕ → ℕ → ℕ → Bool
 within low high n = leb low n && leb n high
 
