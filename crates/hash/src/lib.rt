@@ -3,6 +3,7 @@
 mod entries;
 mod rows;
 
+use memory::numbers::wide;
 use rows::*;
 ghost use mathlib.Core.Path.{_≡_};
 ghost use mathlib.Core.List.{[], _∷_};
@@ -60,13 +61,6 @@ pub fn h_lent(t: &[u64], key: &[u8]) -> u64
         i += 1;
     }
     h
-}
-
-// A byte as an index.
-fn wide(v: u8) -> usize
-    ensures { λ r. ⌜ (r ≡ v) × (r < 256) ⌝ }
-{
-    v as usize
 }
 
 // A row if the lowest bit is set, else 0.

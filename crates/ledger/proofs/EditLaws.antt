@@ -20,7 +20,7 @@ use Rattle.theory.proofs.ListLaws.{or-left, or-right, All, all-map, all-at, all
 use Rattle.theory.proofs.ByteLaws.{Byte, Fit, length-to-bytes, to-of-bytes, length-record, length-records, records-fit, write-records}
 use Rattle.theory.proofs.CallLaws.{valid}
 use Rattle.ledger.specs.Edits.{inserted-at, removed-at, replaced-at}
-use Rattle.ledger.proofs.PartLaws.{zeros, back, length-part}
+use Rattle.memory.proofs.SliceLaws.{zeros, back, length-part}
 use Rattle.ledger.proofs.LedgerLaws.{has-count, room-for, records-room}
 use Rattle.ledger.proofs.ShiftLaws.{open-filled, close-filled}
 

@@ -6,25 +6,17 @@ use mathlib.Core.List.{List, [], _∷_, _++_}
 use Prim.Native.Nat.{ℕ, zero, suc, _+_, _≤_, _<_}
 use native.Mathlib.Numerals.{add-one}
 use native.Mathlib.Omega.{arith}
-use mir.Syntax.{w8}
-use mir.Val.{Fits}
 use lib.Dec.{eqb, ltb}
 use borrow.Author.Tests.{eq-eqb, ne-eqb}
 use lib.ListN.{length, take, drop, getD, length-drop, drop-of-length-le, take-append-drop}
 use lib.Seq.{drop-cons, length-take-le, take-add, take-all, take-take}
-use Rattle.theory.specs.Lists.{any}
 use Rattle.theory.specs.Records.{same-key, key-below}
 use Rattle.theory.proofs.ListLaws.{by-test, All, all-drop}
 use Rattle.theory.proofs.ByteLaws.{Byte}
 use Rattle.theory.proofs.PlacingLaws.{same-key-eq}
-use Rattle.ledger.specs.Words.{low-first}
-use Rattle.ledger.proofs.PartLaws.{length-part}
-use Rattle.ledger.proofs.NumberLaws.{low-first-one}
-
--- what a slice of bytes gives of each element, of all
-pub bytes-of : (l : List ℕ) → ((i : ℕ) → Fits w8 (getD l i 0)) → All Byte l
-bytes-of [] f = tt
-bytes-of (x ∷ xs) f = (omega (arith, f 0), bytes-of xs (λ i. f (suc i)))
+use Rattle.memory.specs.Words.{low-first}
+use Rattle.memory.proofs.SliceLaws.{length-part}
+use Rattle.memory.proofs.ByteNumberLaws.{low-first-one}
 
 same-self : (l : List ℕ) → same-key l l ≡ true
 same-self [] = refl
@@ -111,10 +103,3 @@ module _ (a b : List ℕ) (i : ℕ) where
 
   pub below-end : length a ≤ i → length b ≤ i → key-below (drop i a) (drop i b) ≡ false
   below-end ha hb = rw (drop-of-length-le a ha, drop-of-length-le b hb)
-
-module _ (p : ℕ → Bool) (l : List ℕ) (i : ℕ) where
-  pub any-from : i < length l → any p (drop i l) ≡ (p (getD l i 0) || any p (drop (i + 1) l))
-  any-from h = rw (add-one, drop-cons l i 0 h)
-
-  pub any-end : length l ≤ i → any p (drop i l) ≡ false
-  any-end h = rw (drop-of-length-le l h)

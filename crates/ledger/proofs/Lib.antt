@@ -1,6 +1,4 @@
 pub mod KeyLaws
-pub mod PartLaws
-pub mod NumberLaws
 pub mod RecordLaws
 pub mod LedgerLaws
 pub mod SpotLaws

@@ -7,7 +7,7 @@ use native.Mathlib.Numerals.{add-one}
 use native.Mathlib.Omega.{arith}
 use lib.ListN.{List·getD-append, length, take, drop, getD, set, length-append, length-drop, take-append-drop}
 use lib.Seq.{getD-append-add, getD-drop, getD-take, drop-cons, drop-drop, take-at, drop-at, take-suc, length-take-le, set-at, take-add}
-use Rattle.ledger.proofs.PartLaws.{back}
+use Rattle.memory.proofs.SliceLaws.{back}
 
 module _ (a : List ℕ) (size : ℕ) where
   -- ---- up: the bytes from j to `to` have moved

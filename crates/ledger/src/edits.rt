@@ -1,8 +1,8 @@
 // A record put into a ledger area, taken out and replaced, at a place: each writes what the ledger area of the new list is.
-use super::bytes::copy;
-use super::bytes::count_at;
-use super::bytes::write_number;
-use super::bytes::zero_fill;
+use memory::numbers::count_at;
+use memory::numbers::write_number;
+use memory::parts::copy;
+use memory::parts::zero_fill;
 use settings::Settings;
 ghost use mathlib.Core.Path.{_≡_};
 ghost use mathlib.Core.List.{_++_};

@@ -1,5 +1,5 @@
 // "Keys are ordered byte by byte from the first, unsigned."
-use super::bytes::low_word_at;
+use memory::numbers::low_word_at;
 use settings::Settings;
 ghost use mathlib.Core.Path.{_≡_};
 ghost use Prim.Native.Nat.{_+_, _*_, _≤_};

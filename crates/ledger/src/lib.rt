@@ -1,7 +1,7 @@
 // The ledger area: whether it is within the rules, where a key's record stands or belongs, and the three edits.
-use bytes::all_zero;
-use bytes::count_at;
 use keys::keys_rise;
+use memory::numbers::count_at;
+use memory::parts::all_zero;
 use settings::Settings;
 ghost use mathlib.Core.Path.{_≡_};
 ghost use mathlib.Core.Bool.{true, not};
@@ -10,7 +10,6 @@ ghost use Rattle.theory.specs.Settings.{allowed, ledger-length};
 ghost use Rattle.theory.specs.Calls.{ledger-invalid};
 ghost use Rattle.settings.specs.Checked.{paper, card};
 
-pub mod bytes; // bytes.rt: numbers and records as bytes, and parts copied and cleared
 pub mod keys; // keys.rt: the order of keys
 pub mod spots; // spots.rt: where the record of a key stands, or belongs
 pub mod edits; // edits.rt: a record put in, taken out, replaced

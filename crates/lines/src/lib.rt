@@ -148,7 +148,7 @@ fn show_call(
     let Asked::Known(kind) = asked else {
         return show_unknown();
     };
-    let class = ledger::bytes::class_at(call, 14);
+    let class = memory::records::class_at(call, 14);
     let reply = calls::perform(
         kind,
         Given {

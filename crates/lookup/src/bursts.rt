@@ -13,11 +13,12 @@ use crate::searching::bare;
 use crate::searching::compare_bucket;
 use crate::searching::compare_side;
 use crate::searching::driver_number;
+use memory::picks::pick64;
 use settings::Given;
 use settings::Settings;
 use settings::counts::ClippedCount;
 ghost use mathlib.Core.Path.{_≡_};
-ghost use mathlib.Core.Bool.{true, cond};
+ghost use mathlib.Core.Bool.{true};
 ghost use Prim.Native.Nat.{ℕ, _*_, _<_};
 ghost use Rattle.theory.specs.Lists.{has};
 ghost use lib.ListN.{length, getD};
@@ -30,18 +31,12 @@ ghost use Rattle.lookup.specs.Places.{place-by, ChoiceFits};
 ghost use Rattle.lookup.specs.Answers.{answer-of, search-of};
 ghost use Rattle.lookup.specs.Bursts.{key-at, each, packed-of, unpacked-of, choice-at, number-by, Burst, burst-of};
 
-fn pick(test: bool, a: u64, b: u64) -> u64
-    ensures { λ r. ⌜ r ≡ cond test a b ⌝ }
-{
-    if test { a } else { b }
-}
-
 // What the counters say, as one number, and back.
 fn packed(choice: Choice) -> u64
     requires { ⌜ (choice .least .0 < 65536) × (choice .bucket < 65536) ⌝ }
     ensures { λ r. ⌜ r ≡ packed-of choice ⌝ }
 {
-    pick(choice.above, 4294967296, 0) + choice.least.rank(choice.bucket as u64)
+    pick64(choice.above, 4294967296, 0) + choice.least.rank(choice.bucket as u64)
 }
 
 fn unpacked(x: u64) -> Choice

@@ -30,7 +30,7 @@ fn side_place(s: Settings, side: &[u8], read: u32) -> Place
         ≡ plain.side-place (card s) (now (side .entry)) read)
         × Inside (paper s) r × ((b : ℕ) → Goes (card s) b false r) ⌝ }
 {
-    let records = ledger::bytes::count_at(side);
+    let records = memory::numbers::count_at(side);
     if s.side_places < records {
         return Place::Invalid;
     }

@@ -1,7 +1,6 @@
 // Records compared from the first up to the equal one or the last.
+use memory::picks::pick;
 use settings::Settings;
-ghost use mathlib.Core.Path.{_≡_};
-ghost use mathlib.Core.Bool.{cond};
 ghost use Prim.Native.Nat.{_+_, _*_, _≤_};
 ghost use lib.ListN.{length};
 ghost use Rattle.theory.specs.Records.{class-width};
@@ -41,12 +40,6 @@ pub fn scan(place: &[u8], n: usize, key: &[u8]) -> Hit
         at: 0,
         compared,
     }
-}
-
-fn pick(test: bool, a: usize, b: usize) -> usize
-    ensures { λ r. ⌜ r ≡ cond test a b ⌝ }
-{
-    if test { a } else { b }
 }
 
 // The same where all places may be read: each is compared, from the last to the first, with no branch on what is equal; the first equal one counts if it is among

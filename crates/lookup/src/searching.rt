@@ -6,10 +6,11 @@ use crate::placing::Place;
 use crate::placing::find_place;
 use crate::scanning::scan;
 use crate::scanning::scan_all;
+use memory::picks::pick32;
 use settings::Given;
 use settings::Settings;
 ghost use mathlib.Core.Path.{_≡_};
-ghost use mathlib.Core.Bool.{true, cond};
+ghost use mathlib.Core.Bool.{true};
 ghost use Prim.Native.Nat.{_+_, _-_, _*_, _≤_};
 ghost use lib.ListN.{length, take, drop};
 ghost use Rattle.theory.specs.Records.{class-width, records, find, comparisons};
@@ -63,7 +64,7 @@ fn compare(place: &[u8], n: usize, key: &[u8], read: u32) -> Answer
         let at = hit.at + key.len();
         return Answer {
             number: 0,
-            class: ledger::bytes::class_at(place, at),
+            class: memory::records::class_at(place, at),
             buckets_read: read,
             records_compared: compared,
         };
@@ -76,12 +77,6 @@ fn compare(place: &[u8], n: usize, key: &[u8], read: u32) -> Answer
     }
 }
 
-fn pick(test: bool, a: u32, b: u32) -> u32
-    ensures { λ r. ⌜ r ≡ cond test a b ⌝ }
-{
-    if test { a } else { b }
-}
-
 // The answer of a scan of all places of a bucket, with no branch on what was found: the class is read anyway, and kept or not.
 fn compare_all(place: &[u8], n: usize, room: usize, key: &[u8], read: u32) -> Answer
     requires { ⌜ (room * (length (now key) + class-width) ≤ length (now place)) × (8 ≤ length (now key)) × (length (now key) ≤ 64) × (n ≤ room) × (1 ≤ room) × (room ≤ 4096) ⌝ }
@@ -90,10 +85,10 @@ fn compare_all(place: &[u8], n: usize, room: usize, key: &[u8], read: u32) -> An
 {
     let hit = scan_all(place, n, room, key);
     let at = hit.at + key.len();
-    let class = ledger::bytes::class_at(place, at);
+    let class = memory::records::class_at(place, at);
     Answer {
-        number: pick(hit.found, 0, 100),
-        class: pick(hit.found, class, 0),
+        number: pick32(hit.found, 0, 100),
+        class: pick32(hit.found, class, 0),
         buckets_read: read,
         records_compared: hit.compared as u32,
     }

@@ -136,7 +136,7 @@ fn lookup_valid(s: Settings, clipped: &[u8], buckets: &[u8], side: &[u8]) -> boo
     if !marks_valid(s, buckets) {
         return false;
     }
-    ledger::bytes::count_at(side) <= s.side_places
+    memory::numbers::count_at(side) <= s.side_places
 }
 
 // "100 × ledger count / m to the nearest whole number, a half going up"
@@ -158,9 +158,9 @@ fn count_all(s: Settings, ledger: &[u8], buckets: &[u8], side: &[u8]) -> Totals
     Totals {
         number: 0,
         in_buckets: sums.in_buckets,
-        in_side: ledger::bytes::count_at(side) as u32,
+        in_side: memory::numbers::count_at(side) as u32,
         marked_255: sums.marked_255,
-        fill: fill(ledger::bytes::count_at(ledger), s.buckets()),
+        fill: fill(memory::numbers::count_at(ledger), s.buckets()),
     }
 }
 

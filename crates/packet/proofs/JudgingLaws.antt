@@ -9,7 +9,7 @@ use lib.ListN.{length, take, drop, replicate}
 use borrow.Author.Tests.{ltb-false, eq-eqb, ne-eqb}
 use Rattle.theory.specs.Packet.{version, header-length, has-ports, header-wrong, after-header, ports-cut, ports, packet-key, Keyed, read-packet}
 use Rattle.theory.proofs.ListLaws.{or-left, or-right}
-use Rattle.ledger.proofs.PartLaws.{tail-is}
+use Rattle.memory.proofs.SliceLaws.{tail-is}
 use Rattle.packet.specs.Judging.{refusal-of, HeaderRight, Right}
 
 -- an answer, and the buffer with it

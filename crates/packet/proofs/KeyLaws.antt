@@ -5,7 +5,7 @@ use Prim.Native.Nat.{ℕ, suc, _+_, _≤_}
 use native.Mathlib.Omega.{arith}
 use lib.ListN.{length, drop, set, getD, length-append, length-drop, drop-of-length-le}
 use lib.Seq.{take-at, drop-at, drop-cons, set-at}
-use Rattle.ledger.proofs.PartLaws.{back}
+use Rattle.memory.proofs.SliceLaws.{back}
 
 -- the part behind what is done is back as ys
 next-part : (a k : ℕ) (done rest ys : List ℕ) → length done ≡ a → back a k (done ++ rest) ys ≡ (done ++ ys) ++ drop k rest

@@ -1,5 +1,5 @@
 // Ports, of any packet: the part after a header starts with source port and destination port, two bytes each.
-use ledger::bytes::copy;
+use memory::parts::copy;
 ghost use mathlib.Core.Path.{_≡_};
 ghost use mathlib.Core.Bool.{_||_};
 ghost use Prim.Native.Nat.{_≤_};

@@ -1,4 +1,7 @@
 // Document 01, 'Placing': how many keys have a bucket among theirs, which bucket a key chooses, and which keys belong to the side.
+use memory::numbers::wide_count;
+use memory::parts::zero_counts;
+use memory::picks::pick;
 use settings::Settings;
 use settings::counts::TrueCount;
 use settings::counts::lower;
@@ -7,7 +10,7 @@ ghost use mathlib.Core.Bool.{true, false, not, cond, _&&_};
 ghost use mathlib.Core.List.{List};
 ghost use Prim.Native.Nat.{ℕ, _+_, _*_, _<_, _≤_};
 ghost use lib.Dec.{eqb};
-ghost use lib.ListN.{length, drop, replicate};
+ghost use lib.ListN.{length, drop};
 ghost use Rattle.theory.specs.Lists.{has};
 ghost use Rattle.theory.specs.Records.{class-width, Record, records};
 ghost use Rattle.theory.specs.Hash.{H as H-of};
@@ -17,22 +20,6 @@ ghost use Rattle.theory.specs.Ledger.{side-need-of};
 ghost use Rattle.settings.specs.Checked.{paper, card};
 ghost use Rattle.placing.specs.Ready.{Ready, Choosing, Placing};
 ghost use Rattle.placing.specs.Worked.{nth, Placed, Chose, side-by-choice, parts};
-
-pub fn zero_counts(c: &mut [u16])
-    ensures { λ _. ⌜ now (c .exit) ≡ replicate (length (now (c .entry))) 0 ⌝ }
-{
-    let mut i = 0;
-    while i < c.len() {
-        c[i] = 0;
-        i += 1;
-    }
-}
-
-fn pick(test: bool, a: usize, b: usize) -> usize
-    ensures { λ r. ⌜ r ≡ cond test a b ⌝ }
-{
-    if test { a } else { b }
-}
 
 // One more for each of a key's bucket numbers, where its H is h: "its first k hashes, repeats dropped". No branch: a repeated hash adds 0.
 fn raise_at(s: Settings, h: u64, counts: &mut [u16])
@@ -159,23 +146,17 @@ fn choose_more(
     }
 }
 
-fn wide(v: u16) -> usize
-    ensures { λ r. ⌜ r ≡ v ⌝ }
-{
-    v as usize
-}
-
 // A key belongs to the side, by its choice and the choosers in work.
 pub fn aside(s: Settings, m: usize, work: &[u16], choice: u16) -> bool
     requires { ⌜ (m ≡ card s .buckets) × (length (now work) ≡ m + m) × (choice ≤ m) ⌝ }
     ensures { λ r. ⌜ r ≡ side-by-choice (card s) m (nth (drop m (now (work .entry)))) choice ⌝ }
 {
-    let bucket = wide(choice);
+    let bucket = wide_count(choice);
     if bucket == m {
         return true;
     }
     let at = m + bucket;
-    let choosers = wide(work[at]);
+    let choosers = wide_count(work[at]);
     s.room < choosers
 }
 

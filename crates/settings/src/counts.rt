@@ -1,4 +1,6 @@
 // "a clipped count is never stored as or taken for a true count": each is a type of its own. A count is made, compared and ranked here, and not by its bare number.
+use memory::numbers::wide64;
+use memory::picks::pick64;
 ghost use mathlib.Core.Path.{_≡_};
 ghost use mathlib.Core.Bool.{cond};
 ghost use Prim.Native.Nat.{_+_, _*_, _/_, _%_, _<_, _≤_, min};
@@ -9,18 +11,6 @@ pub struct ClippedCount(u64);
 
 // How many held keys name a bucket.
 pub struct TrueCount(u16);
-
-fn wide(byte: u8) -> u64
-    ensures { λ r. ⌜ (r ≡ byte) × (r < 256) ⌝ }
-{
-    byte as u64
-}
-
-fn pick(test: bool, a: u64, b: u64) -> u64
-    ensures { λ r. ⌜ r ≡ cond test a b ⌝ }
-{
-    if test { a } else { b }
-}
 
 // The lower of two ranks (below): no branch.
 pub fn lower(a: u64, b: u64) -> u64
@@ -41,8 +31,8 @@ impl ClippedCount {
     pub fn of_byte(byte: u8, b: usize) -> ClippedCount
         ensures { λ r. ⌜ (r .0 ≡ cond (eqb (b % 2) 0) (byte % 16) (byte / 16)) × (r .0 < 16) ⌝ }
     {
-        let wide = wide(byte);
-        ClippedCount(pick(b % 2 == 0, wide % 16, wide / 16))
+        let wide = wide64(byte);
+        ClippedCount(pick64(b % 2 == 0, wide % 16, wide / 16))
     }
 
     // The byte of two neighbours, an even bucket's count and the next one's.

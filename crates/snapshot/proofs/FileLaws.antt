@@ -16,7 +16,7 @@ use Rattle.theory.proofs.ListLaws.{or-left}
 use Rattle.theory.proofs.SettingsLaws.{ranges}
 use Rattle.settings.specs.Checked.{checked-of}
 use Rattle.settings.proofs.Laws.{record-size-is}
-use Rattle.ledger.proofs.PartLaws.{tail-is}
+use Rattle.memory.proofs.SliceLaws.{tail-is}
 use Rattle.snapshot.specs.Files.{listed, by-file}
 
 -- a test that failed, since the number is 0

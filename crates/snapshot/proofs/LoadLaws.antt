@@ -25,7 +25,7 @@ use Rattle.settings.specs.declared.Settings.{Settings}
 use Rattle.settings.specs.Checked.{paper, card}
 use Rattle.settings.specs.Lengths.{lengths-of, right-lengths}
 use Rattle.settings.proofs.LengthLaws.{lengths-are}
-use Rattle.ledger.proofs.PartLaws.{zeros, back, tail-is, tail-back}
+use Rattle.memory.proofs.SliceLaws.{zeros, back, tail-is, tail-back}
 use Rattle.ledger.proofs.LedgerLaws.{room-for}
 use Rattle.snapshot.specs.Files.{listed, by-file}
 

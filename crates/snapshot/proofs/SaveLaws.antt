@@ -21,7 +21,7 @@ use Rattle.theory.proofs.ByteLaws.{Byte, length-to-bytes, write-records}
 use Rattle.theory.proofs.SnapshotLaws.{head, snapshot-is, length-head}
 use Rattle.settings.specs.declared.Settings.{Settings}
 use Rattle.settings.specs.Checked.{paper, card}
-use Rattle.ledger.proofs.PartLaws.{back, tail-is, tail-back}
+use Rattle.memory.proofs.SliceLaws.{back, tail-is, tail-back}
 use Rattle.ledger.proofs.LedgerLaws.{has-count, room-for, records-room, records-are}
 use Rattle.ledger.proofs.EditLaws.{few, listed}
 use Rattle.snapshot.specs.Files.{put-at}

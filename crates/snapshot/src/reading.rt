@@ -1,6 +1,6 @@
 // What a file says: its settings, and the refusals that it decides alone.
-use ledger::bytes::count_at;
 use ledger::keys::keys_rise;
+use memory::numbers::count_at;
 use settings::Checked;
 use settings::Given;
 use settings::Settings;

@@ -1,8 +1,8 @@
 // Settings and the ledger's records into a target buffer.
 use crate::place_records;
-use ledger::bytes::copy;
-use ledger::bytes::count_at;
-use ledger::bytes::write_number;
+use memory::numbers::count_at;
+use memory::numbers::write_number;
+use memory::parts::copy;
 use settings::Checked;
 use settings::Given;
 use settings::Settings;

@@ -12,7 +12,7 @@ use Rattle.theory.specs.Flowrun.{decimal}
 use Rattle.theory.proofs.FlowrunLaws.{decimal-digit, decimal-more, decimal-length}
 use Rattle.io.specs.Counts.{Counts}
 use Rattle.io.specs.Digits.{digits, Fewest}
-use Rattle.ledger.proofs.PartLaws.{back, tail-is, tail-back}
+use Rattle.memory.proofs.SliceLaws.{back, tail-is, tail-back}
 use Rattle.text.specs.Writing.{Writes, Appends}
 
 tens-positive : (k : ℕ) → 0 < 10 ^ k

@@ -1,5 +1,5 @@
 // Fields of a line of text, one after another in a lent buffer.
-use ledger::bytes::copy;
+use memory::parts::copy;
 ghost use mathlib.Core.List.{[], _∷_, _++_};
 ghost use Prim.Native.Nat.{_+_, _≤_};
 ghost use lib.ListN.{length};

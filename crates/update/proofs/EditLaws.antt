@@ -13,7 +13,7 @@ use Rattle.theory.specs.Settings.{Settings, Card, card-of, record-size}
 use Rattle.theory.specs.Ledger.{held, key-wrong, side-short, next, refusal}
 use Rattle.theory.proofs.ListLaws.{by-test}
 use Rattle.theory.proofs.ByteLaws.{Fit, read-records}
-use Rattle.ledger.proofs.PartLaws.{tail-is}
+use Rattle.memory.proofs.SliceLaws.{tail-is}
 use Rattle.placing.specs.Worked.{parts}
 use Rattle.update.specs.declared.Edit.{Edit}
 use Rattle.update.specs.declared.Edit.the-variants.{Insert, Replace, Remove}

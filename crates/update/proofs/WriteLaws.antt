@@ -16,7 +16,7 @@ use Rattle.theory.proofs.ListLaws.{by-test, All, all-drop}
 use Rattle.theory.proofs.ByteLaws.{Fit}
 use Rattle.theory.proofs.LayoutLaws.{read-places, after-count, length-counted}
 use Rattle.ledger.proofs.LedgerLaws.{has-count, records-room}
-use Rattle.ledger.proofs.PartLaws.{tail-is}
+use Rattle.memory.proofs.SliceLaws.{tail-is}
 use Rattle.update.specs.declared.Edit.{Edit}
 use Rattle.update.specs.declared.Edit.the-variants.{Insert, Replace, Remove}
 use Rattle.update.specs.declared.Plan.{Plan}

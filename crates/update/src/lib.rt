@@ -149,7 +149,7 @@ fn judge(
     if !ledger::valid(s, ledger) {
         return refuse(4);
     }
-    let n = ledger::bytes::count_at(ledger);
+    let n = memory::numbers::count_at(ledger);
     let spot = ledger::spots::find_spot(&ledger[2..], n, key);
     let by_list = refusal_by_list(s, edit, spot.held, n);
     if by_list != 0 {
@@ -235,7 +235,7 @@ fn record_of(key: &[u8], class: u32, size: usize) -> [u8; 64]
     ensures { λ r. ⌜ (take size r ≡ record-bytes (record { key = now (key .entry); class = class })) × (length r ≡ 64) ⌝ }
 {
     let mut buffer = new_buffer();
-    ledger::bytes::write_record(&mut buffer[..size], key, class);
+    memory::records::write_record(&mut buffer[..size], key, class);
     buffer
 }
 

@@ -9,7 +9,7 @@ use Rattle.theory.specs.Lists.{flat, upto}
 use Rattle.theory.specs.Settings.{Card, record-size, bucket-size, ledger-length, true-length, clipped-length, buckets-length, side-length}
 use Rattle.theory.specs.Placing.{clip, true-count, choosers, crowded, mark, bucket-records, side-records}
 use Rattle.theory.specs.Layout.{places, counter-bytes, bucket-bytes, buckets-bytes, side-bytes, layout-by, layout}
-use Rattle.writing.proofs.PartLaws.{zeros}
+use Rattle.memory.proofs.SliceLaws.{zeros}
 use Rattle.writing.proofs.SideLaws.{no-places}
 
 map-zeros : (f : ℕ → ℕ) → ((b : ℕ) → f b ≡ 0) → (a n : ℕ) → map f (upto a n) ≡ zeros n

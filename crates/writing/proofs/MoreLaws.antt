@@ -13,7 +13,7 @@ use Rattle.theory.specs.Lists.{filter, flat, upto}
 use Rattle.theory.specs.Records.{Record, record-bytes, entries, record-at, records}
 use Rattle.theory.proofs.ListLaws.{All}
 use Rattle.theory.proofs.ByteLaws.{Byte, write-records}
-use Rattle.ledger.proofs.PartLaws.{back}
+use Rattle.memory.proofs.SliceLaws.{back}
 use Rattle.placing.proofs.CountingLaws.{count-append}
 
 -- ---- lists

@@ -1,48 +1,15 @@
 -- Parts of an area that are lent: their lengths, the area once they are back, and the same parts in other words.
 use mathlib.Core.Path.{_≡_}
-use mathlib.Core.List.{List, _++_, append-assoc}
-use Prim.Native.Nat.{ℕ, zero, suc, _+_, _-_, _*_, _≤_, _<_}
-use native.Mathlib.Nat.{add-sub-cancel-left, suc-mul, mul-le-mul-right, sub-zero}
-use native.Mathlib.Numerals.{add-one}
+use mathlib.Core.List.{List}
+use Prim.Native.Nat.{ℕ, _+_, _*_, _≤_, _<_}
+use native.Mathlib.Nat.{mul-le-mul-right}
 use native.Mathlib.Omega.{arith}
-use lib.ListN.{length, take, drop, replicate, length-append, length-drop}
-use lib.Seq.{take-at, length-take-le}
+use lib.ListN.{length, take, drop, length-drop}
 use Rattle.theory.specs.Records.{record-bytes, record-at, records}
 use Rattle.theory.proofs.ListLaws.{All, all-drop}
 use Rattle.theory.proofs.ByteLaws.{Byte, Fit, records-fit}
-use Rattle.ledger.proofs.PartLaws.{back, length-part}
+use Rattle.memory.proofs.SliceLaws.{length-part, row-fits}
 use Rattle.writing.proofs.MoreLaws.{record-is}
-
-abbrev pub zeros : ℕ → List ℕ
-zeros n = replicate n 0
-
-pub zeros-drop : (n m : ℕ) → drop m (zeros n) ≡ zeros (n - m)
-zeros-drop n zero = rw sub-zero
-zeros-drop zero (suc m) = let e : zero - suc m ≡ 0 = omega arith in rw e
-zeros-drop (suc n) (suc m) = let e : suc n - suc m ≡ n - m = omega arith in rw e (zeros-drop n m)
-
-module _ (a k : ℕ) (xs ys : List ℕ) (fits : a + k ≤ length xs) (size : length ys ≡ k) where
-  pub length-back : length (back a k xs ys) ≡ length xs
-  length-back = simp (length-append, size, length-take-le a xs (omega arith), length-drop) (omega arith)
-
-  pub take-back : take (a + k) (back a k xs ys) ≡ take a xs ++ ys
-  take-back =
-      rw (← append-assoc (take a xs) ys (drop k (drop a xs)))
-      (take-at (take a xs ++ ys) (drop k (drop a xs)) (a + k) (rw (length-append, size, length-take-le a xs (omega arith))))
-
--- the part from a to a + k as it is lent, and the area with it back, by equal numbers and lists
-pub lent-is : (a b k j : ℕ) (xs us : List ℕ) → a ≡ b → k ≡ j → xs ≡ us → take (a + k - a) (drop a xs) ≡ take j (drop b us)
-lent-is a b k j xs us e f g = rw (add-sub-cancel-left a k, e, f, g)
-
-pub back-is : (a b k j : ℕ) (xs us ys zs : List ℕ) → a ≡ b → k ≡ j → xs ≡ us → ys ≡ zs → back a (a + k - a) xs ys ≡ back b j us zs
-back-is a b k j xs us ys zs e f g h = rw (add-sub-cancel-left a k, e, f, g, h)
-
--- row b of m rows of z
-pub row-fits : (b m z : ℕ) → b < m → b * z + z ≤ m * z
-row-fits b m z h = rw (← suc-mul b z) (mul-le-mul-right z h)
-
-pub row-next : (a b z : ℕ) → a ≡ b * z → a + z ≡ (b + 1) * z
-row-next a b z e = rw (add-one b, suc-mul b z, e)
 
 -- ---- the turn of record i of the n in an area of bytes, with keys of w bytes
 pub record Turn (w n i : ℕ) (area : List ℕ) : Type 0 where

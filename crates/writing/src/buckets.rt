@@ -1,6 +1,7 @@
 // The buckets of the layout: all parts opened first, then each record appended to the part of the bucket that it chooses.
-use ledger::bytes::copy;
-use ledger::bytes::zero_fill;
+use memory::numbers::wide;
+use memory::parts::copy;
+use memory::parts::zero_fill;
 use settings::Settings;
 ghost use mathlib.Core.Path.{_≡_};
 ghost use mathlib.Core.Bool.{true, cond};
@@ -13,12 +14,6 @@ ghost use Rattle.theory.specs.Layout.{buckets-bytes};
 ghost use Rattle.settings.specs.Checked.{paper, card};
 ghost use Rattle.writing.specs.Laying.{Laying};
 ghost use Rattle.writing.specs.Buckets.{crowded-by, blank-buckets, placed, appended};
-
-fn wide(mark: u8) -> usize
-    ensures { λ r. ⌜ (r ≡ mark) × (r < 256) ⌝ }
-{
-    mark as usize
-}
 
 // One record more in a bucket's part: at the place that the mark counts, and the mark one up.
 fn append(part: &mut [u8], record: &[u8])

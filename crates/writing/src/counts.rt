@@ -7,17 +7,6 @@ ghost use lib.ListN.{length};
 ghost use Rattle.placing.specs.Worked.{nth};
 ghost use Rattle.writing.specs.Counts.{clipped-bytes};
 
-pub fn copy_counts(to: &mut [u16], from: &[u16])
-    requires { ⌜ length (now to) ≡ length (now from) ⌝ }
-    ensures { λ _. ⌜ now (to .exit) ≡ now (from .entry) ⌝ }
-{
-    let mut i = 0;
-    while i < from.len() {
-        to[i] = from[i];
-        i += 1;
-    }
-}
-
 // "bucket b in byte b / 2, an even b in the low four bits"
 pub fn write_clipped(top: usize, clipped: &mut [u8], counts: &[u16])
     requires { ⌜ (top ≤ 15) × (2 * length (now clipped) ≤ length (now counts)) ⌝ }

@@ -1,5 +1,7 @@
 // Writes the layout of a list: true counts, clipped counts, buckets and the side store; and clears every area.
-use ledger::bytes::zero_fill;
+use memory::parts::copy_counts;
+use memory::parts::zero_counts;
+use memory::parts::zero_fill;
 use settings::Settings;
 ghost use mathlib.Core.Path.{_≡_};
 ghost use mathlib.Core.Bool.{true};
@@ -43,7 +45,7 @@ pub fn write_areas(
         × (now (buckets .exit) ≡ buckets-bytes (card s) (true-count (card s) (records (card s .width) n (now (area .entry)))) (records (card s .width) n (now (area .entry))))
         × (now (side .exit) ≡ side-bytes (card s) (true-count (card s) (records (card s .width) n (now (area .entry)))) (records (card s .width) n (now (area .entry)))) ⌝ }
 {
-    counts::copy_counts(true_counts, &work[..m]);
+    copy_counts(true_counts, &work[..m]);
     counts::write_clipped(s.top, clipped, &work[..m]);
     buckets::write_buckets(s, m, work, kept, buckets, area, n);
     side::write_side(s, m, work, kept, side, area, n, need);
@@ -63,7 +65,7 @@ pub fn clear_areas(
     ensures { λ _. ⌜ exit-areas ledger «true_counts» clipped buckets side ≡ layout (card s) [] ⌝ }
 {
     zero_fill(ledger);
-    placing::zero_counts(true_counts);
+    zero_counts(true_counts);
     zero_fill(clipped);
     zero_fill(buckets);
     zero_fill(side);

@@ -1,7 +1,7 @@
 // The side store of the layout: a count, then the records that belong to the side, in key order.
-use ledger::bytes::copy;
-use ledger::bytes::write_number;
-use ledger::bytes::zero_fill;
+use memory::numbers::write_number;
+use memory::parts::copy;
+use memory::parts::zero_fill;
 use settings::Settings;
 ghost use mathlib.Core.Path.{_≡_};
 ghost use Prim.Native.Nat.{_+_, _*_, _<_, _≤_};

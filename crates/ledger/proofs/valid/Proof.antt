@@ -12,7 +12,7 @@ use Rattle.theory.specs.Lists.{any}
 use Rattle.theory.specs.Records.{records, rising}
 use Rattle.theory.specs.Settings.{card-of}
 use Rattle.settings.specs.Checked.{card}
-use Rattle.ledger.proofs.PartLaws.{tail-is}
+use Rattle.memory.proofs.SliceLaws.{tail-is}
 use Rattle.ledger.proofs.LedgerLaws.{has-count, room-for, records-room, invalid-many, invalid-order, invalid-after}
 use Rattle.ledger.proofs.valid.Statement.{statement}
 use Rattle.ledger.proofs.valid.Tie as tie

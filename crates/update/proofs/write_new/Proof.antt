@@ -11,7 +11,7 @@ use Rattle.theory.proofs.ByteLaws.{Fit, length-record}
 use Rattle.settings.specs.Checked.{card}
 use Rattle.ledger.proofs.LedgerLaws.{has-count}
 use Rattle.ledger.proofs.EditLaws.{records-fit-width}
-use Rattle.ledger.proofs.KeyLaws.{bytes-of}
+use Rattle.memory.proofs.SliceLaws.{bytes-of}
 use Rattle.update.specs.Editing.{list-after}
 use Rattle.update.proofs.EditLaws.{size-is}
 use Rattle.update.proofs.WriteLaws.{plan-room, plan-fit, plan-kept, Written, long, lent-records, lent-room, laid-out}

@@ -1,7 +1,7 @@
 -- `clear_areas` meets its contract: each area is zeros of its length, and so is the layout of the empty list.
 use mathlib.Core.Path.{ap, _∙_}
+use Rattle.memory.proofs.SliceLaws.{zeros}
 use Rattle.settings.specs.Checked.{card}
-use Rattle.writing.proofs.PartLaws.{zeros}
 use Rattle.writing.proofs.EmptyLaws.{cleared}
 use borrow.Author.Needs.{needs}
 use Rattle.writing.proofs.clear_areas.Statement.{statement}

@@ -6,8 +6,8 @@ use native.Mathlib.Omega.{arith}
 use lib.ListN.{length}
 use Rattle.theory.proofs.SettingsLaws.{sound}
 use Rattle.settings.specs.Checked.{paper, card}
-use Rattle.ledger.proofs.KeyLaws.{bytes-of}
-use Rattle.ledger.proofs.PartLaws.{two-kept}
+use Rattle.memory.proofs.SliceLaws.{bytes-of}
+use Rattle.memory.proofs.SliceLaws.{two-kept}
 use Rattle.ledger.proofs.LedgerLaws.{has-count}
 use Rattle.ledger.proofs.EditLaws.{listed, place-within, one-more-within, inserted}
 use Rattle.ledger.proofs.edits.insert_record.Statement.{statement}

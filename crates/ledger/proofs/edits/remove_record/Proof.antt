@@ -5,8 +5,8 @@ use Prim.Native.Nat.{_+_, _-_, _*_, _≤_}
 use native.Mathlib.Omega.{arith}
 use lib.ListN.{length}
 use Rattle.settings.specs.Checked.{card}
-use Rattle.ledger.proofs.KeyLaws.{bytes-of}
-use Rattle.ledger.proofs.PartLaws.{two-kept}
+use Rattle.memory.proofs.SliceLaws.{bytes-of}
+use Rattle.memory.proofs.SliceLaws.{two-kept}
 use Rattle.ledger.proofs.LedgerLaws.{has-count}
 use Rattle.ledger.proofs.EditLaws.{listed, record-within, ends-within, removed}
 use Rattle.ledger.proofs.edits.remove_record.Statement.{statement}

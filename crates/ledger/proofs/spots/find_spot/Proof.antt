@@ -5,7 +5,7 @@ use native.Mathlib.Nat.{add-sub-cancel-left}
 use native.Mathlib.Omega.{arith}
 use lib.ListN.{length}
 use Rattle.theory.specs.Records.{key-below}
-use Rattle.ledger.proofs.PartLaws.{length-lent}
+use Rattle.memory.proofs.SliceLaws.{length-lent}
 use Rattle.ledger.proofs.SpotLaws.{Halving, key-at, place-room, halving-start, halving-up, halving-down, found-end, found-here}
 use Rattle.ledger.proofs.spots.find_spot.Statement.{statement}
 use Rattle.ledger.proofs.spots.find_spot.Tie as tie

@@ -10,7 +10,7 @@ use Rattle.lookup.proofs.bursts.packed.Tie as tie
 add-result : tie.Need-add-result
 add-result c =
     let most : cond {A = ℕ} (c .before .before .args .choice .above) 4294967296 0 ≤ 4294967296 = by-test (c .before .before .args .choice .above) (λ e. rw e (omega arith)) (λ e. rw e (omega arith)) in
-    omega (arith, c .before .pick .ensures, c .rank .ensures, most, c .before .before .pre)
+    omega (arith, c .before .pick64 .ensures, c .rank .ensures, most, c .before .before .pre)
 
 pub packed-spec : {M : Type 1} → statement M
 packed-spec = tie.close (tie.spec (λ c κs. search needs) (λ c κs. search needs) add-result (λ c. search needs))

@@ -10,7 +10,7 @@ use Rattle.lookup.proofs.searching.compare_all.Tie as tie
 returns : tie.Need-returns
 returns c =
     let e = c .before .before .before .before .before .scan-all .ensures .0 in
-    rw (c .before .before .pick .ensures, c .before .pick2 .ensures, e .finds, e .compares)
+    rw (c .before .before .pick32 .ensures, c .before .pick322 .ensures, e .finds, e .compares)
     (by-test (c .before .before .before .before .before .scan-all .result .found)
     (λ q. rw (q, c .before .before .before .class-at .ensures) (unfold record-at in rw (drop-drop (length (c .before .before .before .before .before .before .before .before .args .key .now)) (c .before .before .before .before .before .scan-all .result .at) (c .before .before .before .before .before .before .before .before .args .place .now))))
     (λ q. rw q))

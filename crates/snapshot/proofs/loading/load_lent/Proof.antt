@@ -12,7 +12,7 @@ use Rattle.theory.specs.Layout.{Areas, layout}
 use Rattle.theory.proofs.SettingsLaws.{ranges}
 use Rattle.settings.specs.Checked.{paper}
 use Rattle.settings.proofs.Laws.{capacity-is, side-places-are, work-length-is}
-use Rattle.ledger.proofs.PartLaws.{tail-is}
+use Rattle.memory.proofs.SliceLaws.{tail-is}
 use Rattle.snapshot.specs.Files.{listed, by-file}
 use Rattle.snapshot.proofs.FileLaws.{head-long, found-few, found-full, found-fits, found-listed}
 use Rattle.snapshot.proofs.LoadLaws.{Loading, loads-refused, loads-9, loads-0}

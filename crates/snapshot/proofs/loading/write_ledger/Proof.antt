@@ -2,7 +2,7 @@
 use native.Mathlib.Omega.{arith}
 use Rattle.theory.proofs.SettingsLaws.{sound}
 use Rattle.settings.specs.Checked.{paper, card}
-use Rattle.ledger.proofs.KeyLaws.{bytes-of}
+use Rattle.memory.proofs.SliceLaws.{bytes-of}
 use Rattle.snapshot.proofs.LoadLaws.{ends-within, copy-end, copy-room, zeros-start, ledger-written}
 use borrow.Author.Needs.{needs}
 use Rattle.snapshot.proofs.loading.write_ledger.Statement.{statement}

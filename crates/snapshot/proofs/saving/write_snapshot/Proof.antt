@@ -4,7 +4,7 @@ use native.Mathlib.Omega.{arith}
 use lib.Seq.{length-take-le}
 use Rattle.theory.proofs.SettingsLaws.{sound}
 use Rattle.settings.specs.Checked.{paper, card}
-use Rattle.ledger.proofs.KeyLaws.{bytes-of}
+use Rattle.memory.proofs.SliceLaws.{bytes-of}
 use Rattle.ledger.proofs.EditLaws.{few}
 use Rattle.snapshot.proofs.SaveLaws.{end-within, same-room, snapshot-written}
 use borrow.Author.Needs.{needs}

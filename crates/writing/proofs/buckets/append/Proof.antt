@@ -4,8 +4,8 @@ use mathlib.Core.List.{List}
 use Prim.Native.Nat.{ℕ, _+_, _*_, _≤_}
 use native.Mathlib.Omega.{arith}
 use lib.ListN.{length, getD, set}
-use Rattle.writing.proofs.PartLaws.{back-is}
 use borrow.Author.Needs.{needs}
+use Rattle.memory.proofs.SliceLaws.{back-is}
 use Rattle.writing.proofs.buckets.append.Statement.{statement}
 use Rattle.writing.proofs.buckets.append.Tie as tie
 

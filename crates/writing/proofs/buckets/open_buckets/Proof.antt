@@ -11,9 +11,8 @@ use lib.Seq.{getD-drop, take-all}
 use Rattle.theory.specs.Settings.{Settings, card-of, bucket-size, buckets-length}
 use Rattle.settings.specs.Checked.{paper, card}
 use Rattle.settings.proofs.Laws.{room-is, buckets-length-is, bounds}
-use Rattle.ledger.proofs.PartLaws.{length-lent}
+use Rattle.memory.proofs.SliceLaws.{length-lent, row-fits, row-next}
 use Rattle.writing.specs.Buckets.{crowded-by, blank-buckets}
-use Rattle.writing.proofs.PartLaws.{row-fits, row-next}
 use Rattle.writing.proofs.BucketLaws.{blank-none, open-length, open-more}
 use Rattle.writing.proofs.buckets.open_buckets.Statement.{statement}
 use Rattle.writing.proofs.buckets.open_buckets.Tie as tie

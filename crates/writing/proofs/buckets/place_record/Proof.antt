@@ -10,11 +10,11 @@ use Rattle.theory.specs.Settings.{Card, record-size, bucket-size}
 use Rattle.theory.proofs.SettingsLaws.{Sound, sound}
 use Rattle.theory.proofs.ByteLaws.{Byte}
 use Rattle.settings.specs.Checked.{paper, card}
-use Rattle.ledger.proofs.PartLaws.{length-lent}
+use Rattle.memory.proofs.SliceLaws.{length-lent, row-fits}
 use Rattle.placing.specs.Worked.{nth, belongs-by}
 use Rattle.writing.proofs.ChoiceLaws.{key-at, kept-length, kept-is, kept-most, kept-side}
 use Rattle.writing.proofs.MoreLaws.{all-from}
-use Rattle.writing.proofs.PartLaws.{row-fits, Turn, within-by}
+use Rattle.writing.proofs.PartLaws.{Turn, within-by}
 use Rattle.writing.proofs.BucketLaws.{skip-side, ChosenPart, chosen-part}
 use borrow.Author.Needs.{needs}
 use Rattle.writing.proofs.buckets.place_record.Statement.{statement}

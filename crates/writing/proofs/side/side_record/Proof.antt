@@ -11,11 +11,12 @@ use Rattle.theory.specs.Records.{Record, records}
 use Rattle.theory.specs.Settings.{Card, record-size}
 use Rattle.theory.specs.Layout.{places}
 use Rattle.theory.proofs.ByteLaws.{Byte}
+use Rattle.memory.proofs.SliceLaws.{lent-is, back-is}
 use Rattle.settings.specs.Checked.{card}
 use Rattle.placing.specs.Worked.{nth, belongs-by, Worked}
 use Rattle.writing.proofs.ChoiceLaws.{key-at, kept-length, kept-most, kept-side}
 use Rattle.writing.proofs.MoreLaws.{all-from}
-use Rattle.writing.proofs.PartLaws.{lent-is, back-is, Turn, within-by}
+use Rattle.writing.proofs.PartLaws.{Turn, within-by}
 use Rattle.writing.proofs.SideLaws.{not-sent, sent-length, place-within, sent-put}
 use borrow.Author.Needs.{needs}
 use Rattle.writing.proofs.side.side_record.Statement.{statement}

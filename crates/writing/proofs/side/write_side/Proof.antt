@@ -10,9 +10,8 @@ use Rattle.theory.specs.Settings.{Settings, Card, card-of, record-size, side-le
 use Rattle.theory.proofs.SettingsLaws.{sound}
 use Rattle.settings.specs.Checked.{paper}
 use Rattle.settings.proofs.Laws.{bounds}
-use Rattle.ledger.proofs.PartLaws.{tail-is, tail-back}
+use Rattle.memory.proofs.SliceLaws.{tail-is, tail-back, zeros, zeros-drop}
 use Rattle.placing.specs.Worked.{Worked}
-use Rattle.writing.proofs.PartLaws.{zeros, zeros-drop}
 use Rattle.writing.proofs.SideLaws.{sent-none, sent-need, side-none, side-written}
 use borrow.Author.Needs.{needs}
 use Rattle.writing.proofs.side.write_side.Statement.{statement}

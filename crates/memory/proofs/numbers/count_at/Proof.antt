@@ -1,0 +1,25 @@
+-- `memory::numbers::count_at` meets its contract: the two bytes are read one by one, the law `count-is`.
+use borrow.Author.Needs.{needs}
+use native.Mathlib.Omega.{arith}
+use Rattle.memory.proofs.ByteNumberLaws.{count-is}
+use Rattle.memory.proofs.numbers.count_at.Statement.{statement}
+use Rattle.memory.proofs.numbers.count_at.Tie as tie
+
+returns : tie.Need-returns
+returns c =
+    let start = c .before .before .before .before .before in
+    let wide = c .before .before .wide in
+    let e = count-is (start .args .area .now) (start .pre) in
+    (omega (arith, wide .ensures, c .wide2 .ensures), omega (arith, wide .ensures, c .wide2 .ensures))
+
+pub count-at-spec : {M : Type 1} → statement M
+count-at-spec =
+    tie.close
+    (tie.spec
+    (λ c. search needs)
+    (λ c κs. search needs)
+    (λ c. search needs)
+    (λ c. search needs)
+    (λ c κs. search needs)
+    (λ c. search needs)
+    returns)
