@@ -1,9 +1,8 @@
 -- What the loops that look for a number and gather bucket numbers ask: repeats dropped with one number more, and zeros after the numbers.
-use mathlib.Core.Path.{_≡_, refl, ap, _∙_}
+use mathlib.Core.Path.{_≡_, refl}
 use mathlib.Core.Bool.{Bool, true, false, cond, _||_, or-false}
 use mathlib.Core.List.{List, [], _∷_, _++_, map, map-append, append-nil}
 use Prim.Native.Nat.{ℕ, zero, suc, _+_, _-_, _<_, _≤_}
-use native.Mathlib.Nat.{add-zero, zero-add, add-suc, suc-add}
 use native.Mathlib.Numerals.{add-one}
 use native.Mathlib.Omega.{arith}
 use lib.Dec.{eqb}
@@ -11,6 +10,7 @@ use lib.ListN.{length, take, drop, getD, set, replicate, drop-of-length-le}
 use lib.Seq.{drop-cons, take-suc-set}
 use Rattle.theory.specs.Lists.{upto, has, fresh}
 use Rattle.theory.proofs.ListLaws.{by-test}
+use Rattle.theory.proofs.GrowingLaws.{upto-more}
 
 -- ---- a loop that looks for a number
 pub has-from : (x : ℕ) (l : List ℕ) (i : ℕ) → i < length l → has x (drop i l) ≡ (eqb x (getD l i 0) || has x (drop (i + 1) l))
@@ -30,13 +30,6 @@ fresh-end seen [] x = rw or-false (by-test (has x seen) (λ e. rw e) (λ e. rw e
 fresh-end seen (y ∷ ys) x =
     by-test (has y seen) (λ e. rw e (fresh-end seen ys x))
     (λ e. rw (e, fresh-end (y ∷ seen) ys x, or-swap (eqb x y) (has x seen) (has x (fresh (y ∷ seen) ys))))
-
-pub upto-end : (a n : ℕ) → upto a (suc n) ≡ upto a n ++ ((a + n) ∷ [])
-upto-end a zero = rw add-zero
-upto-end a (suc n) = rw (add-suc, ← suc-add) (ap (λ (r : List ℕ). a ∷ r) (upto-end (suc a) n))
-
-pub upto-more : (j : ℕ) → upto 0 (j + 1) ≡ upto 0 j ++ (j ∷ [])
-upto-more j = rw (add-one j) (upto-end 0 j ∙ rw (zero-add j))
 
 module _ (f : ℕ → ℕ) (at : List ℕ) (n j x : ℕ) (e : take n at ≡ fresh [] (map f (upto 0 j))) (q : x ≡ f j) where
   more : fresh [] (map f (upto 0 (j + 1))) ≡ take n at ++ cond (has x (take n at)) [] (x ∷ [])

@@ -17,6 +17,7 @@ use Rattle.theory.specs.Settings.{Card, record-size, ledger-length}
 use Rattle.theory.specs.Layout.{places, counted-places}
 use Rattle.theory.specs.Calls.{ledger-records, ledger-invalid}
 use Rattle.theory.proofs.ListLaws.{or-left, or-right, All, all-map, all-at, all-drop, length-flat}
+use Rattle.theory.proofs.GrowingLaws.{flat-append}
 use Rattle.theory.proofs.ByteLaws.{Byte, Fit, length-to-bytes, to-of-bytes, length-record, length-records, records-fit, write-records}
 use Rattle.theory.proofs.CallLaws.{valid}
 use Rattle.ledger.specs.Edits.{inserted-at, removed-at, replaced-at}
@@ -29,10 +30,6 @@ all-take : {A : Type 0} (P : A → Type 0) (n : ℕ) (l : List A) → All P l �
 all-take P zero l h = tt
 all-take P (suc n) [] h = tt
 all-take P (suc n) (x ∷ xs) h = (h .0, all-take P n xs (h .1))
-
-flat-append : {A : Type 0} (f : A → List ℕ) (l m : List A) → flat f (l ++ m) ≡ flat f l ++ flat f m
-flat-append f [] m = refl
-flat-append f (x ∷ xs) m = rw (flat-append f xs m, ← append-assoc)
 
 zeros-of : (l : List ℕ) → any (λ x. not (eqb x 0)) l ≡ false → l ≡ zeros (length l)
 zeros-of [] e = refl

@@ -1,17 +1,19 @@
 -- Parts of a slice that are lent: their lengths, what a part read to the end is, and the slice once a part is back as other bytes; zeros; rows of one size; bytes.
-use mathlib.Core.Path.{_≡_}
+use mathlib.Core.Path.{_≡_, refl, subst, _∙_}
+use mathlib.Core.Logic.{_≢_}
 use mathlib.Core.Bool.{Bool, false, _||_}
 use mathlib.Core.List.{List, [], _∷_, _++_, append-assoc, append-nil}
 use Prim.Native.Nat.{ℕ, zero, suc, _+_, _-_, _*_, _≤_, _<_}
-use native.Mathlib.Nat.{add-sub-cancel-left, suc-mul, mul-le-mul-right, sub-zero}
+use native.Mathlib.Nat.{add-sub-cancel-left, add-comm, add-zero, zero-mul, suc-mul, mul-le-mul-right, sub-zero, le-refl, le-of-suc-le-suc, not-suc-le-zero}
 use native.Mathlib.Numerals.{add-one}
 use native.Mathlib.Omega.{arith}
 use mir.Syntax.{w8}
 use mir.Val.{Fits}
 use lib.ListN.{length, take, drop, replicate, getD, length-append, length-drop, drop-of-length-le}
-use lib.Seq.{drop-cons, length-take-le, take-all, take-at}
-use Rattle.theory.specs.Lists.{any}
-use Rattle.theory.proofs.ListLaws.{All}
+use lib.Seq.{drop-cons, length-take-le, take-all, take-at, drop-at, take-append-add}
+use Rattle.theory.specs.Lists.{any, flat, upto}
+use Rattle.theory.proofs.ListLaws.{All, length-drop-past}
+use Rattle.theory.proofs.GrowingLaws.{flat-cong, upto-from}
 use Rattle.theory.proofs.ByteLaws.{Byte}
 
 -- n zeros
@@ -63,12 +65,112 @@ lent-is a b k j xs us e f g = rw (add-sub-cancel-left a k, e, f, g)
 pub back-is : (a b k j : ℕ) (xs us ys zs : List ℕ) → a ≡ b → k ≡ j → xs ≡ us → ys ≡ zs → back a (a + k - a) xs ys ≡ back b j us zs
 back-is a b k j xs us ys zs e f g h = rw (add-sub-cancel-left a k, e, f, g, h)
 
+-- ---- the first m elements, back as ys
+module _ (m : ℕ) (xs ys : List ℕ) (fits : m ≤ length xs) (e : length ys ≡ m) where
+  pub front-length : length (ys ++ drop m xs) ≡ length xs
+  front-length = simp (length-append, e, length-drop) (omega arith)
+
+  pub front-take : take m (ys ++ drop m xs) ≡ ys
+  front-take = take-at ys (drop m xs) m e
+
+  pub front-drop : drop m (ys ++ drop m xs) ≡ drop m xs
+  front-drop = drop-at ys (drop m xs) m e
+
+-- ---- what follows place m, lent to the end, and back as ys
+module _ (m : ℕ) (xs : List ℕ) (fits : m ≤ length xs) where
+  pub length-tail : length (take (length xs - m) (drop m xs)) ≡ length xs - m
+  length-tail = rw (tail-is m xs fits, length-drop)
+
+  module _ (ys : List ℕ) where
+    pub tail-length : length ys ≡ length xs - m → length (back m (length xs - m) xs ys) ≡ length xs
+    tail-length e = simp (length-append, e, length-take-le m xs fits, length-drop) (omega arith)
+
+    pub tail-take : take m (back m (length xs - m) xs ys) ≡ take m xs
+    tail-take = take-at (take m xs) (ys ++ drop (length xs - m) (drop m xs)) m (length-take-le m xs fits)
+
+    pub tail-drop : drop m (back m (length xs - m) xs ys) ≡ ys
+    tail-drop = rw (tail-back m xs ys fits) (drop-at (take m xs) ys m (length-take-le m xs fits))
+
+-- ---- n, k and j places of xs, lent one after the other and back as ys, zs, vs
+module _ (n k j : ℕ) (xs : List ℕ) (long : length xs ≡ n + k + j) where
+  pub first-lent : length (take n xs) ≡ n
+  first-lent = length-take-le n xs (omega arith)
+
+  module _ (ys : List ℕ) (e : length ys ≡ n) where
+    abbrev pub once : List ℕ
+    once = ys ++ drop n xs
+
+    once-long : length once ≡ n + k + j
+    once-long = front-length n xs ys (omega arith) e ∙ long
+
+    pub second-lent : length (take (n + k - n) (drop n once)) ≡ k
+    second-lent = rw add-sub-cancel-left (length-take-le k (drop n once) (rw length-drop (omega (arith, once-long))))
+
+    module _ (zs : List ℕ) (f : length zs ≡ k) where
+      abbrev pub twice : List ℕ
+      twice = take n once ++ (zs ++ drop (n + k - n) (drop n once))
+
+      twice-is : twice ≡ (ys ++ zs) ++ drop k (drop n xs)
+      twice-is = rw (front-take n xs ys (omega arith) e, front-drop n xs ys (omega arith) e, add-sub-cancel-left, append-assoc)
+
+      front-two : length (ys ++ zs) ≡ n + k
+      front-two = rw (length-append, e, f)
+
+      twice-long : length twice ≡ n + k + j
+      twice-long = rw (twice-is, length-append, front-two, length-drop, length-drop, long) (omega arith)
+
+      pub third-lent : length (take (length twice - (n + k)) (drop (n + k) twice)) ≡ j
+      third-lent = length-tail (n + k) twice (omega (arith, twice-long)) ∙ omega (arith, twice-long)
+
+      pub three-back : (vs : List ℕ) → take (n + k) twice ++ (vs ++ drop (length twice - (n + k)) (drop (n + k) twice)) ≡ ys ++ (zs ++ vs)
+      three-back vs =
+          let kept : take (n + k) twice ≡ ys ++ zs = rw twice-is (take-at (ys ++ zs) (drop k (drop n xs)) (n + k) front-two) in
+          let past : length (drop (n + k) twice) ≤ length twice - (n + k) = rw length-drop (le-refl (length twice - (n + k))) in
+          rw (kept, drop-of-length-le (drop (n + k) twice) past, append-nil, append-assoc)
+
+-- ---- the elements of a part of zeros
+zero-at : (n x : ℕ) → getD (zeros n) x 0 ≡ 0
+zero-at zero x = refl
+zero-at (suc n) zero = refl
+zero-at (suc n) (suc x) = zero-at n x
+
+pub zero-at-take : (n m x : ℕ) → getD (take m (zeros n)) x 0 ≡ 0
+zero-at-take n zero x = refl
+zero-at-take zero (suc m) x = refl
+zero-at-take (suc n) (suc m) zero = refl
+zero-at-take (suc n) (suc m) (suc x) = zero-at-take n m x
+
+pub zero-at-drop : (n m x : ℕ) → getD (drop m (zeros n)) x 0 ≡ 0
+zero-at-drop n m x = rw zeros-drop (zero-at (n - m) x)
+
 -- row b of m rows of z
 pub row-fits : (b m z : ℕ) → b < m → b * z + z ≤ m * z
 row-fits b m z h = rw (← suc-mul b z) (mul-le-mul-right z h)
 
 pub row-next : (a b z : ℕ) → a ≡ b * z → a + z ≡ (b + 1) * z
 row-next a b z e = rw (add-one b, suc-mul b z, e)
+
+take-past : (p q : List ℕ) (n k : ℕ) → length p ≡ n → take (n + k) (p ++ q) ≡ p ++ take k q
+take-past p q n k e = subst (λ (m : ℕ). take (m + k) (p ++ q) ≡ p ++ take k q) e (take-append-add p q k)
+
+-- rows of size z: row i back as another one's
+pub flat-set : (f g : ℕ → List ℕ) (z : ℕ) → ((b : ℕ) → length (f b) ≡ z) → (a n i : ℕ) → i < n → ((x : ℕ) → x ≢ a + i → f x ≡ g x)
+    → back (i * z) z (flat f (upto a n)) (g (a + i)) ≡ flat g (upto a n)
+flat-set f g z e a zero i h o = absurd (not-suc-le-zero h)
+flat-set f g z e a (suc n) zero h o =
+    rw (zero-mul, add-zero, drop-at (f a) (flat f (upto (suc a) n)) z (e a), flat-cong f g (upto (suc a) n) (upto-from (λ x. f x ≡ g x) (suc a) n (λ x q. o x (omega arith))))
+flat-set f g z e a (suc n) (suc i) h o =
+    let s : suc i * z ≡ z + i * z = suc-mul i z ∙ add-comm (i * z) z in
+    let q : a + suc i ≡ suc a + i = omega arith in
+    rw (
+      s,
+      q,
+      take-past (f a) (flat f (upto (suc a) n)) z (i * z) (e a),
+      length-drop-past (f a) (flat f (upto (suc a) n)) z (i * z) (e a),
+      append-assoc,
+      flat-set f g z e (suc a) n i (le-of-suc-le-suc h) (λ x t. o x (λ y. t (y ∙ q))),
+      o a (omega arith),
+    )
 
 -- ---- bytes
 -- what a slice of bytes gives of each element, of all

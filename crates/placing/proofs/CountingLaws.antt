@@ -1,20 +1,19 @@
 -- What the loops that count ask: what passes a test, with one element more, and a count raised once for each bucket number of a key.
 -- By the last element of a list that grows at its end.
-use mathlib.Core.Path.{_≡_, refl, sym}
-use mathlib.Core.Bool.{Bool, true, false, cond, _||_, or-assoc, or-false}
-use mathlib.Core.List.{List, [], _∷_, _++_, map, map-append}
+use mathlib.Core.Path.{_≡_}
+use mathlib.Core.Bool.{Bool, true, false, cond, _||_, or-false}
+use mathlib.Core.List.{List, map, map-append}
 use Prim.Native.Nat.{ℕ, _+_, _-_, _<_, _≤_}
 use native.Mathlib.Nat.{add-zero}
-use native.Mathlib.Numerals.{add-one}
 use native.Mathlib.Omega.{arith}
 use lib.Dec.{eqb}
 use borrow.Author.Tests.{eqb-true, eqb-false}
-use lib.ListN.{length, take, getD, set, length-append}
-use lib.Seq.{take-suc, getD-set-same, getD-set-other}
-use Rattle.theory.specs.Lists.{filter, any, has, upto}
+use lib.ListN.{length, getD, set}
+use lib.Seq.{getD-set-same, getD-set-other}
+use Rattle.theory.specs.Lists.{has, upto}
 use Rattle.theory.specs.Hash.{hash, hashes}
 use Rattle.theory.proofs.ListLaws.{by-test}
-use Rattle.hash.proofs.NumberingLaws.{upto-more}
+use Rattle.theory.proofs.GrowingLaws.{upto-more, any-last}
 use Rattle.placing.specs.Worked.{nth}
 
 pub one-bound : (t : Bool) → cond {A = ℕ} t 1 0 ≤ 1
@@ -25,25 +24,6 @@ pub zero-bound : (t : Bool) → cond {A = ℕ} t 0 1 ≤ 1
 zero-bound true = omega arith
 zero-bound false = omega arith
 
--- ---- what passes a test, of two lists and of one element more
-module _ {A : Type 0} (p : A → Bool) where
-  pub filter-append : (l m : List A) → filter p (l ++ m) ≡ filter p l ++ filter p m
-  filter-append [] m = refl
-  filter-append (x ∷ xs) m = by-test (p x) (λ e. rw (e, filter-append xs m)) (λ e. rw (e, filter-append xs m))
-
-  pub count-append : (l m : List A) → length (filter p (l ++ m)) ≡ length (filter p l) + length (filter p m)
-  count-append l m = rw (filter-append l m, length-append)
-
-  pub count-end : (l : List A) (x : A) → length (filter p (l ++ (x ∷ []))) ≡ length (filter p l) + cond (p x) 1 0
-  count-end l x = rw (count-append l (x ∷ [])) (by-test (p x) (λ e. rw e) (λ e. rw e))
-
-take-more : (l : List ℕ) (i : ℕ) → i < length l → take (i + 1) l ≡ take i l ++ (getD l i 0 ∷ [])
-take-more l i h = rw (add-one i) (take-suc l i 0 h)
-
-pub count-take : (p : ℕ → Bool) (l : List ℕ) (i : ℕ) → i < length l
-    → length (filter p (take (i + 1) l)) ≡ length (filter p (take i l)) + cond (p (getD l i 0)) 1 0
-count-take p l i h = rw (take-more l i h) (count-end p (take i l) (getD l i 0))
-
 -- ---- a count raised
 pub raise : (c : List ℕ) (x v : ℕ) → x < length c → (b : ℕ) → nth (set c x (nth c x + v)) b ≡ nth c b + cond (eqb b x) v 0
 raise c x v h b =
@@ -51,10 +31,6 @@ raise c x v h b =
     (λ q. rw (q, getD-set-other c x b (getD c x 0 + v) 0 (eqb-false b x q), add-zero))
 
 -- ---- the counts of the first j hashes, each raised once
-any-last : (p : ℕ → Bool) (l : List ℕ) (x : ℕ) → any p (l ++ (x ∷ [])) ≡ (any p l || p x)
-any-last p [] x = or-false (p x)
-any-last p (y ∷ ys) x = rw (any-last p ys x) (sym (or-assoc (p y) (any p ys) (p x)))
-
 has-next : (b m h j : ℕ) → has b (hashes m h 0 (j + 1)) ≡ (has b (hashes m h 0 j) || eqb b (hash m h j))
 has-next b m h j =
     let now : j - 0 ≡ j = omega arith in

@@ -1,23 +1,23 @@
 -- What the loops over the records of an area ask: the next record and its key, and what is counted of the records, with one record more.
 -- By the last record of a list that grows at its end.
-use mathlib.Core.Path.{_≡_, refl, sym, ap, _∙_}
+use mathlib.Core.Path.{_≡_, refl, sym, _∙_}
 use mathlib.Core.Bool.{Bool, cond, not, _&&_}
 use mathlib.Core.List.{List, [], _∷_, _++_, map-append}
-use Prim.Native.Nat.{ℕ, zero, suc, _+_, _-_, _*_, _<_, _≤_}
-use native.Mathlib.Nat.{add-zero, add-sub-cancel-left, add-comm, suc-mul, zero-mul, mul-le-mul-right}
+use Prim.Native.Nat.{ℕ, _+_, _-_, _*_, _<_, _≤_}
+use native.Mathlib.Nat.{add-zero, add-sub-cancel-left, suc-mul, mul-le-mul-right}
 use native.Mathlib.Numerals.{add-one}
 use native.Mathlib.Omega.{arith}
 use lib.Dec.{eqb}
 use lib.ListN.{length, take, drop, set, length-drop}
-use lib.Seq.{length-take-le, drop-drop, take-suc-set, take-all}
+use lib.Seq.{length-take-le, take-suc-set, take-all}
 use Rattle.theory.specs.Lists.{filter, has}
 use Rattle.theory.specs.Records.{Record, entries, record-at, records}
 use Rattle.theory.specs.Settings.{Card, record-size}
 use Rattle.theory.specs.Placing.{true-count, all-top, chosen, chooses, choosers}
 use Rattle.theory.proofs.ListLaws.{filter-len}
+use Rattle.theory.proofs.GrowingLaws.{count-append, count-end, records-more}
 use Rattle.theory.proofs.ByteLaws.{length-records}
 use Rattle.placing.specs.Worked.{nth, choice-by, choices-by, Chose}
-use Rattle.placing.proofs.CountingLaws.{count-append, count-end}
 
 -- ---- the place of record i, where width and size are the card's
 module _ (s : Card) (width size at i : ℕ) (wide : width ≡ s .width) (sized : size ≡ record-size s) (here : at ≡ i * (s .width + 4)) where
@@ -40,16 +40,6 @@ key-lent at width w a e = rw (add-sub-cancel-left at width, e)
 
 pub key-length : (at width w : ℕ) (a : List ℕ) → width ≡ w → at + width ≤ length a → length (take (at + width - at) (drop at a)) ≡ w
 key-length at width w a e h = rw (key-lent at width w a e) (length-take-le w (drop at a) (rw length-drop (omega arith)))
-
--- ---- records, with one more
-records-end : (w n : ℕ) (a : List ℕ) → records w (suc n) a ≡ records w n a ++ (record-at w (drop (n * (w + 4)) a) ∷ [])
-unfolding records entries
-records-end w zero a = rw zero-mul
-records-end w (suc n) a =
-    rw (suc-mul, add-comm (n * (w + 4)) (w + 4), ← drop-drop (n * (w + 4)) (w + 4) a) (ap (λ (r : List Record). record-at w a ∷ r) (records-end w n (drop (w + 4) a)))
-
-pub records-more : (w i : ℕ) (a : List ℕ) → records w (i + 1) a ≡ records w i a ++ (record-at w (drop (i * (w + 4)) a) ∷ [])
-records-more w i a = rw (add-one i) (records-end w i a)
 
 -- ---- how many records pass a test of their key
 module _ (p : List ℕ → Bool) where

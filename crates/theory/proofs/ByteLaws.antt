@@ -136,7 +136,7 @@ module _ (w : ℕ) where
   unfolding records
   records-fit n a h b = all-entries (w + 4) (record-at w) record-bytes (Fit w) record-fits n a h b
 
-  write-record : (a : List ℕ) → w + 4 ≤ length a → All Byte a → record-bytes (record-at w a) ≡ take (w + 4) a
+  pub write-record : (a : List ℕ) → w + 4 ≤ length a → All Byte a → record-bytes (record-at w a) ≡ take (w + 4) a
   unfolding record-bytes record-at
   write-record a h b = rw (to-of-bytes (drop w a) (all-drop Byte w a b) 4 (rw length-drop (omega arith)), take-add)
 

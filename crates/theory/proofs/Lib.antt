@@ -1,4 +1,5 @@
 pub mod ListLaws
+pub mod GrowingLaws
 pub mod NumberLaws
 pub mod SettingsLaws
 pub mod RankLaws

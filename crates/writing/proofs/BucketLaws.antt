@@ -20,13 +20,11 @@ use Rattle.theory.proofs.SettingsLaws.{Sound}
 use Rattle.theory.proofs.ByteLaws.{Fit, length-record}
 use Rattle.theory.proofs.LayoutLaws.{length-places}
 use Rattle.theory.proofs.PlacingLaws.{chosen-below}
-use Rattle.memory.proofs.SliceLaws.{back, length-lent, zeros, zeros-drop, length-back, take-back, lent-is, back-is, row-fits}
+use Rattle.theory.proofs.GrowingLaws.{flat-append, flat-cong, flat-more, filter-mono, filter-append, records-more}
+use Rattle.memory.proofs.SliceLaws.{back, length-lent, zeros, zeros-drop, length-back, take-back, lent-is, back-is, row-fits, flat-set}
 use Rattle.placing.specs.Worked.{nth, belongs-by, Worked, choice-by}
-use Rattle.placing.proofs.CountingLaws.{filter-append}
-use Rattle.placing.proofs.RecordLaws.{records-more}
 use Rattle.placing.proofs.WorkLaws.{counts-are}
 use Rattle.writing.specs.Buckets.{crowded-by, blank-bucket, blank-buckets, growing-bucket, growing-buckets, placed, appended}
-use Rattle.writing.proofs.MoreLaws.{flat-append, flat-cong, flat-more, flat-set, filter-mono}
 use Rattle.writing.proofs.PartLaws.{Turn, turn-bytes, turn-record, turn-fit}
 
 -- ---- record places, with one record more

@@ -12,9 +12,9 @@ use Rattle.theory.specs.Settings.{Card}
 use Rattle.theory.specs.Placing.{clip, true-count}
 use Rattle.theory.specs.Layout.{counter-bytes}
 use Rattle.theory.proofs.ListLaws.{length-upto, getD-map-upto}
+use Rattle.theory.proofs.GrowingLaws.{upto-more}
 use Rattle.placing.specs.Worked.{Worked}
 use Rattle.writing.specs.Counts.{clipped-byte, clipped-bytes}
-use Rattle.writing.proofs.MoreLaws.{upto-more}
 
 -- ---- clipped counts
 pub clipped-none : (top : ℕ) (c : ℕ → ℕ) → [] ≡ clipped-bytes top c 0

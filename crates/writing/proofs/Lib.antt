@@ -1,5 +1,4 @@
 pub mod ChoiceLaws
-pub mod MoreLaws
 pub mod PartLaws
 pub mod CountLaws
 pub mod BucketLaws

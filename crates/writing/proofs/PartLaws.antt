@@ -7,9 +7,8 @@ use native.Mathlib.Omega.{arith}
 use lib.ListN.{length, take, drop, length-drop}
 use Rattle.theory.specs.Records.{record-bytes, record-at, records}
 use Rattle.theory.proofs.ListLaws.{All, all-drop}
-use Rattle.theory.proofs.ByteLaws.{Byte, Fit, records-fit}
+use Rattle.theory.proofs.ByteLaws.{Byte, Fit, records-fit, write-record}
 use Rattle.memory.proofs.SliceLaws.{length-part, row-fits}
-use Rattle.writing.proofs.MoreLaws.{record-is}
 
 -- ---- the turn of record i of the n in an area of bytes, with keys of w bytes
 pub record Turn (w n i : ℕ) (area : List ℕ) : Type 0 where
@@ -30,7 +29,7 @@ module _ {w n i : ℕ} {area : List ℕ} (h : Turn w n i area) where
 
   pub turn-record : record-bytes (record-at w (drop (i * (w + 4)) area)) ≡ take (w + 4) (drop (i * (w + 4)) area)
   turn-record =
-      record-is w (drop (i * (w + 4)) area) (rw length-drop (omega (arith, within))) (all-drop Byte (i * (w + 4)) area (h .octets))
+      write-record w (drop (i * (w + 4)) area) (rw length-drop (omega (arith, within))) (all-drop Byte (i * (w + 4)) area (h .octets))
 
   pub turn-fit : (k : ℕ) → k ≤ n → All (Fit w) (records w k area)
   turn-fit k le = records-fit w k area (omega (arith, mul-le-mul-right (w + 4) le)) (h .octets)

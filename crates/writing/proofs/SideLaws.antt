@@ -15,13 +15,11 @@ use Rattle.theory.specs.Ledger.{side-need-of}
 use Rattle.theory.proofs.ListLaws.{All, filter-all}
 use Rattle.theory.proofs.ByteLaws.{Fit}
 use Rattle.theory.proofs.LayoutLaws.{length-places}
+use Rattle.theory.proofs.GrowingLaws.{filter-mono, filter-append, records-more}
 use Rattle.memory.proofs.SliceLaws.{back, zeros, row-fits}
 use Rattle.placing.specs.Worked.{nth, belongs-by, Worked}
-use Rattle.placing.proofs.CountingLaws.{filter-append}
-use Rattle.placing.proofs.RecordLaws.{records-more}
 use Rattle.placing.proofs.WorkLaws.{belongs-is, need-is}
 use Rattle.writing.specs.Side.{sent-to-side, sent, sent-places}
-use Rattle.writing.proofs.MoreLaws.{filter-mono}
 use Rattle.writing.proofs.PartLaws.{Turn, turn-record, turn-fit}
 use Rattle.writing.proofs.BucketLaws.{places-more}
 

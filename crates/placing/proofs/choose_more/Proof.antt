@@ -11,13 +11,14 @@ use lib.Seq.{length-take-le}
 use Rattle.theory.specs.Records.{records}
 use Rattle.theory.specs.Settings.{Card}
 use Rattle.theory.specs.Placing.{all-top, chosen}
+use Rattle.memory.proofs.SliceLaws.{tail-is, length-tail, tail-length, tail-take, tail-drop}
 use Rattle.settings.specs.Checked.{paper, card}
 use Rattle.settings.specs.declared.Settings.{Settings}
 use Rattle.settings.proofs.Laws.{bounds}
 use Rattle.placing.specs.declared.Choice.{Choice}
 use Rattle.placing.specs.Worked.{nth, Chose}
 use Rattle.placing.proofs.RecordLaws.{record-within, next-at, key-lent, key-length, choosers-bound, chose-none, chose-all, chose-more}
-use Rattle.placing.proofs.WorkLaws.{tail-is, length-tail, back-length, back-take, back-drop, picked-within}
+use Rattle.placing.proofs.WorkLaws.{picked-within}
 use Rattle.placing.proofs.ReadyLaws.{sound-card, chosen-within}
 use Rattle.placing.proofs.choose_more.Statement.{statement}
 use Rattle.placing.proofs.choose_more.Tie as tie
@@ -117,7 +118,7 @@ module _ (c : tie.After-slice-known3 Inv-loop μ-loop) where
   added : (b : ℕ) → nth (drop (m (sized in-loop)) new) b ≡ nth (drop (m (sized in-loop)) (work in-loop)) b
       + cond (not (choice (c .before .before .before .before) .«all_top») && eqb b (choice (c .before .before .before .before) .bucket)) 1 0
   added b =
-      ap (λ (z : List ℕ). nth z b) (back-drop (m (sized in-loop)) (work in-loop) (halved in-loop) ys)
+      ap (λ (z : List ℕ). nth z b) (tail-drop (m (sized in-loop)) (work in-loop) (halved in-loop) ys)
       ∙ rw (tail-is (m (sized in-loop)) (work in-loop) (halved in-loop)) at (c .before .before .add-choice .ensures b)
 
 loop-holds : tie.Need-loop-holds Inv-loop μ-loop
@@ -164,11 +165,11 @@ loop-again c =
     record {
       within = omega (arith, in-loop .loop-test .taken);
       here = next-at (s whole) _ _ _ _ (width-is whole) (whole .record-size .ensures) (loop .inv .here);
-      halves = back-length (m whole) (work in-loop) (halved in-loop) ys long ∙ loop .inv .halves;
+      halves = tail-length (m whole) (work in-loop) (halved in-loop) ys long ∙ loop .inv .halves;
       places = simp length-set (loop .inv .places);
       chose =
           chose-more (s whole) _ _ _ _ _ _ (loop .kept) (loop .inv .chose) _ _ _ (loop .inv .here) (top-is made) (bucket-is made) _
-          (back-take (m whole) (work in-loop) (halved in-loop) ys) (added c) _ (kept-is made) (omega (arith, loop .inv .places, in-loop .loop-test .taken));
+          (tail-take (m whole) (work in-loop) (halved in-loop) ys) (added c) _ (kept-is made) (omega (arith, loop .inv .places, in-loop .loop-test .taken));
     }
 
 returns : tie.Need-returns Inv-loop μ-loop

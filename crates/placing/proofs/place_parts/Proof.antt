@@ -6,8 +6,9 @@ use native.Mathlib.Omega.{arith}
 use borrow.Author.Needs.{needs}
 use lib.ListN.{length, take, drop}
 use lib.Seq.{length-take-le}
+use Rattle.memory.proofs.SliceLaws.{front-length, front-take, front-drop, zero-at-take, zero-at-drop}
 use Rattle.placing.specs.Worked.{nth}
-use Rattle.placing.proofs.WorkLaws.{front-length, front-take, front-drop, zeros-take, zeros-drop, placed}
+use Rattle.placing.proofs.WorkLaws.{placed}
 use Rattle.placing.proofs.place_parts.Statement.{statement}
 use Rattle.placing.proofs.place_parts.Tie as tie
 
@@ -45,7 +46,7 @@ module _ (c : tie.After-count-parts) where
   rest-zero : (x : ℕ) → nth (drop (m zeroed) work) x ≡ 0
   rest-zero x =
       ap (λ (z : List ℕ). nth z x) (front-drop (m zeroed) (zeros zeroed) counts (long zeroed) counts-long)
-      ∙ ap (λ (z : List ℕ). nth (drop (m zeroed) z) x) (zeroed .zero-counts .ensures) ∙ zeros-drop (length (start zeroed .args .work .now)) (m zeroed) x
+      ∙ ap (λ (z : List ℕ). nth (drop (m zeroed) z) x) (zeroed .zero-counts .ensures) ∙ zero-at-drop (length (start zeroed .args .work .now)) (m zeroed) x
 
 count-parts-requires : tie.Need-count-parts-requires
 count-parts-requires c κs =
@@ -57,7 +58,7 @@ count-parts-requires c κs =
       p .middle,
       p .after,
       p .few,
-      λ x. rw (zeroed .zero-counts .ensures) (zeros-take (length (start zeroed .args .work .now)) (m zeroed) x),
+      λ x. rw (zeroed .zero-counts .ensures) (zero-at-take (length (start zeroed .args .work .now)) (m zeroed) x),
     )
 
 choose-parts-requires : tie.Need-choose-parts-requires

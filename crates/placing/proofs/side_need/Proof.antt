@@ -9,10 +9,11 @@ use lib.ListN.{length, take, drop}
 use lib.Seq.{take-all}
 use Rattle.theory.specs.Lists.{filter}
 use Rattle.theory.proofs.SettingsLaws.{sound}
+use Rattle.theory.proofs.GrowingLaws.{count-take}
 use Rattle.settings.specs.Checked.{card}
 use Rattle.settings.specs.declared.Settings.{Settings}
 use Rattle.placing.specs.Worked.{nth, side-by-choice}
-use Rattle.placing.proofs.CountingLaws.{one-bound, count-take}
+use Rattle.placing.proofs.CountingLaws.{one-bound}
 use Rattle.placing.proofs.WorkLaws.{need-kept}
 use Rattle.placing.proofs.side_need.Statement.{statement}
 use Rattle.placing.proofs.side_need.Tie as tie

@@ -8,9 +8,10 @@ use lib.Seq.{length-take-le}
 use Rattle.theory.specs.Settings.{Card}
 use Rattle.theory.specs.Records.{records}
 use Rattle.theory.proofs.SettingsLaws.{sound}
+use Rattle.memory.proofs.SliceLaws.{front-length, front-take}
 use Rattle.settings.specs.Checked.{paper, card}
 use Rattle.placing.specs.Worked.{Placed}
-use Rattle.placing.proofs.WorkLaws.{front-length, front-take, kept-within}
+use Rattle.placing.proofs.WorkLaws.{kept-within}
 use Rattle.snapshot.proofs.PartLaws.{one-part, no-room}
 use borrow.Author.Needs.{needs}
 use Rattle.snapshot.proofs.place_records.Statement.{statement}

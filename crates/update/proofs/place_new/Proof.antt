@@ -9,9 +9,10 @@ use Rattle.theory.specs.Settings.{Card}
 use Rattle.theory.specs.Records.{Record, records, record-bytes}
 use Rattle.theory.proofs.SettingsLaws.{sound}
 use Rattle.theory.proofs.ByteLaws.{Fit}
+use Rattle.memory.proofs.SliceLaws.{front-length, front-take}
 use Rattle.settings.specs.Checked.{paper, card}
 use Rattle.placing.specs.Worked.{Placed}
-use Rattle.placing.proofs.WorkLaws.{front-length, front-take, kept-within}
+use Rattle.placing.proofs.WorkLaws.{kept-within}
 use Rattle.update.specs.Editing.{edited, brings, leaves-out}
 use Rattle.update.proofs.EditLaws.{size-is, within, Around, from-within, after-within, first-room, mid-room, last-room, new-list, total-is}
 use borrow.Author.Needs.{needs}

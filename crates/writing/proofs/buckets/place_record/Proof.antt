@@ -8,12 +8,10 @@ use native.Mathlib.Omega.{arith}
 use lib.ListN.{length, take, drop}
 use Rattle.theory.specs.Settings.{Card, record-size, bucket-size}
 use Rattle.theory.proofs.SettingsLaws.{Sound, sound}
-use Rattle.theory.proofs.ByteLaws.{Byte}
 use Rattle.settings.specs.Checked.{paper, card}
-use Rattle.memory.proofs.SliceLaws.{length-lent, row-fits}
+use Rattle.memory.proofs.SliceLaws.{length-lent, row-fits, bytes-of}
 use Rattle.placing.specs.Worked.{nth, belongs-by}
 use Rattle.writing.proofs.ChoiceLaws.{key-at, kept-length, kept-is, kept-most, kept-side}
-use Rattle.writing.proofs.MoreLaws.{all-from}
 use Rattle.writing.proofs.PartLaws.{Turn, within-by}
 use Rattle.writing.proofs.BucketLaws.{skip-side, ChosenPart, chosen-part}
 use borrow.Author.Needs.{needs}
@@ -54,7 +52,7 @@ module _ (c : tie.After-shared-slice-known3) where
   turn : Turn (s entry .width) (entry .args .n) (entry .args .i) (area entry)
   turn =
       let laying = entry .pre .0 in
-      record { wide = laying .records-fit; below = entry .pre .1; octets = all-from Byte (area entry) (λ j. omega (arith, c .shared-slice-known3 .given j)) }
+      record { wide = laying .records-fit; below = entry .pre .1; octets = bytes-of (area entry) (c .shared-slice-known3 .given) }
 
 -- ---- whether it belongs to the side
 module _ (c : tie.After-aside) where

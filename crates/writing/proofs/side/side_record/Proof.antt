@@ -10,12 +10,10 @@ use lib.ListN.{length, take, drop}
 use Rattle.theory.specs.Records.{Record, records}
 use Rattle.theory.specs.Settings.{Card, record-size}
 use Rattle.theory.specs.Layout.{places}
-use Rattle.theory.proofs.ByteLaws.{Byte}
-use Rattle.memory.proofs.SliceLaws.{lent-is, back-is}
+use Rattle.memory.proofs.SliceLaws.{lent-is, back-is, bytes-of}
 use Rattle.settings.specs.Checked.{card}
 use Rattle.placing.specs.Worked.{nth, belongs-by, Worked}
 use Rattle.writing.proofs.ChoiceLaws.{key-at, kept-length, kept-most, kept-side}
-use Rattle.writing.proofs.MoreLaws.{all-from}
 use Rattle.writing.proofs.PartLaws.{Turn, within-by}
 use Rattle.writing.proofs.SideLaws.{not-sent, sent-length, place-within, sent-put}
 use borrow.Author.Needs.{needs}
@@ -47,7 +45,7 @@ module _ (c : tie.After-shared-slice-known3) where
   turn : Turn (s entry .width) (entry .args .n) (entry .args .i) (area entry)
   turn =
       let laying = entry .pre .0 in
-      record { wide = laying .records-fit; below = entry .pre .1; octets = all-from Byte (area entry) (λ j. omega (arith, c .shared-slice-known3 .given j)) }
+      record { wide = laying .records-fit; below = entry .pre .1; octets = bytes-of (area entry) (c .shared-slice-known3 .given) }
 
 -- ---- whether it belongs to the side
 module _ (c : tie.After-aside) where
