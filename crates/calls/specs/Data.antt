@@ -13,7 +13,7 @@ use Rattle.calls.specs.declared.Reply.the-variants.{Answered, Totalled}
 -- the call of a kind, with a key and a class
 abbrev pub call-of : Kind → List ℕ → ℕ → plain.Call
 call-of Clear k x = plain.clear
-call-of (Update edit) k x = edits.call-of edit k x
+call-of (Update edit) k x = edits.edit-call edit k x
 call-of Search k x = plain.search k
 call-of Tally k x = plain.tally
 

@@ -17,7 +17,7 @@ use Rattle.hash.specs.Numbering.{Holds}
 use Rattle.theory.proofs.ListLaws.{by-test}
 use Rattle.hash.specs.Digits.{table-entries}
 use Rattle.hash.specs.Table.{TableFor, H-by}
-use Rattle.hash.proofs.KeyLaws.{by-right}
+use Rattle.hash.proofs.KeyHashLaws.{by-right}
 use Rattle.hash.proofs.DigitLaws.{table-entries-right}
 use Rattle.hash.proofs.TableLaws.{length-allowed}
 use Rattle.card.proofs.AreaLaws.{counted-is}

@@ -1,4 +1,4 @@
 mod AreaLaws
 mod DoorLaws
 mod ReadingLaws
-pub mod SnapshotLaws
+pub mod SnapshotDoorLaws

@@ -133,7 +133,7 @@ pub extern "C" fn flow_hash_lent(lent: &[u64], key: &[u8], h: &mut [u64]) -> u32
     if key.len() != Settings::KEY_WIDTH {
         return 3;
     }
-    h[0] = hash::h_lent(lent, key);
+    h[0] = hash::h_with_table(lent, key);
     0
 }
 

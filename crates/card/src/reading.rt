@@ -69,7 +69,7 @@ pub extern "C" fn flow_search_lent(
         capacity,
         side_places,
     };
-    driver_number(lookup::searching::search_lent(table, given, clipped, buckets, side, key))
+    driver_number(lookup::searching::search_with_table(table, given, clipped, buckets, side, key))
 }
 
 // Many keys at once, with a table that the driver keeps: 1; 2; 3 if `keys` is not of as many keys as there are answers; else each answer is the number of its key.

@@ -5,5 +5,5 @@ pub mod RowLaws
 pub mod Doubling
 pub mod DigitLaws
 pub mod TableLaws
-pub mod KeyLaws
+pub mod KeyHashLaws
 pub mod NumberingLaws

@@ -49,7 +49,7 @@ pub fn fill_table(out: &mut [u64])
 }
 
 // The xor of a lent table's entries for the bytes of a key, with one read a byte; a right table gives H.
-pub fn h_lent(t: &[u64], key: &[u8]) -> u64
+pub fn h_with_table(t: &[u64], key: &[u8]) -> u64
     requires { ⌜ table-length 8 (length (now key)) ≤ length (now t) ⌝ }
     ensures { λ r. ⌜ (r ≡ H-by (now (t .entry)) (now (key .entry)))
         × (TableFor (length (now (key .entry))) (now (t .entry)) → r ≡ H-of (now (key .entry))) ⌝ }

@@ -1,6 +1,6 @@
-pub mod KeyLaws
-pub mod RecordLaws
+pub mod KeyCompareLaws
+pub mod RisingLaws
 pub mod LedgerLaws
 pub mod SpotLaws
 pub mod ShiftLaws
-pub mod EditLaws
+pub mod LedgerEditLaws

@@ -24,7 +24,7 @@ use Rattle.theory.proofs.CallLaws.{valid}
 use Rattle.ledger.specs.declared.spots.Spot.{Spot}
 use Rattle.ledger.specs.Spots.{SpotOf}
 use Rattle.memory.proofs.SliceLaws.{tail-is}
-use Rattle.ledger.proofs.RecordLaws.{key-is}
+use Rattle.ledger.proofs.RisingLaws.{key-is}
 use Rattle.ledger.proofs.LedgerLaws.{has-count, records-room, records-are, records-rise}
 
 -- ---- keys

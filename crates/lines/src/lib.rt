@@ -70,7 +70,7 @@ fn written(class: u32, x: Answer) -> Answer
 
 // Of an update: the class that an add or a change has written.
 fn updated(edit: Edit, class: u32, x: Answer) -> Answer
-    ensures { λ r. ⌜ ((key : List ℕ) → answer-of r ≡ flowrun.printed (edits.call-of edit key class) (answered (answer-of x))) ⌝ }
+    ensures { λ r. ⌜ ((key : List ℕ) → answer-of r ≡ flowrun.printed (edits.edit-call edit key class) (answered (answer-of x))) ⌝ }
 {
     match edit {
         Edit::Insert => written(class, x),

@@ -22,15 +22,15 @@ use Rattle.theory.proofs.SettingsLaws.{ranges}
 use Rattle.hash.specs.Table.{table-lengths, TableFor, H-by}
 use Rattle.settings.specs.declared.Settings.{Settings}
 use Rattle.settings.specs.Checked.{paper, card}
-use Rattle.lookup.specs.declared.counters.Choice.{Choice}
-use Rattle.lookup.specs.Choosing.{card-at, ChoiceOf}
-use Rattle.lookup.specs.Places.{ChoiceFits, place-by}
+use Rattle.lookup.specs.declared.counters.KeyCounters.{KeyCounters}
+use Rattle.lookup.specs.Choosing.{card-at, KeyCountersOf}
+use Rattle.lookup.specs.Places.{KeyCountersFit, place-by}
 use Rattle.lookup.specs.declared.judging.Judged.the-variants.{Ready, Refused}
-use Rattle.lookup.specs.Bursts.{key-at, each, judged-burst, packed-of, unpacked-of, choice-at, number-by, number-at, burst-of}
+use Rattle.lookup.specs.Bursts.{key-at, each, judged-burst, packed-of, unpacked-of, key-counters-at, number-by, number-at, burst-of}
 use Rattle.lookup.specs.Answers.{search-of, judged-of, search-with}
-use Rattle.lookup.proofs.PlaceLaws.{choice-fits, place-by-is, search-is, hashed}
+use Rattle.lookup.proofs.PlaceLaws.{key-counters-fit, place-by-is, search-is, hashed}
 use Rattle.lookup.proofs.JudgeLaws.{lengths-right, burst-lengths, fine-burst, refused-is, fine, passes, search-number, lent-judged}
-use Rattle.lookup.proofs.TableLaws.{with-ready, with-number}
+use Rattle.lookup.proofs.WithTableLaws.{with-ready, with-number}
 
 -- ---- a number for each key: one of them, how many, and two alike
 pub each-at : (f : ℕ → ℕ) (n j : ℕ) → j < n → getD (each f n) j 0 ≡ f j
@@ -95,8 +95,8 @@ module _ (w len n : ℕ) (some-width : 0 < w) where
       (λ r. rw r)))
 
 -- ---- what the counters say, kept as one number and read back
-same-choice : (c : Choice) (a : Bool) (l b : ℕ) → a ≡ c .above → l ≡ c .least .0 → b ≡ c .bucket
-    → _≡_ {A = Choice} (record { above = a; least = record { 0 = l }; bucket = b }) c
+same-choice : (c : KeyCounters) (a : Bool) (l b : ℕ) → a ≡ c .above → l ≡ c .least .0 → b ≡ c .bucket
+    → _≡_ {A = KeyCounters} (record { above = a; least = record { 0 = l }; bucket = b }) c
 same-choice c a l b p q r = rw (p, q, r)
 
 module _ (l b : ℕ) (few : l < 65536) (low : b < 65536) where
@@ -112,7 +112,7 @@ module _ (l b : ℕ) (few : l < 65536) (low : b < 65536) where
   back-bucket true = omega arith
   back-bucket false = omega arith
 
-read-back : (c : Choice) → c .least .0 < 65536 → c .bucket < 65536 → unpacked-of (packed-of c) ≡ c
+read-back : (c : KeyCounters) → c .least .0 < 65536 → c .bucket < 65536 → unpacked-of (packed-of c) ≡ c
 read-back c few low =
     let l = c .least .0 in
     let b = c .bucket in
@@ -120,16 +120,16 @@ read-back c few low =
 
 module _ (t : plain.Settings) (ok : plain.allowed t ≡ true) (clipped : List ℕ) (h : ℕ) where
   -- a choice is the definition's
-  pub choice-is : (c : Choice) → ChoiceOf t h clipped c → c ≡ choice-at t clipped h
-  unfolding choice-at
+  pub choice-is : (c : KeyCounters) → KeyCountersOf t h clipped c → c ≡ key-counters-at t clipped h
+  unfolding key-counters-at
   choice-is c of = sym (same-choice c _ _ _ (sym (of .above)) (sym (of .least [])) (sym (of .bucket [])))
 
-  of-at : ChoiceOf t h clipped (choice-at t clipped h)
-  unfolding choice-at least-count chosen card-at
+  of-at : KeyCountersOf t h clipped (key-counters-at t clipped h)
+  unfolding key-counters-at least-count chosen card-at
   of-at = record { above = refl; least = λ key. refl; bucket = λ key. refl }
 
-  pub at-small : (choice-at t clipped h .least .0 < 65536) × (choice-at t clipped h .bucket < 65536)
-  unfolding choice-at least-count chosen card-at card-of
+  pub at-small : (key-counters-at t clipped h .least .0 < 65536) × (key-counters-at t clipped h .bucket < 65536)
+  unfolding key-counters-at least-count chosen card-at card-of
   at-small =
       let ns = numbers-of (2 ^ t .p) (t .k) h in
       let low = least (t .top) (map (counter clipped) ns) in
@@ -137,36 +137,36 @@ module _ (t : plain.Settings) (ok : plain.allowed t ≡ true) (clipped : List �
       let few : 2 ^ t .p ≤ 2 ^ 12 = pow-mono {j = 12} (r .p-high) in
       (omega (arith, least-le (t .top) (map (counter clipped) ns)), omega (arith, least-le (2 ^ t .p) (filter (λ b. eqb (counter clipped b) low) ns)))
 
-  at-back : unpacked-of (packed-of (choice-at t clipped h)) ≡ choice-at t clipped h
-  at-back = read-back (choice-at t clipped h) (at-small .0) (at-small .1)
+  at-back : unpacked-of (packed-of (key-counters-at t clipped h)) ≡ key-counters-at t clipped h
+  at-back = read-back (key-counters-at t clipped h) (at-small .0) (at-small .1)
 
-  pub at-fits : ChoiceFits t (unpacked-of (packed-of (choice-at t clipped h)))
-  at-fits = rw at-back (choice-fits t ok h clipped (choice-at t clipped h) of-at)
+  pub at-fits : KeyCountersFit t (unpacked-of (packed-of (key-counters-at t clipped h)))
+  at-fits = rw at-back (key-counters-fit t ok h clipped (key-counters-at t clipped h) of-at)
 
-  pub number-is : (buckets side key : List ℕ) → number-by t buckets side key (packed-of (choice-at t clipped h)) ≡ number-at t clipped buckets side key h
+  pub number-is : (buckets side key : List ℕ) → number-by t buckets side key (packed-of (key-counters-at t clipped h)) ≡ number-at t clipped buckets side key h
   unfolding number-by number-at
   number-is buckets side key =
-      rw at-back (ap driver-number (search-is t h clipped buckets side key _ (place-by-is t ok h clipped (choice-at t clipped h) of-at buckets side key)))
+      rw at-back (ap driver-number (search-is t h clipped buckets side key _ (place-by-is t ok h clipped (key-counters-at t clipped h) of-at buckets side key)))
 
 -- the number of an answer that was found by a choice read back from x
-pub number-from : (t : plain.Settings) (buckets side key lent : List ℕ) (x r : ℕ) (c : Choice) (a : Answer) → r ≡ driver-number a
+pub number-from : (t : plain.Settings) (buckets side key lent : List ℕ) (x r : ℕ) (c : KeyCounters) (a : Answer) → r ≡ driver-number a
     → a ≡ answer-at (card-of t) lent (place-by (card-of t) c buckets side) → lent ≡ key → c ≡ unpacked-of x → r ≡ number-by t buckets side key x
 unfolding number-by
 number-from t buckets side key lent x r c a is-number is-answer is-key is-choice = rw (is-number, is-answer, is-key, is-choice)
 
 -- ---- the three passes, one after the other, over numbers h for n keys
 module _ (t : plain.Settings) (ok : plain.allowed t ≡ true) (clipped : List ℕ) (h : ℕ → ℕ) (n : ℕ) (hs packed : List ℕ) (hashed : hs ≡ each h n)
-    (said : packed ≡ each (λ j. packed-of (choice-at t clipped (getD hs j 0))) (length hs)) where
+    (said : packed ≡ each (λ j. packed-of (key-counters-at t clipped (getD hs j 0))) (length hs)) where
   pub packed-length : length packed ≡ n
   packed-length = ap length said ∙ each-length _ (length hs) ∙ ap length hashed ∙ each-length h n
 
-  packed-at : (j : ℕ) → j < n → getD packed j 0 ≡ packed-of (choice-at t clipped (h j))
+  packed-at : (j : ℕ) → j < n → getD packed j 0 ≡ packed-of (key-counters-at t clipped (h j))
   packed-at j lt =
       let size : length hs ≡ n = ap length hashed ∙ each-length h n in
-      ap (λ (l : List ℕ). getD l j 0) said ∙ each-at (λ i. packed-of (choice-at t clipped (getD hs i 0))) (length hs) j (omega (arith, size))
-      ∙ ap (λ (x : ℕ). packed-of (choice-at t clipped x)) (ap (λ (l : List ℕ). getD l j 0) hashed ∙ each-at h n j lt)
+      ap (λ (l : List ℕ). getD l j 0) said ∙ each-at (λ i. packed-of (key-counters-at t clipped (getD hs i 0))) (length hs) j (omega (arith, size))
+      ∙ ap (λ (x : ℕ). packed-of (key-counters-at t clipped x)) (ap (λ (l : List ℕ). getD l j 0) hashed ∙ each-at h n j lt)
 
-  pub packed-fits : (j : ℕ) → j < length packed → ChoiceFits t (unpacked-of (getD packed j 0))
+  pub packed-fits : (j : ℕ) → j < length packed → KeyCountersFit t (unpacked-of (getD packed j 0))
   packed-fits j lt = rw (packed-at j (omega (arith, packed-length))) (at-fits t ok clipped (h j))
 
   pub numbered : (buckets side keys : List ℕ) (w : ℕ) (numbers : List ℕ)

@@ -16,7 +16,7 @@ use Rattle.theory.specs.Lookup.{counter}
 use Rattle.theory.proofs.SettingsLaws.{ranges, sound}
 use Rattle.theory.proofs.ListLaws.{by-test}
 use Rattle.theory.proofs.RankLaws.{any-numbers, rank, rank-least, rank-chosen}
-use Rattle.lookup.specs.Choosing.{card-at, ChoiceOf}
+use Rattle.lookup.specs.Choosing.{card-at, KeyCountersOf}
 
 -- the greater of two is above when one is
 pub above-higher : (top count most : ℕ) → ltb top (cond (ltb count most) most count) ≡ (ltb top most || ltb top count)
@@ -40,7 +40,7 @@ module _ (t : Settings) (ok : allowed t ≡ true) (h : ℕ) (clipped : List ℕ)
   pub choice-of : (above : Bool) (best : ℕ)
       → above ≡ any (λ b. ltb (t .top) (counter clipped b)) (hashes (2 ^ t .p) h 0 (t .k))
       → best ≡ least (t .top * 65536 + 2 ^ t .p) (map (rank (counter clipped)) (hashes (2 ^ t .p) h 0 (t .k)))
-      → ChoiceOf t h clipped (record { above = above; least = record { 0 = best / 65536 }; bucket = best % 65536 })
+      → KeyCountersOf t h clipped (record { above = above; least = record { 0 = best / 65536 }; bucket = best % 65536 })
   unfolding card-at card-of
   choice-of above best a b =
       let few : 2 ^ t .p ≤ 2 ^ 12 = pow-mono {j = 12} (ranges t ok .p-high) in

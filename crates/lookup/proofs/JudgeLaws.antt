@@ -22,7 +22,7 @@ use Rattle.settings.specs.declared.Settings.{Settings}
 use Rattle.settings.specs.Checked.{paper, code, card}
 use Rattle.lookup.specs.declared.judging.Judged.the-variants.{Ready, Refused}
 use Rattle.lookup.specs.Places.{Lent}
-use Rattle.lookup.specs.Answers.{lookup-areas, driver-of, search-of, judged-of, judged-lent}
+use Rattle.lookup.specs.Answers.{lookup-areas, driver-of, search-of, judged-of, judged-with-table}
 use Rattle.lookup.specs.Bursts.{judged-burst}
 
 module _ (t : plain.Settings) (clipped buckets side : List ℕ) where
@@ -101,20 +101,20 @@ module _ (table clipped buckets side keys : List ℕ) (n : ℕ) (t : plain.Setti
 
 -- ---- with a lent table
 module _ (table : List ℕ) (t : plain.Settings) (clipped buckets side key : List ℕ) where
-  pub lent-1 : allowed t ≡ false → Refused 1 ≡ judged-lent table t clipped buckets side key
-  unfolding judged-lent
+  pub lent-1 : allowed t ≡ false → Refused 1 ≡ judged-with-table table t clipped buckets side key
+  unfolding judged-with-table
   lent-1 e = rw e
 
   module _ (ok : allowed t ≡ true) (c : Settings) (same : paper c ≡ t) (w : ℕ) (wide : w ≡ card c .width) where
     is-width : w ≡ card-of t .width
     is-width = wide ∙ ap (λ (u : plain.Settings). card-of u .width) same
 
-    pub lent-2 : (length table ≡ table-length 8 w → ⊥) → Refused 2 ≡ judged-lent table t clipped buckets side key
-    unfolding judged-lent
+    pub lent-2 : (length table ≡ table-length 8 w → ⊥) → Refused 2 ≡ judged-with-table table t clipped buckets side key
+    unfolding judged-with-table
     lent-2 n = rw (ok, length-allowed, ne-eqb (length table) (table-length 8 (card-of t .width)) (λ e. n (e ∙ ap (table-length 8) (sym is-width))))
 
-    pub lent-on : length table ≡ table-length 8 w → judged-of (paper c) clipped buckets side key ≡ judged-lent table t clipped buckets side key
-    unfolding judged-lent
+    pub lent-on : length table ≡ table-length 8 w → judged-of (paper c) clipped buckets side key ≡ judged-with-table table t clipped buckets side key
+    unfolding judged-with-table
     lent-on e = rw (ok, length-allowed, eq-eqb (length table) (table-length 8 (card-of t .width)) (e ∙ ap (table-length 8) is-width), same)
 
 -- ---- what a judgement says
@@ -202,13 +202,13 @@ module _ (table : List ℕ) (t : plain.Settings) (clipped buckets side key : Lis
   abbrev long : Bool
   long = has (length table) (table-lengths (card-of t .width))
 
-  pub lent-judged : long ≡ true → judged-lent table t clipped buckets side key ≡ judged-of t clipped buckets side key
-  unfolding judged-lent judged-of
+  pub lent-judged : long ≡ true → judged-with-table table t clipped buckets side key ≡ judged-of t clipped buckets side key
+  unfolding judged-with-table judged-of
   lent-judged l = by-test (allowed t) (λ a. rw (a, l)) (λ a. rw a)
 
-  pub lent-ready : (c : Settings) → judged-lent table t clipped buckets side key ≡ Ready c
+  pub lent-ready : (c : Settings) → judged-with-table table t clipped buckets side key ≡ Ready c
       → (long ≡ true) × (judged-of t clipped buckets side key ≡ Ready c)
-  unfolding judged-lent
+  unfolding judged-with-table
   lent-ready c e =
       by-test (allowed t)
       (λ a. by-test long (λ l. (l, rw (a, l) at e))

@@ -2,7 +2,7 @@ pub mod CounterLaws
 pub mod ScanLaws
 pub mod PlaceLaws
 pub mod JudgeLaws
-pub mod TableLaws
+pub mod WithTableLaws
 pub mod LocateLaws
 pub mod FetchLaws
 pub mod TallyLaws

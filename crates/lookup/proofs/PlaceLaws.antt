@@ -21,9 +21,9 @@ use Rattle.theory.proofs.SettingsLaws.{ranges, Sound, sound, numbers-of-below}
 use Rattle.theory.proofs.PlacingLaws.{chosen-below}
 use Rattle.theory.proofs.RecordPlaceLaws.{not-above}
 use Rattle.settings.proofs.Laws.{top-is, bounds}
-use Rattle.lookup.specs.declared.counters.Choice.{Choice}
-use Rattle.lookup.specs.Choosing.{card-at, ChoiceOf}
-use Rattle.lookup.specs.Places.{place-by, goes-by, ChoiceFits}
+use Rattle.lookup.specs.declared.counters.KeyCounters.{KeyCounters}
+use Rattle.lookup.specs.Choosing.{card-at, KeyCountersOf}
+use Rattle.lookup.specs.Places.{place-by, goes-by, KeyCountersFit}
 
 -- ---- the side store
 module _ (t : Settings) (side : List ℕ) (read : ℕ) where
@@ -166,9 +166,9 @@ module _ (t : Settings) (ok : allowed t ≡ true) (h : ℕ) where
     chosen-there e = chosen-below (card-at t h) sound-at (counter clipped) key (not-all e)
 
   -- ---- what the code found of the counters is where the definition looks
-  module _ (clipped : List ℕ) (c : Choice) (of : ChoiceOf t h clipped c) where
-    pub choice-fits : ChoiceFits t c
-    choice-fits = record { there = λ e. rw (of .bucket []) (chosen-there clipped [] [] [] (λ low. e (of .least [] ∙ low))) }
+  module _ (clipped : List ℕ) (c : KeyCounters) (of : KeyCountersOf t h clipped c) where
+    pub key-counters-fit : KeyCountersFit t c
+    key-counters-fit = record { there = λ e. rw (of .bucket []) (chosen-there clipped [] [] [] (λ low. e (of .least [] ∙ low))) }
 
     module _ (buckets side key : List ℕ) where
       pub place-by-is : place-by (card-of t) c buckets side ≡ place (card-at t h) clipped buckets side key

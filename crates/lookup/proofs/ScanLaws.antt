@@ -13,7 +13,7 @@ use lib.Seq.{drop-drop}
 use Rattle.theory.specs.Records.{entries, record-at, records, same-key, find, comparisons}
 use Rattle.theory.proofs.ListLaws.{by-test}
 use Rattle.theory.proofs.RecordPlaceLaws.{one-back}
-use Rattle.ledger.proofs.RecordLaws.{room-next, records-next}
+use Rattle.ledger.proofs.RisingLaws.{room-next, records-next}
 use Rattle.lookup.specs.Scanning.{HitOf}
 
 -- a part that is lent on has its length

@@ -143,9 +143,9 @@ module _ (t : Settings) (ledger clipped buckets side : List ℕ) where
         → record { reply = totalled r; state = read-areas ledger clipped buckets side } ≡ perform t 0 tally (read-areas ledger clipped buckets side)
     tally-on e r f = tally-performs r (rw (c .ok, c .lengths-are, e, f, c .same))
 
-    pub tally-lent : lengths ≡ true → Lent (paper s) clipped buckets side × (length ledger ≡ ledger-length (card s))
+    pub tally-checked : lengths ≡ true → Lent (paper s) clipped buckets side × (length ledger ≡ ledger-length (card s))
     unfolding lookup-lengths
-    tally-lent e =
+    tally-checked e =
         let h = all-each (λ x. x) (eqb (length ledger) (ledger-length (card-of t)) ∷ lookup-lengths (card-of t) (read-areas ledger clipped buckets side)) (c .lengths-are ∙ e) in
         rw (c .same) (
           record { ok = c .ok; clipped-size = eqb-true _ _ (h .1 .0); buckets-size = eqb-true _ _ (h .1 .1 .0); side-size = eqb-true _ _ (h .1 .1 .1 .0) },

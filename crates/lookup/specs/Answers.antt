@@ -43,14 +43,14 @@ judged-of t clipped buckets side key =
     (cond (not (eqb (length key) (plain.card-of t .width))) (Refused 3) (Ready (code t))))
 
 -- the same with a lent table of the hash, of a length that is allowed for such a key, else 2
-unfoldable pub judged-lent : List ℕ → plain.Settings → List ℕ → List ℕ → List ℕ → List ℕ → Judged
-judged-lent table t clipped buckets side key =
+unfoldable pub judged-with-table : List ℕ → plain.Settings → List ℕ → List ℕ → List ℕ → List ℕ → Judged
+judged-with-table table t clipped buckets side key =
     cond (not (plain.allowed t)) (Refused 1)
     (cond (not (has (length table) (table-lengths (plain.card-of t .width)))) (Refused 2) (judged-of t clipped buckets side key))
 
 -- what a search with a lent table answers, whatever the table holds: refused, the number alone; else the search by the H that the table gives for the key
 unfoldable pub search-with : List ℕ → plain.Settings → List ℕ → List ℕ → List ℕ → List ℕ → plain-lookup.Answer
-search-with table t clipped buckets side key = by (judged-lent table t clipped buckets side key)
+search-with table t clipped buckets side key = by (judged-with-table table t clipped buckets side key)
   where
     by : Judged → plain-lookup.Answer
     by (Refused n) = plain-lookup.bare n

@@ -12,7 +12,7 @@ use Rattle.theory.specs.Lookup.{counter, driver-number, answer-at, search-areas
 use Rattle.theory.specs.Calls.{lookup-lengths}
 use Rattle.hash.specs.Table.{table-lengths, H-by}
 use Rattle.settings.specs.Checked.{code}
-use Rattle.lookup.specs.declared.counters.Choice.{Choice}
+use Rattle.lookup.specs.declared.counters.KeyCounters.{KeyCounters}
 use Rattle.lookup.specs.declared.judging.Judged.{Judged}
 use Rattle.lookup.specs.declared.judging.Judged.the-variants.{Ready, Refused}
 use Rattle.lookup.specs.Choosing.{card-at}
@@ -38,16 +38,16 @@ judged-burst table t clipped buckets side keys n =
 
 -- ---- the three passes over the answers: H of each key; what its counters say; its answer's number
 -- what the counters say, as one number: 2^32 where one is above T, and the rank of the choice
-abbrev pub packed-of : Choice → ℕ
+abbrev pub packed-of : KeyCounters → ℕ
 packed-of c = cond (c .above) 4294967296 0 + (c .least .0 * 65536 + c .bucket)
 
-abbrev pub unpacked-of : ℕ → Choice
+abbrev pub unpacked-of : ℕ → KeyCounters
 unpacked-of x =
     record { above = ltb 4294967295 x; least = record { 0 = x % 4294967296 / 65536 }; bucket = x % 65536 }
 
 -- what the counters say of a key whose H is h
-unfoldable pub choice-at : plain.Settings → List ℕ → ℕ → Choice
-choice-at t clipped h =
+unfoldable pub key-counters-at : plain.Settings → List ℕ → ℕ → KeyCounters
+key-counters-at t clipped h =
     record {
       above = any (λ b. ltb (t .top) (counter clipped b)) (numbers-of (plain.card-of t .buckets) (t .k) h);
       least = record { 0 = least-count (card-at t h) (counter clipped) [] };

@@ -8,7 +8,7 @@ use Rattle.theory.specs.Hash.{numbers-of}
 use Rattle.theory.specs.Settings.{Settings, Card, card-of}
 use Rattle.theory.specs.Placing.{least-count, chosen}
 use Rattle.theory.specs.Lookup.{counter}
-use Rattle.lookup.specs.declared.counters.Choice.{Choice}
+use Rattle.lookup.specs.declared.counters.KeyCounters.{KeyCounters}
 
 -- the card of settings as a key sees it whose H is h: its bucket numbers are those of h
 unfoldable pub card-at : Settings → ℕ → Card
@@ -24,7 +24,7 @@ card-at t h =
     }
 
 -- whatever the key is: one counter above T; the least; of the bucket numbers with the least, the lowest
-pub record ChoiceOf (t : Settings) (h : ℕ) (clipped : List ℕ) (r : Choice) : Type 0 where
+pub record KeyCountersOf (t : Settings) (h : ℕ) (clipped : List ℕ) (r : KeyCounters) : Type 0 where
   pub above : r .above ≡ any (λ b. ltb (t .top) (counter clipped b)) (numbers-of (card-of t .buckets) (t .k) h)
   pub least : (key : List ℕ) → r .least .0 ≡ least-count (card-at t h) (counter clipped) key
   pub bucket : (key : List ℕ) → r .bucket ≡ chosen (card-at t h) (counter clipped) key

@@ -7,9 +7,9 @@ use lib.Dec.{eqb}
 use lib.ListN.{length, take, drop, getD}
 use Rattle.theory.specs.Settings.{Settings, Card, card-of, allowed, bucket-size, clipped-length, buckets-length, side-length}
 use Rattle.theory.specs.Lookup as plain
-use Rattle.lookup.specs.declared.counters.Choice.{Choice}
-use Rattle.lookup.specs.declared.placing.Place.{Place}
-use Rattle.lookup.specs.declared.placing.Place.the-variants.{Invalid, Nowhere, Bucket, Side}
+use Rattle.lookup.specs.declared.counters.KeyCounters.{KeyCounters}
+use Rattle.lookup.specs.declared.places.Place.{Place}
+use Rattle.lookup.specs.declared.places.Place.the-variants.{Invalid, Nowhere, Bucket, Side}
 
 -- what the functions inside are lent: allowed settings, and lookup areas of their lengths
 pub record Lent (t : Settings) (clipped buckets side : List ℕ) : Type 0 where
@@ -39,21 +39,21 @@ Inside t (Bucket from records) = (from + (bucket-size (card-of t) - 1) ≤ bucke
 Inside t (Side records read) = (records ≤ t .side-places) × (read ≤ 1)
 
 -- where a search looks by what the counters of its key say: one above T, refused; the least zero, absent; the least T, the side store; otherwise the chosen bucket
-unfoldable pub place-by : Card → Choice → List ℕ → List ℕ → plain.Place
+unfoldable pub place-by : Card → KeyCounters → List ℕ → List ℕ → plain.Place
 place-by s c buckets side =
     cond (c .above) plain.invalid
     (cond (eqb (c .least .0) 0) plain.nowhere
     (cond (eqb (c .least .0) (s .top)) (plain.side-place s side 0) (plain.bucket-place s (plain.bucket-part s buckets (c .bucket)) side)))
 
 -- it then ends in a bucket, whose mark is not 255
-unfoldable pub goes-by : Card → Choice → List ℕ → Bool
+unfoldable pub goes-by : Card → KeyCounters → List ℕ → Bool
 goes-by s c buckets =
     cond (c .above) false
     (cond (eqb (c .least .0) 0) false
     (cond (eqb (c .least .0) (s .top)) false (not (eqb (getD (plain.bucket-part s buckets (c .bucket)) 0 0) 255))))
 
 -- a bucket that is read is one of the card's
-pub record ChoiceFits (t : Settings) (c : Choice) : Type 0 where
+pub record KeyCountersFit (t : Settings) (c : KeyCounters) : Type 0 where
   pub there : (c .least .0 ≡ t .top → ⊥) → c .bucket < card-of t .buckets
 
 -- a place in bucket b, after its mark, or in the side store, as the test says

@@ -1,13 +1,13 @@
 // A burst of searches, in three passes over the answers: all hashes, then all choices, then the buckets, so that the reads of one key do not wait for another's.
 // The number of a single search without a table goes the same way, so that `searching::search_at` has one caller in the static library: the compiler
 // then makes one piece of it and the door with a lent table, which takes 0.9 of the time.
-use crate::counters::Choice;
-use crate::counters::choose;
+use crate::counters::KeyCounters;
+use crate::counters::read_counters;
 use crate::judging::Judged;
 use crate::judging::judge;
 use crate::judging::judge_burst;
-use crate::placing::Place;
-use crate::placing::place_by;
+use crate::places::Place;
+use crate::places::place_by;
 use crate::searching::Answer;
 use crate::searching::bare;
 use crate::searching::compare_bucket;
@@ -27,22 +27,22 @@ ghost use Rattle.theory.specs.Lookup as plain;
 ghost use Rattle.hash.specs.Table.{table-lengths, H-by};
 ghost use Rattle.settings.specs.Checked.{paper, given-of, card};
 ghost use Rattle.lookup.specs.Places as places;
-ghost use Rattle.lookup.specs.Places.{place-by, ChoiceFits};
+ghost use Rattle.lookup.specs.Places.{place-by, KeyCountersFit};
 ghost use Rattle.lookup.specs.Answers.{answer-of, search-of};
-ghost use Rattle.lookup.specs.Bursts.{key-at, each, packed-of, unpacked-of, choice-at, number-by, Burst, burst-of};
+ghost use Rattle.lookup.specs.Bursts.{key-at, each, packed-of, unpacked-of, key-counters-at, number-by, Burst, burst-of};
 
 // What the counters say, as one number, and back.
-fn packed(choice: Choice) -> u64
+fn packed(choice: KeyCounters) -> u64
     requires { ⌜ (choice .least .0 < 65536) × (choice .bucket < 65536) ⌝ }
     ensures { λ r. ⌜ r ≡ packed-of choice ⌝ }
 {
     pick64(choice.above, 4294967296, 0) + choice.least.rank(choice.bucket as u64)
 }
 
-fn unpacked(x: u64) -> Choice
+fn unpacked(x: u64) -> KeyCounters
     ensures { λ r. ⌜ r ≡ unpacked-of x ⌝ }
 {
-    Choice {
+    KeyCounters {
         above: 4294967295 < x,
         least: ClippedCount::of_rank(x % 4294967296),
         bucket: (x % 65536) as usize,
@@ -50,8 +50,14 @@ fn unpacked(x: u64) -> Choice
 }
 
 // What is left of a search once the counters are read.
-fn search_chosen(s: Settings, choice: Choice, buckets: &[u8], side: &[u8], key: &[u8]) -> Answer
-    requires { ⌜ places.Judged (paper s) (now buckets) (now side) × ChoiceFits (paper s) choice × (length (now key) ≡ card s .width) ⌝ }
+fn search_chosen(
+    s: Settings,
+    choice: KeyCounters,
+    buckets: &[u8],
+    side: &[u8],
+    key: &[u8],
+) -> Answer
+    requires { ⌜ places.Judged (paper s) (now buckets) (now side) × KeyCountersFit (paper s) choice × (length (now key) ≡ card s .width) ⌝ }
     ensures { λ r. ⌜ answer-of r ≡ plain.answer-at (card s) (now (key .entry)) (place-by (card s) choice (now (buckets .entry)) (now (side .entry))) ⌝ }
 {
     let place = place_by(s, choice, buckets, side);
@@ -74,21 +80,21 @@ fn hash_all(s: Settings, table: &[u64], keys: &[u8], answers: &mut [u64])
     let mut at: usize = 0;
     while i < answers.len() {
         let end = at + width;
-        answers[i] = hash::h_lent(table, &keys[at..end]);
+        answers[i] = hash::h_with_table(table, &keys[at..end]);
         at = end;
         i += 1;
     }
 }
 
 // The second pass: what the counters say of each key, by its H.
-fn choose_all(s: Settings, clipped: &[u8], answers: &mut [u64])
+fn read_all_counters(s: Settings, clipped: &[u8], answers: &mut [u64])
     requires { ⌜ (allowed (paper s) ≡ true) × (length (now clipped) ≡ clipped-length (card s)) ⌝ }
-    ensures { λ _. ⌜ now (answers .exit) ≡ each (λ j. packed-of (choice-at (paper s) (now (clipped .entry)) (getD (now (answers .entry)) j 0))) (length (now (answers .entry))) ⌝ }
+    ensures { λ _. ⌜ now (answers .exit) ≡ each (λ j. packed-of (key-counters-at (paper s) (now (clipped .entry)) (getD (now (answers .entry)) j 0))) (length (now (answers .entry))) ⌝ }
 {
     let n = answers.len();
     let mut i: usize = 0;
     while i < n {
-        answers[i] = packed(choose(s, answers[i], clipped));
+        answers[i] = packed(read_counters(s, answers[i], clipped));
         i += 1;
     }
 }
@@ -96,7 +102,7 @@ fn choose_all(s: Settings, clipped: &[u8], answers: &mut [u64])
 // The third pass: the driver's number of each key.
 fn answer_all(s: Settings, buckets: &[u8], side: &[u8], keys: &[u8], answers: &mut [u64])
     requires { ⌜ places.Judged (paper s) (now buckets) (now side) × (length (now keys) ≡ length (now answers) * card s .width)
-        × ((j : ℕ) → j < length (now answers) → ChoiceFits (paper s) (unpacked-of (getD (now answers) j 0))) ⌝ }
+        × ((j : ℕ) → j < length (now answers) → KeyCountersFit (paper s) (unpacked-of (getD (now answers) j 0))) ⌝ }
     ensures { λ _. ⌜ now (answers .exit) ≡ each (λ j. number-by (paper s) (now (buckets .entry)) (now (side .entry))
         (key-at (card s .width) (now (keys .entry)) j) (getD (now (answers .entry)) j 0)) (length (now (answers .entry))) ⌝ }
 {
@@ -132,7 +138,7 @@ pub fn search_burst(
         Judged::Refused(number) => number,
         Judged::Ready(s) => {
             hash_all(s, table, keys, answers);
-            choose_all(s, clipped, answers);
+            read_all_counters(s, clipped, answers);
             answer_all(s, buckets, side, keys, answers);
             0
         }
@@ -150,7 +156,7 @@ pub fn search_number(given: Given, clipped: &[u8], buckets: &[u8], side: &[u8], 
         Judged::Ready(s) => {
             let mut answers = [0u64; 1];
             answers[0] = hash::h_rows(key);
-            choose_all(s, clipped, &mut answers[..]);
+            read_all_counters(s, clipped, &mut answers[..]);
             answer_all(s, buckets, side, key, &mut answers[..]);
             answers[0]
         }

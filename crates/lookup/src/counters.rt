@@ -9,10 +9,10 @@ ghost use lib.ListN.{length};
 ghost use Rattle.theory.specs.Settings.{allowed, clipped-length};
 ghost use Rattle.theory.specs.Lookup as plain;
 ghost use Rattle.settings.specs.Checked.{paper, card};
-ghost use Rattle.lookup.specs.Choosing.{ChoiceOf};
+ghost use Rattle.lookup.specs.Choosing.{KeyCountersOf};
 
 // One counter above T or none; the least; of the bucket numbers with the least, the lowest.
-pub struct Choice {
+pub struct KeyCounters {
     pub above: bool,
     pub least: ClippedCount,
     pub bucket: usize,
@@ -27,9 +27,9 @@ pub fn counter(clipped: &[u8], b: usize) -> ClippedCount
 }
 
 // The least rank of the counters has the least counter and the lowest bucket with it: no branch. Repeated hashes are read again and alter nothing.
-pub fn choose(s: Settings, h: u64, clipped: &[u8]) -> Choice
+pub fn read_counters(s: Settings, h: u64, clipped: &[u8]) -> KeyCounters
     requires { ⌜ (allowed (paper s) ≡ true) × (length (now clipped) ≡ clipped-length (card s)) ⌝ }
-    ensures { λ r. ⌜ ChoiceOf (paper s) h (now (clipped .entry)) r ⌝ }
+    ensures { λ r. ⌜ KeyCountersOf (paper s) h (now (clipped .entry)) r ⌝ }
 {
     let k = s.k;
     let m = s.buckets() as u64;
@@ -46,7 +46,7 @@ pub fn choose(s: Settings, h: u64, clipped: &[u8]) -> Choice
         rest = rest / 65536;
         j += 1;
     }
-    Choice {
+    KeyCounters {
         above: most.above(s.top),
         least: ClippedCount::of_rank(best),
         bucket: (best % 65536) as usize,

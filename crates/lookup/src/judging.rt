@@ -9,7 +9,7 @@ ghost use Rattle.theory.specs.Lists.{all};
 ghost use Rattle.theory.specs.Settings.{allowed};
 ghost use Rattle.theory.specs.Calls.{lookup-lengths};
 ghost use Rattle.settings.specs.Checked.{paper, given-of, card};
-ghost use Rattle.lookup.specs.Answers.{lookup-areas, judged-of, judged-lent};
+ghost use Rattle.lookup.specs.Answers.{lookup-areas, judged-of, judged-with-table};
 ghost use Rattle.lookup.specs.Bursts.{judged-burst};
 
 pub enum Judged {
@@ -52,7 +52,7 @@ pub fn judge(given: Given, clipped: &[u8], buckets: &[u8], side: &[u8], key: &[u
 }
 
 // The same with a lent table of the hash, whose length is judged with the areas'.
-pub fn judge_lent(
+pub fn judge_with_table(
     table: &[u64],
     given: Given,
     clipped: &[u8],
@@ -60,7 +60,7 @@ pub fn judge_lent(
     side: &[u8],
     key: &[u8],
 ) -> Judged
-    ensures { λ r. ⌜ r ≡ judged-lent (now (table .entry)) (given-of given)
+    ensures { λ r. ⌜ r ≡ judged-with-table (now (table .entry)) (given-of given)
         (now (clipped .entry)) (now (buckets .entry)) (now (side .entry)) (now (key .entry)) ⌝ }
 {
     let checked = Settings::new(given);

@@ -1,10 +1,10 @@
 // Where the record of a key lies, with the search's answer. The key is looked for by `place_by`, as a burst does: `searching::search_at` and
-// `placing::find_place` keep one caller in the static library (bursts.rt says why).
-use crate::counters::choose;
+// `places::find_place` keep one caller in the static library (bursts.rt says why).
+use crate::counters::read_counters;
 use crate::judging::Judged;
 use crate::judging::judge;
-use crate::placing::Place;
-use crate::placing::place_by;
+use crate::places::Place;
+use crate::places::place_by;
 use crate::searching::Answer;
 use crate::searching::bare;
 use crate::searching::compare_bucket;
@@ -66,7 +66,7 @@ fn locate_at(
     ensures { λ r. ⌜ LocatedAt (card-at (paper s) h) (now (clipped .entry)) (now (buckets .entry)) (now (side .entry)) (now (key .entry)) r ⌝ }
 {
     let size = s.record_size();
-    let place = place_by(s, choose(s, h, clipped), buckets, side);
+    let place = place_by(s, read_counters(s, h, clipped), buckets, side);
     match place {
         Place::Invalid => nowhere(bare(5)),
         Place::Nowhere => nowhere(bare(100)),

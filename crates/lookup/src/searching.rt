@@ -1,9 +1,9 @@
 // Search: the answer with its counts.
 use crate::judging::Judged;
 use crate::judging::judge;
-use crate::judging::judge_lent;
-use crate::placing::Place;
-use crate::placing::find_place;
+use crate::judging::judge_with_table;
+use crate::places::Place;
+use crate::places::find_place;
 use crate::scanning::scan;
 use crate::scanning::scan_all;
 use memory::picks::pick32;
@@ -154,7 +154,7 @@ pub fn search(given: Given, clipped: &[u8], buckets: &[u8], side: &[u8], key: &[
 }
 
 // Search with a lent table of the hash: by the H that the table gives for the key, whatever it holds; the same where it is right.
-pub fn search_lent(
+pub fn search_with_table(
     table: &[u64],
     given: Given,
     clipped: &[u8],
@@ -165,11 +165,11 @@ pub fn search_lent(
     ensures { λ r. ⌜ answer-of r ≡ search-with (now (table .entry)) (given-of given)
         (now (clipped .entry)) (now (buckets .entry)) (now (side .entry)) (now (key .entry)) ⌝ }
 {
-    let judged = judge_lent(table, given, clipped, buckets, side, key);
+    let judged = judge_with_table(table, given, clipped, buckets, side, key);
     match judged {
         Judged::Refused(number) => bare(number),
         Judged::Ready(s) => {
-            let h = hash::h_lent(table, key);
+            let h = hash::h_with_table(table, key);
             search_at(s, h, clipped, buckets, side, key)
         }
     }

@@ -151,7 +151,7 @@ fn fill(n: usize, m: usize) -> u32
 fn count_all(s: Settings, ledger: &[u8], buckets: &[u8], side: &[u8]) -> Totals
     requires { ⌜ (allowed (paper s) ≡ true) × (length (now ledger) ≡ ledger-length (card s))
         × (length (now buckets) ≡ buckets-length (card s)) × (length (now side) ≡ side-length (card s)) ⌝ }
-    ensures { λ r. ⌜ totals-of r ≡ ledgers.totals-of (marks (card s) (now (buckets .entry))) (count-of (now (side .entry))) (count-of (now (ledger .entry)))
+    ensures { λ r. ⌜ totals-of r ≡ ledgers.counted-totals (marks (card s) (now (buckets .entry))) (count-of (now (side .entry))) (count-of (now (ledger .entry)))
         (card s .buckets) ⌝ }
 {
     let sums = sum_marks(s, buckets);
@@ -165,7 +165,7 @@ fn count_all(s: Settings, ledger: &[u8], buckets: &[u8], side: &[u8]) -> Totals
 }
 
 // Tally on allowed settings and areas of their lengths: 4, then 5, then the four numbers.
-fn tally_lent(s: Settings, ledger: &[u8], clipped: &[u8], buckets: &[u8], side: &[u8]) -> Totals
+fn tally_checked(s: Settings, ledger: &[u8], clipped: &[u8], buckets: &[u8], side: &[u8]) -> Totals
     requires { ⌜ Lent (paper s) (now clipped) (now buckets) (now side) × (length (now ledger) ≡ ledger-length (card s)) ⌝ }
     ensures { λ r. ⌜ totals-of r ≡ tally-areas (card s) (read-areas (now (ledger .entry)) (now (clipped .entry)) (now (buckets .entry)) (now (side .entry))) ⌝ }
 {
@@ -189,5 +189,5 @@ pub fn tally(given: Given, ledger: &[u8], clipped: &[u8], buckets: &[u8], side: 
     if !((ledger.len() == s.ledger_length()) & areas_right(s, clipped, buckets, side)) {
         return no_totals(2);
     }
-    tally_lent(s, ledger, clipped, buckets, side)
+    tally_checked(s, ledger, clipped, buckets, side)
 }

@@ -1,2 +1,2 @@
-pub mod KeyLaws
+pub mod PacketKeyLaws
 pub mod JudgingLaws

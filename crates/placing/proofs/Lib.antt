@@ -1,4 +1,4 @@
 pub mod CountingLaws
-pub mod RecordLaws
+pub mod RecordCountLaws
 pub mod WorkLaws
 pub mod ReadyLaws

@@ -54,7 +54,7 @@ pub fn count_more(s: Settings, t: &[u64], counts: &mut [u16], area: &[u8], n: us
     let mut at: usize = 0;
     while i < n {
         let end = at + width;
-        let h = hash::h_lent(t, &area[at..end]);
+        let h = hash::h_with_table(t, &area[at..end]);
         raise_at(s, h, counts);
         at = at + size;
         i += 1;
@@ -101,7 +101,7 @@ fn choose(s: Settings, t: &[u64], counts: &[u16], key: &[u8]) -> Choice
     requires { ⌜ Ready s (now t) × (length (now counts) ≡ card s .buckets) × (length (now key) ≡ card s .width) ⌝ }
     ensures { λ r. ⌜ (r .«all_top» ≡ all-top (card s) (nth (now (counts .entry))) (now (key .entry))) × (r .bucket ≡ chosen (card s) (nth (now (counts .entry))) (now (key .entry))) ⌝ }
 {
-    let h = hash::h_lent(t, key);
+    let h = hash::h_with_table(t, key);
     choose_at(s, h, counts)
 }
 

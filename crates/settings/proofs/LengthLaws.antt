@@ -10,13 +10,13 @@ use Rattle.theory.specs.Layout.{Areas}
 use Rattle.theory.specs.Calls.{lookup-lengths, all-lengths}
 use Rattle.theory.proofs.ListLaws.{and-left, and-right}
 use Rattle.theory.proofs.CallLaws.{Sized}
-use Rattle.settings.specs.Lengths.{lengths-of, right-lengths}
+use Rattle.settings.specs.Lengths.{code-lengths, right-lengths}
 
-pub lengths-are : (c : Card) (a : Areas) → all (λ x. x) (all-lengths c a) ≡ right-lengths c (lengths-of a)
+pub lengths-are : (c : Card) (a : Areas) → all (λ x. x) (all-lengths c a) ≡ right-lengths c (code-lengths a)
 unfolding all-lengths lookup-lengths
 lengths-are c a = rw and-true
 
-pub sized-by : (c : Card) (a : Areas) → right-lengths c (lengths-of a) ≡ true → Sized c a
+pub sized-by : (c : Card) (a : Areas) → right-lengths c (code-lengths a) ≡ true → Sized c a
 sized-by c a e =
     let e₁ = and-right (eqb (length (a .ledger)) (ledger-length c)) _ e in
     let e₂ = and-right (eqb (length (a .true-counts)) (true-length c)) _ e₁ in

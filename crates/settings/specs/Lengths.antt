@@ -7,8 +7,8 @@ use Rattle.theory.specs.Settings.{Card, ledger-length, true-length, clipped-len
 use Rattle.theory.specs.Layout.{Areas}
 use Rattle.settings.specs.declared.lengths.Lengths.{Lengths}
 
-abbrev pub lengths-of : Areas → Lengths
-lengths-of a =
+abbrev pub code-lengths : Areas → Lengths
+code-lengths a =
     record { ledger = length (a .ledger); «true_counts» = length (a .true-counts); clipped = length (a .clipped-counts); buckets = length (a .buckets); side = length (a .side-store) }
 
 -- each is as the settings say: of the lookup areas, and of all five

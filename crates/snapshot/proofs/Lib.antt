@@ -1,4 +1,4 @@
-pub mod PartLaws
+pub mod OneAreaLaws
 pub mod SaveLaws
 pub mod FileLaws
 pub mod LoadLaws

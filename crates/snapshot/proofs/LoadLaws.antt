@@ -23,7 +23,7 @@ use Rattle.theory.proofs.CallLaws.{Sized}
 use Rattle.theory.proofs.Demands.{all-lengths-right}
 use Rattle.settings.specs.declared.Settings.{Settings}
 use Rattle.settings.specs.Checked.{paper, card}
-use Rattle.settings.specs.Lengths.{lengths-of, right-lengths}
+use Rattle.settings.specs.Lengths.{code-lengths, right-lengths}
 use Rattle.settings.proofs.LengthLaws.{lengths-are}
 use Rattle.memory.proofs.SliceLaws.{zeros, back, tail-is, tail-back}
 use Rattle.ledger.proofs.LedgerLaws.{room-for}
@@ -114,7 +114,7 @@ module _ (f : List ℕ) (w : ℕ) (a : Areas) where
     loads-1 e = rw (whole, e)
 
     pub loads-2 : allowed (file-settings f) ≡ true → (s : Settings) → paper s ≡ file-settings f → (x : ℕ) → x ≡ work-length (card s)
-        → (eqb w x && right-lengths (card s) (lengths-of a)) ≡ false → not-loaded 2 a ≡ load f w a
+        → (eqb w x && right-lengths (card s) (code-lengths a)) ≡ false → not-loaded 2 a ≡ load f w a
     unfolding load
     loads-2 ok s same x ex e = let q = rw (ex, ← lengths-are (card s) a, same) at e in rw (whole, ok, q)
 

@@ -23,7 +23,7 @@ use Rattle.settings.specs.declared.Settings.{Settings}
 use Rattle.settings.specs.Checked.{paper, card}
 use Rattle.memory.proofs.SliceLaws.{back, tail-is, tail-back}
 use Rattle.ledger.proofs.LedgerLaws.{has-count, room-for, records-room, records-are}
-use Rattle.ledger.proofs.EditLaws.{few, listed}
+use Rattle.ledger.proofs.LedgerEditLaws.{few, listed}
 use Rattle.snapshot.specs.Files.{put-at}
 
 -- ---- a number put at a place, as the part from there on is lent and comes back

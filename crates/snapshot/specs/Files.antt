@@ -29,7 +29,7 @@ abbrev pub listed : plain.Settings → List ℕ → List Record
 listed t f = records (card-of t .width) (file-count f) (drop head-size f)
 
 -- what placing n records of an area asks, with room in work and kept
-pub record PlacingRecords (s : Settings) (t : List ℕ) (m : ℕ) (work kept area : List ℕ) (n : ℕ) : Type 0 where
+pub record PlacingArea (s : Settings) (t : List ℕ) (m : ℕ) (work kept area : List ℕ) (n : ℕ) : Type 0 where
   pub ready : Ready s t
   pub buckets : m ≡ card s .buckets
   pub halves : length work ≡ m + m

@@ -6,7 +6,7 @@ ghost use Rattle.theory.specs.Records.{records};
 ghost use Rattle.theory.specs.Ledger.{side-need-of};
 ghost use Rattle.settings.specs.Checked.{card};
 ghost use Rattle.placing.specs.Worked.{Placed};
-ghost use Rattle.snapshot.specs.Files.{PlacingRecords};
+ghost use Rattle.snapshot.specs.Files.{PlacingArea};
 
 pub mod loading; // loading.rt: a file into every area
 pub mod reading; // reading.rt: what a file says, and the refusals that it alone decides
@@ -20,7 +20,7 @@ pub const SECOND_COUNT_AT: usize = 2 + 2 * SETTINGS;
 pub const HEAD: usize = SECOND_COUNT_AT + 2;
 
 // The side need of the n records that an area starts with, their work area and their choices.
-fn place_records(
+fn place_area(
     s: Settings,
     t: &[u64],
     m: usize,
@@ -29,7 +29,7 @@ fn place_records(
     area: &[u8],
     n: usize,
 ) -> usize
-    requires { ⌜ PlacingRecords s (now t) m (now work) (now kept) (now area) n ⌝ }
+    requires { ⌜ PlacingArea s (now t) m (now work) (now kept) (now area) n ⌝ }
     ensures { λ r. ⌜ (r ≡ side-need-of (card s) (records (card s .width) n (now (area .entry))))
         × Placed (card s) m (records (card s .width) n (now (area .entry))) (now (work .exit)) (take n (now (kept .exit))) ⌝ }
 {

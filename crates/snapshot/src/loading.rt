@@ -1,5 +1,5 @@
 // A file into every area: its settings are handed back, its list's layout is written.
-use crate::place_records;
+use crate::place_area;
 use crate::reading::head_wrong;
 use crate::reading::read_settings;
 use crate::reading::refusal_by_file;
@@ -101,7 +101,7 @@ fn write_list(
 }
 
 // With a file's allowed settings and areas of their lengths: 8, 12, 13, 9; else the layout is written.
-fn load_lent(
+fn load_checked(
     s: Settings,
     t: &[u64],
     file: &[u8],
@@ -126,7 +126,7 @@ fn load_lent(
     let m = s.buckets();
     let area = &file[crate::HEAD..];
     let mut kept = [0u16; Settings::CAPACITY_MOST as usize];
-    let need = place_records(s, t, m, work, &mut kept[..], area, n);
+    let need = place_area(s, t, m, work, &mut kept[..], area, n);
     if s.side_places < need {
         return not_loaded(9);
     }
@@ -182,7 +182,7 @@ pub fn load(
         return not_loaded(2);
     }
     let table = hash::table();
-    load_lent(
+    load_checked(
         s,
         &table[..],
         file,

@@ -1,5 +1,5 @@
 // Settings and the ledger's records into a target buffer.
-use crate::place_records;
+use crate::place_area;
 use memory::numbers::count_at;
 use memory::numbers::write_number;
 use memory::parts::copy;
@@ -55,7 +55,7 @@ fn write_snapshot(s: Settings, target: &mut [u8], ledger: &[u8], n: usize)
 }
 
 // On allowed settings and areas of their lengths: 4, 9, 12; else the snapshot is written.
-fn save_lent(s: Settings, t: &[u64], ledger: &[u8], work: &mut [u16], target: &mut [u8]) -> u32
+fn save_checked(s: Settings, t: &[u64], ledger: &[u8], work: &mut [u16], target: &mut [u8]) -> u32
     requires { ⌜ Ready s (now t) × (length (now work) ≡ work-length (card s)) × (length (now ledger) ≡ ledger-length (card s)) ⌝ }
     ensures { λ r. ⌜ _≡_ {A = Saved} (record { number = r; target = now (target .exit) })
         (plain.save (paper s) (now (ledger .entry)) (length (now (work .entry))) (now (target .entry))) ⌝ }
@@ -66,7 +66,7 @@ fn save_lent(s: Settings, t: &[u64], ledger: &[u8], work: &mut [u16], target: &m
     let n = count_at(ledger);
     let m = s.buckets();
     let mut kept = [0u16; Settings::CAPACITY_MOST as usize];
-    let need = place_records(s, t, m, work, &mut kept[..], &ledger[2..], n);
+    let need = place_area(s, t, m, work, &mut kept[..], &ledger[2..], n);
     if s.side_places < need {
         return 9;
     }
@@ -90,5 +90,5 @@ pub fn save(given: Given, ledger: &[u8], work: &mut [u16], target: &mut [u8]) ->
         return 2;
     }
     let table = hash::table();
-    save_lent(s, &table[..], ledger, work, target)
+    save_checked(s, &table[..], ledger, work, target)
 }

@@ -16,7 +16,7 @@ use Rattle.theory.specs.Settings.{Card, record-size, ledger-length, true
 use Rattle.theory.specs.Placing.{true-count, side-need, mark, side-records, clip, crowded, choosers}
 use Rattle.theory.specs.Layout.{layout, layout-by, places, counted-places, counter-bytes, bucket-bytes, buckets-bytes, side-bytes}
 use Rattle.theory.specs.Lookup.{part, counter, search-areas, fetch-areas}
-use Rattle.theory.specs.Ledger.{Call, clear, add, change, remove, search, fetch, tally, held, insert, replace, without, key-wrong, side-need-of, side-short, next, refusal, search-by, tally-of, updated, plain}
+use Rattle.theory.specs.Ledger.{Call, clear, add, change, remove, search, fetch, tally, held, insert, replace, without, key-wrong, side-need-of, side-short, next, refusal, search-by, list-tally, updated, plain}
 use Rattle.theory.specs.Calls.{ledger-records, ledger-invalid, update, marks, lookup-invalid, tally-areas, call, shown}
 pub use Rattle.theory.specs.Demands.{Small, HasLayout, Sized}
 use Rattle.theory.proofs.ListLaws.{map-all, all-of-map, by-test, or-left, or-right, All, all-every, all-map, all-drop, all-upto, any-false, map-cong, filter-len, filter-all, length-flat, length-upto}
@@ -207,8 +207,8 @@ module _ (s : Card) where
       unfolding clip
       counter-range b h = rw (read-counter s ok c b h) (le-ltb (s .top) (min (c b) (s .top)) (omega arith))
 
-    tallied : (l : List Record) → HasLayout s l → tally-areas s (layout s l) ≡ tally-of s l
-    unfolding tally-areas tally-of lookup-invalid layout layout-by side-need-of side-need side-bytes
+    tallied : (l : List Record) → HasLayout s l → tally-areas s (layout s l) ≡ list-tally s l
+    unfolding tally-areas list-tally lookup-invalid layout layout-by side-need-of side-need side-bytes
     tallied l g =
         let c : ℕ → ℕ = true-count s l in
         rw (
@@ -230,12 +230,12 @@ module _ (s : Card) where
       unfolding layout layout-by side-need-of
       fetched = central-bytes s ok (true-count s l) l (g .fit) (g .need) (λ b. le-refl (true-count s l b)) k
 
-    pub step : (c : Call) (l : List Record) → HasLayout s l → call s c (layout s l) ≡ shown s (plain s c l)
+    pub call-step : (c : Call) (l : List Record) → HasLayout s l → call s c (layout s l) ≡ shown s (plain s c l)
     unfolding call plain
-    step clear l g = refl
-    step (add k x) l g = update-step k (add k x) l g (λ e. unfold refusal in rw e)
-    step (change k x) l g = update-step k (change k x) l g (λ e. unfold refusal in rw e)
-    step (remove k) l g = update-step k (remove k) l g (λ e. unfold refusal in rw e)
-    step (search k) l g = rw (searched k l g)
-    step (fetch k) l g = rw (fetched k l g)
-    step tally l g = rw (tallied l g)
+    call-step clear l g = refl
+    call-step (add k x) l g = update-step k (add k x) l g (λ e. unfold refusal in rw e)
+    call-step (change k x) l g = update-step k (change k x) l g (λ e. unfold refusal in rw e)
+    call-step (remove k) l g = update-step k (remove k) l g (λ e. unfold refusal in rw e)
+    call-step (search k) l g = rw (searched k l g)
+    call-step (fetch k) l g = rw (fetched k l g)
+    call-step tally l g = rw (tallied l g)

@@ -26,7 +26,7 @@ use Rattle.theory.proofs.ListLaws.{by-test}
 use Rattle.theory.proofs.SettingsLaws.{sound}
 use Rattle.theory.proofs.LookupLaws.{local-place, search-reads}
 use Rattle.theory.proofs.OrderLaws.{rising-answers}
-use Rattle.theory.proofs.CallLaws.{found-width, sized, has-layout-empty, stays, step}
+use Rattle.theory.proofs.CallLaws.{found-width, sized, has-layout-empty, stays, call-step}
 
 -- ---- what a found record, and none, make of an answer
 held-answer : (r : Record) (k : List ℕ) (v : Seen) → (answer-seen (some r) k v .number ≡ 0) × (answer-seen (some r) k v .class ≡ r .class)
@@ -76,7 +76,7 @@ module _ (t : Settings) (ok : allowed t ≡ true) where
 
   -- one call on the layout of a list
   pub performed-step : (c : Call) (l : List Record) → HasLayout s l → perform t w c (layout s l) ≡ record { reply = plain s c l .reply; state = layout s (plain s c l .state) }
-  performed-step c l g = performed c (layout s l) (sized s (sound t ok) l g) ∙ step s (sound t ok) c l g
+  performed-step c l g = performed c (layout s l) (sized s (sound t ok) l g) ∙ call-step s (sound t ok) c l g
 
   -- ---- from the layout of a list, any calls come back, and leave the areas, as the plain ledger says
   runs : (cs : List Call) (l : List Record) → All Small cs → HasLayout s l → run t w cs (layout s l) ≡ run-plain s cs l

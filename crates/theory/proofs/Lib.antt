@@ -1,6 +1,6 @@
 pub mod ListLaws
 pub mod GrowingLaws
-pub mod NumberLaws
+pub mod BucketNumberLaws
 pub mod SettingsLaws
 pub mod RankLaws
 pub mod ByteLaws

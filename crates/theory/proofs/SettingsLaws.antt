@@ -10,9 +10,9 @@ use lib.Pow.{pow-pos}
 use borrow.Author.Tests.{leb-true}
 use Rattle.theory.specs.Lists.{upto}
 use Rattle.theory.specs.Hash.{H, hash, numbers-of}
-use Rattle.theory.specs.Settings.{Settings, within, in-ranges, allowed, Card, card-of}
+use Rattle.theory.specs.Settings.{Settings, in-range, in-ranges, allowed, Card, card-of}
 use Rattle.theory.proofs.ListLaws.{All, all-every, all-each, all-of-map, and-left, and-right}
-use Rattle.theory.proofs.NumberLaws.{distinct, fresh-all, fresh-distinct}
+use Rattle.theory.proofs.BucketNumberLaws.{distinct, fresh-all, fresh-distinct}
 
 -- the limits as facts
 pub record Ranges (t : Settings) : Type 0 where
@@ -28,10 +28,10 @@ pub record Ranges (t : Settings) : Type 0 where
   pub capacity-high : t .capacity ≤ 4096
   pub side-high : t .side-places ≤ 64
 
-within-low : (low high n : ℕ) → within low high n ≡ true → low ≤ n
+within-low : (low high n : ℕ) → in-range low high n ≡ true → low ≤ n
 within-low low high n e = leb-true low n (and-left (leb low n) (leb n high) e)
 
-within-high : (low high n : ℕ) → within low high n ≡ true → n ≤ high
+within-high : (low high n : ℕ) → in-range low high n ≡ true → n ≤ high
 within-high low high n e = leb-true n high (and-right (leb low n) (leb n high) e)
 
 pub ranges : (t : Settings) → allowed t ≡ true → Ranges t

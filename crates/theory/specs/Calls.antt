@@ -9,7 +9,7 @@ use Rattle.theory.specs.Records.{Record, count-of, records, rising}
 use Rattle.theory.specs.Settings.{Settings, allowed, Card, card-of, record-size, ledger-length, true-length, clipped-length, buckets-length, side-length, work-length}
 use Rattle.theory.specs.Layout.{Areas, layout}
 use Rattle.theory.specs.Lookup.{bare, counter, bucket-part, search-areas, fetch-areas}
-use Rattle.theory.specs.Ledger.{Call, clear, add, change, remove, search, fetch, tally, Totals, no-totals, Reply, answered, handed, totalled, Step, key-wrong, next, refusal, totals-of, plain}
+use Rattle.theory.specs.Ledger.{Call, clear, add, change, remove, search, fetch, tally, Totals, no-totals, Reply, answered, handed, totalled, Step, key-wrong, next, refusal, counted-totals, plain}
 
 -- the number, class and buckets read of what comes back; fetch hands back a part alone
 abbrev pub reply-number : Reply → ℕ
@@ -28,14 +28,14 @@ reply-buckets-read (handed p) = 0
 reply-buckets-read (totalled x) = 0
 
 -- a refused call: the number with class and counts zero, of fetch only the empty part
-abbrev pub refused : Call → ℕ → Reply
-refused clear n = answered (bare n)
-refused (add k x) n = answered (bare n)
-refused (change k x) n = answered (bare n)
-refused (remove k) n = answered (bare n)
-refused (search k) n = answered (bare n)
-refused (fetch k) n = handed []
-refused tally n = totalled (no-totals n)
+abbrev pub refused-reply : Call → ℕ → Reply
+refused-reply clear n = answered (bare n)
+refused-reply (add k x) n = answered (bare n)
+refused-reply (change k x) n = answered (bare n)
+refused-reply (remove k) n = answered (bare n)
+refused-reply (search k) n = answered (bare n)
+refused-reply (fetch k) n = handed []
+refused-reply tally n = totalled (no-totals n)
 
 -- a refused call alters nothing but work
 abbrev pub stopped : Reply → Areas → Step Areas
@@ -71,7 +71,7 @@ module _ (s : Card) where
   unfoldable pub tally-areas : Areas → Totals
   tally-areas a =
       cond (ledger-invalid (a .ledger)) (no-totals 4)
-      (cond (lookup-invalid a) (no-totals 5) (totals-of (marks (a .buckets)) (count-of (a .side-store)) (count-of (a .ledger)) (s .buckets)))
+      (cond (lookup-invalid a) (no-totals 5) (counted-totals (marks (a .buckets)) (count-of (a .side-store)) (count-of (a .ledger)) (s .buckets)))
 
   -- ---- a call on areas of the right lengths
   unfoldable pub call : Call → Areas → Step Areas
@@ -134,7 +134,7 @@ only-reads tally = true
 -- a call under any settings, on areas of any lengths and contents, with a work area of w numbers of any contents: 1, then 2, then the call
 unfoldable pub perform : Settings → ℕ → Call → Areas → Step Areas
 perform t w c a =
-    cond (not (allowed t)) (stopped (refused c 1) a) (cond (not (all (λ x. x) (lent-lengths (card-of t) w c a))) (stopped (refused c 2) a) (call (card-of t) c a))
+    cond (not (allowed t)) (stopped (refused-reply c 1) a) (cond (not (all (λ x. x) (lent-lengths (card-of t) w c a))) (stopped (refused-reply c 2) a) (call (card-of t) c a))
 
 -- ---- a list of calls: what comes back of each, with the areas after it; each call gets the areas as the last one left them
 unfoldable pub run : Settings → ℕ → List Call → Areas → List (Step Areas)

@@ -63,8 +63,8 @@ unfoldable pub fill-of : ℕ → ℕ → ℕ
 fill-of n m = (200 * n + m) / (2 * m)
 
 -- tally's numbers: the sum of the marks other than 255, the side count, how many marks are 255, and the fill of n held over m buckets
-unfoldable pub totals-of : List ℕ → ℕ → ℕ → ℕ → Totals
-totals-of marks side n m =
+unfoldable pub counted-totals : List ℕ → ℕ → ℕ → ℕ → Totals
+counted-totals marks side n m =
     record {
       number = 0;
       in-buckets = sum (filter (λ x. not (eqb x 255)) marks);
@@ -128,8 +128,8 @@ module _ (s : Card) where
   unfoldable pub search-by : (ℕ → ℕ) → List Record → List ℕ → Answer
   search-by c l k = answer-seen (find k l) k (seen-by c l k)
 
-  unfoldable pub tally-of : List Record → Totals
-  tally-of l = totals-of (map (mark s (true-count s l) l) (upto 0 (s .buckets))) (side-need-of l) (length l) (s .buckets)
+  unfoldable pub list-tally : List Record → Totals
+  list-tally l = counted-totals (map (mark s (true-count s l) l) (upto 0 (s .buckets))) (side-need-of l) (length l) (s .buckets)
 
   -- an update: refused, the list stays; accepted, it is the list that the call makes
   unfoldable pub updated : Call → List Record → Step (List Record)
@@ -144,4 +144,4 @@ module _ (s : Card) where
   plain (remove k) l = updated (remove k) l
   plain (search k) l = record { reply = answered (cond (key-wrong k) (bare 3) (search-by (true-count s l) l k)); state = l }
   plain (fetch k) l = record { reply = handed (cond (key-wrong k) [] (part (find k l))); state = l }
-  plain tally l = record { reply = totalled (tally-of l); state = l }
+  plain tally l = record { reply = totalled (list-tally l); state = l }

@@ -21,13 +21,13 @@ abbrev pub settings-of : ℕ → ℕ → ℕ → ℕ → ℕ → ℕ → Setting
 settings-of p k room top capacity side-places =
     record { p = p; k = k; room = room; top = top; capacity = capacity; side-places = side-places }
 
-abbrev pub within : ℕ → ℕ → ℕ → Bool
-within low high n = leb low n && leb n high
+abbrev pub in-range : ℕ → ℕ → ℕ → Bool
+in-range low high n = leb low n && leb n high
 
 -- each setting is in its range; else 1
 unfoldable pub in-ranges : Settings → List Bool
 in-ranges t =
-    within 4 12 (t .p) ∷ within 1 4 (t .k) ∷ within 1 4 (t .room) ∷ within 2 15 (t .top) ∷ within 1 4096 (t .capacity) ∷ within 0 64 (t .side-places) ∷ []
+    in-range 4 12 (t .p) ∷ in-range 1 4 (t .k) ∷ in-range 1 4 (t .room) ∷ in-range 2 15 (t .top) ∷ in-range 1 4096 (t .capacity) ∷ in-range 0 64 (t .side-places) ∷ []
 
 unfoldable pub allowed : Settings → Bool
 allowed t = all (λ x. x) (in-ranges t)

@@ -1,4 +1,4 @@
-pub mod EditLaws
+pub mod EditKindLaws
 pub mod PlanLaws
 pub mod WriteLaws
-pub mod CallLaws
+pub mod PerformLaws

@@ -20,13 +20,13 @@ use Rattle.memory.proofs.SliceLaws.{tail-is}
 use Rattle.update.specs.declared.Edit.{Edit}
 use Rattle.update.specs.declared.Edit.the-variants.{Insert, Replace, Remove}
 use Rattle.update.specs.declared.Plan.{Plan}
-use Rattle.update.specs.Editing.{call-of, edited, brings, leaves-out, judged-number, list-after, Planned}
+use Rattle.update.specs.Editing.{edit-call, edited, brings, leaves-out, judged-number, edited-list, Planned}
 use Rattle.settings.specs.declared.Settings.{Settings}
 use Rattle.settings.specs.Checked.{card}
 use Rattle.theory.specs.Lookup.{bare}
 use Rattle.theory.specs.Ledger.{key-wrong, next, refusal, answered}
 use Rattle.theory.specs.Calls.{ledger-records, ledger-invalid, update}
-use Rattle.update.proofs.EditLaws.{within}
+use Rattle.update.proofs.EditKindLaws.{within}
 use Rattle.update.proofs.PlanLaws.{length-edited}
 
 -- ---- what holds of each record of a list and of the call's holds of each that an edit makes
@@ -92,7 +92,7 @@ module _ {s : Settings} {m : ℕ} {edit : Edit} {k : List ℕ} {x : ℕ} {ledger
       omega (arith, few, length-edited edit (plan .at) new flows (p .place), within edit (plan .at) (length flows) (p .place))
 
   pub plan-fit : Fit (card s .width) new → All (Fit (card s .width)) flows
-      → All (Fit (card s .width)) (list-after s edit k x ledger)
+      → All (Fit (card s .width)) (edited-list s edit k x ledger)
   plan-fit f a = rw (p .list) (all-edited (Fit (card s .width)) edit (plan .at) new flows f a)
 
   -- the choices of all its records are kept
@@ -108,23 +108,23 @@ double c work m e size = omega (arith, e, size)
 
 -- ---- the call: 3, what judging refuses, or the layout of the new list
 module _ (c : Card) (edit : Edit) (k : List ℕ) (x : ℕ) (a : Areas) where
-  pub updated-3 : (length k ≡ c .width → ⊥) → record { reply = answered (bare 3); state = a } ≡ update c k (call-of edit k x) a
+  pub updated-3 : (length k ≡ c .width → ⊥) → record { reply = answered (bare 3); state = a } ≡ update c k (edit-call edit k x) a
   unfolding update key-wrong
   updated-3 n = rw (ne-eqb (length k) (c .width) n)
 
   module _ (wide : length k ≡ c .width) where
-    pub updated-refused : (n : ℕ) → n ≡ judged-number c (call-of edit k x) (a .ledger) → (n ≡ 0 → ⊥)
-        → record { reply = answered (bare n); state = a } ≡ update c k (call-of edit k x) a
+    pub updated-refused : (n : ℕ) → n ≡ judged-number c (edit-call edit k x) (a .ledger) → (n ≡ 0 → ⊥)
+        → record { reply = answered (bare n); state = a } ≡ update c k (edit-call edit k x) a
     unfolding update key-wrong judged-number
     updated-refused n e some =
         by-test (ledger-invalid c (a .ledger))
         (λ i. let q : n ≡ 4 = rw i at e in rw (eq-eqb (length k) (c .width) wide, i, q))
-        (λ i. let q : n ≡ refusal c (call-of edit k x) (ledger-records c (a .ledger)) = rw i at e in
+        (λ i. let q : n ≡ refusal c (edit-call edit k x) (ledger-records c (a .ledger)) = rw i at e in
         rw (eq-eqb (length k) (c .width) wide, i, ← q, ne-eqb n 0 some))
 
-    pub updated-made : judged-number c (call-of edit k x) (a .ledger) ≡ 0 → ledger-invalid c (a .ledger) ≡ false → (b : Areas)
-        → b ≡ layout c (next c (call-of edit k x) (ledger-records c (a .ledger))) → record { reply = answered (bare 0); state = b } ≡ update c k (call-of edit k x) a
+    pub updated-made : judged-number c (edit-call edit k x) (a .ledger) ≡ 0 → ledger-invalid c (a .ledger) ≡ false → (b : Areas)
+        → b ≡ layout c (next c (edit-call edit k x) (ledger-records c (a .ledger))) → record { reply = answered (bare 0); state = b } ≡ update c k (edit-call edit k x) a
     unfolding update key-wrong judged-number
     updated-made e i b is =
-        let q : refusal c (call-of edit k x) (ledger-records c (a .ledger)) ≡ 0 = rw i at e in
-        rw (eq-eqb (length k) (c .width) wide, i, eq-eqb (refusal c (call-of edit k x) (ledger-records c (a .ledger))) 0 q, is)
+        let q : refusal c (edit-call edit k x) (ledger-records c (a .ledger)) ≡ 0 = rw i at e in
+        rw (eq-eqb (length k) (c .width) wide, i, eq-eqb (refusal c (edit-call edit k x) (ledger-records c (a .ledger))) 0 q, is)

@@ -22,10 +22,10 @@ use Rattle.update.specs.declared.Edit.the-variants.{Insert, Replace, Rem
 use Rattle.update.specs.declared.Plan.{Plan}
 
 -- ---- the call that an edit is
-abbrev pub call-of : Edit → List ℕ → ℕ → Call
-call-of Insert k x = add k x
-call-of Replace k x = change k x
-call-of Remove k x = remove k
+abbrev pub edit-call : Edit → List ℕ → ℕ → Call
+edit-call Insert k x = add k x
+edit-call Replace k x = change k x
+edit-call Remove k x = remove k
 
 -- what it makes of a list at a place, with the record of the call
 abbrev pub edited : Edit → ℕ → Record → List Record → List Record
@@ -61,8 +61,8 @@ unfoldable pub judged-number : Card → Call → List ℕ → ℕ
 judged-number s c ledger = cond (ledger-invalid s ledger) 4 (refusal s c (ledger-records s ledger))
 
 -- the list that the call makes of those in a ledger area
-abbrev pub list-after : Settings → Edit → List ℕ → ℕ → List ℕ → List Record
-list-after s edit k x ledger = next (card s) (call-of edit k x) (ledger-records (card s) ledger)
+abbrev pub edited-list : Settings → Edit → List ℕ → ℕ → List ℕ → List Record
+edited-list s edit k x ledger = next (card s) (edit-call edit k x) (ledger-records (card s) ledger)
 
 -- what placing the new list asks, of n records in a ledger area: a place of the edit among them, and room in work and kept
 pub record PlacingNew (s : Settings) (t : List ℕ) (m : ℕ) (work kept ledger : List ℕ) (n : ℕ) (edit : Edit) (at : ℕ) (bytes : List ℕ) : Type 0 where
@@ -89,11 +89,11 @@ pub record Judging (s : Settings) (t : List ℕ) (m : ℕ) (work kept ledger k :
 pub record Planned (s : Settings) (m : ℕ) (edit : Edit) (k : List ℕ) (x : ℕ) (ledger work kept : List ℕ) (r : Plan) : Type 0 where
   pub valid : ledger-invalid (card s) ledger ≡ false
   pub place : Fits edit (r .at) (length (ledger-records (card s) ledger))
-  pub room : length (list-after s edit k x ledger) ≤ card s .capacity
-  pub list : list-after s edit k x ledger ≡ edited edit (r .at) (record { key = k; class = x }) (ledger-records (card s) ledger)
-  pub count : r .count ≡ length (list-after s edit k x ledger)
-  pub placed : Placed (card s) m (list-after s edit k x ledger) work (take (r .count) kept)
-  pub need : r .need ≡ side-need-of (card s) (list-after s edit k x ledger)
+  pub room : length (edited-list s edit k x ledger) ≤ card s .capacity
+  pub list : edited-list s edit k x ledger ≡ edited edit (r .at) (record { key = k; class = x }) (ledger-records (card s) ledger)
+  pub count : r .count ≡ length (edited-list s edit k x ledger)
+  pub placed : Placed (card s) m (edited-list s edit k x ledger) work (take (r .count) kept)
+  pub need : r .need ≡ side-need-of (card s) (edited-list s edit k x ledger)
   pub enough : r .need ≤ card s .side-places
 
 -- what writing it asks: areas of their lengths, the record of a key of the right width, and the plan

@@ -22,7 +22,7 @@ ghost use Rattle.theory.proofs.ByteLaws.{Fit};
 ghost use Rattle.theory.specs.CallAreas.{areas-now, entry-areas, exit-areas, replied};
 ghost use Rattle.placing.specs.Ready.{Ready};
 ghost use Rattle.placing.specs.Worked.{Placed};
-ghost use Rattle.update.specs.Editing.{call-of, edited, brings, leaves-out, by-list, Fits, judged-number, list-after};
+ghost use Rattle.update.specs.Editing.{edit-call, edited, brings, leaves-out, by-list, Fits, judged-number, edited-list};
 ghost use Rattle.update.specs.Editing.{PlacingNew, Judging, Planned, Making};
 
 // Add, change or remove.
@@ -143,7 +143,7 @@ fn judge(
     record: &[u8],
 ) -> Plan
     requires { ⌜ Judging s (now t) m (now work) (now kept) (now ledger) (now key) class (now «record») ⌝ }
-    ensures { λ r. ⌜ (r .number ≡ judged-number (card s) (call-of edit (now (key .entry)) class) (now (ledger .entry)))
+    ensures { λ r. ⌜ (r .number ≡ judged-number (card s) (edit-call edit (now (key .entry)) class) (now (ledger .entry)))
         × (r .number ≡ 0 → Planned s m edit (now (key .entry)) class (now (ledger .entry)) (now (work .exit)) (now (kept .exit)) r) ⌝ }
 {
     if !ledger::valid(s, ledger) {
@@ -201,7 +201,7 @@ fn write_new(
 )
     requires { ⌜ Making s m edit (now key) class (now «record») (areas-now ledger «true_counts» clipped buckets side) (now work) (now kept) plan ⌝ }
     ensures { λ _. ⌜ exit-areas ledger «true_counts» clipped buckets side
-        ≡ layout (card s) (list-after s edit (now (key .entry)) class (now (ledger .entry))) ⌝ }
+        ≡ layout (card s) (edited-list s edit (now (key .entry)) class (now (ledger .entry))) ⌝ }
 {
     let at = plan.at;
     let count = plan.count;
@@ -240,7 +240,7 @@ fn record_of(key: &[u8], class: u32, size: usize) -> [u8; 64]
 }
 
 // Add, change or remove on allowed settings and areas of their lengths: 3 and what judging refuses; else the layout is written.
-fn update_lent(
+fn update_checked(
     s: Settings,
     t: &[u64],
     edit: Edit,
@@ -256,7 +256,7 @@ fn update_lent(
     requires { ⌜ Ready s (now t) × (length (now work) ≡ work-length (card s))
         × Sized (card s) (areas-now ledger «true_counts» clipped buckets side) ⌝ }
     ensures { λ r. ⌜ replied r (exit-areas ledger «true_counts» clipped buckets side)
-        ≡ calls.update (card s) (now (key .entry)) (call-of edit (now (key .entry)) class)
+        ≡ calls.update (card s) (now (key .entry)) (edit-call edit (now (key .entry)) class)
         (entry-areas ledger «true_counts» clipped buckets side) ⌝ }
 {
     if key.len() != s.width() {
@@ -316,7 +316,7 @@ pub fn update(
 ) -> u32
     ensures { λ r. ⌜ replied r (exit-areas ledger «true_counts» clipped buckets side)
         ≡ perform (given-of given) (length (now (work .entry)))
-        (call-of edit (now (key .entry)) class)
+        (edit-call edit (now (key .entry)) class)
         (entry-areas ledger «true_counts» clipped buckets side) ⌝ }
 {
     let checked = Settings::new(given);
@@ -334,7 +334,7 @@ pub fn update(
         return 2;
     }
     let table = hash::table();
-    update_lent(
+    update_checked(
         s,
         &table[..],
         edit,

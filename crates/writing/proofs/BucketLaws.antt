@@ -25,7 +25,7 @@ use Rattle.memory.proofs.SliceLaws.{back, length-lent, zeros, zeros-drop, lengt
 use Rattle.placing.specs.Worked.{nth, belongs-by, Worked, choice-by}
 use Rattle.placing.proofs.WorkLaws.{counts-are}
 use Rattle.writing.specs.Buckets.{crowded-by, blank-bucket, blank-buckets, growing-bucket, growing-buckets, placed, appended}
-use Rattle.writing.proofs.PartLaws.{Turn, turn-bytes, turn-record, turn-fit}
+use Rattle.writing.proofs.TurnLaws.{Turn, turn-bytes, turn-record, turn-fit}
 
 -- ---- record places, with one record more
 less-one : (z n j : ℕ) → j < n → z * (n - j) - z ≡ z * (n - (j + 1))

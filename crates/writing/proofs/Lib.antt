@@ -1,5 +1,5 @@
 pub mod ChoiceLaws
-pub mod PartLaws
+pub mod TurnLaws
 pub mod CountLaws
 pub mod BucketLaws
 pub mod SideLaws

@@ -20,7 +20,7 @@ use Rattle.memory.proofs.SliceLaws.{back, zeros, row-fits}
 use Rattle.placing.specs.Worked.{nth, belongs-by, Worked}
 use Rattle.placing.proofs.WorkLaws.{belongs-is, need-is}
 use Rattle.writing.specs.Side.{sent-to-side, sent, sent-places}
-use Rattle.writing.proofs.PartLaws.{Turn, turn-record, turn-fit}
+use Rattle.writing.proofs.TurnLaws.{Turn, turn-record, turn-fit}
 use Rattle.writing.proofs.BucketLaws.{places-more}
 
 -- ---- the turn of record i

@@ -25,7 +25,7 @@ returns-4 : tie.Need-returns-4
 returns-4 c =
     let args = c .before .before .before .before .before .before .before .args in
     let one = c .before .before .if2 .left in
-    rw (one-stored (args .h .now) (c .h-lent .result) one, c .h-lent .ensures .0)
+    rw (one-stored (args .h .now) (c .h-with-table .result) one, c .h-with-table .ensures .0)
     (hash-0 _ (args .key .now) (args .h .now) one (c .before .if3 .left) ∙ lent-long (args .lent .now) _ _ (c .before .before .before .if1 .left))
 
 pub flow-hash-lent-spec : {M : Type 1} → statement M

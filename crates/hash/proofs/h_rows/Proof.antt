@@ -3,7 +3,7 @@ use native.Mathlib.Omega.{arith}
 use lib.Dec.{lit<}
 use Rattle.theory.specs.Hash.{H}
 use Rattle.hash.proofs.Constants.{rows}
-use Rattle.hash.proofs.KeyLaws.{byte-last, byte-more}
+use Rattle.hash.proofs.KeyHashLaws.{byte-last, byte-more}
 use borrow.Author.Needs.{needs}
 use Rattle.hash.proofs.h_rows.Statement.{statement}
 use Rattle.hash.proofs.h_rows.Tie as tie

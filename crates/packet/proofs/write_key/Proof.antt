@@ -4,7 +4,7 @@ use native.Mathlib.Omega.{arith}
 use lib.ListN.{length, length-take, length-drop, length-set}
 use lib.Seq.{length-take-le}
 use Rattle.theory.specs.Packet.{packet-key}
-use Rattle.packet.proofs.KeyLaws.{key-written}
+use Rattle.packet.proofs.PacketKeyLaws.{key-written}
 use borrow.Author.Needs.{needs}
 use Rattle.packet.proofs.write_key.Statement.{statement}
 use Rattle.packet.proofs.write_key.Tie as tie

@@ -4,13 +4,13 @@ use Rattle.placing.proofs.ReadyLaws.{right-for, long-for}
 use Rattle.placing.proofs.choose.Statement.{statement}
 use Rattle.placing.proofs.choose.Tie as tie
 
-h-lent-requires : tie.Need-h-lent-requires
-h-lent-requires c κs = let start = c .before .before .before in long-for _ _ (start .pre .0) (start .args .key .now) (start .pre .2)
+h-with-table-requires : tie.Need-h-with-table-requires
+h-with-table-requires c κs = let start = c .before .before .before in long-for _ _ (start .pre .0) (start .args .key .now) (start .pre .2)
 
 returns : tie.Need-returns
 returns c =
     let start = c .before .before .before .before .before in
-    c .choose-at .ensures _ (c .before .h-lent .ensures .1 (right-for _ _ (start .pre .0) (start .args .key .now) (start .pre .2)))
+    c .choose-at .ensures _ (c .before .h-with-table .ensures .1 (right-for _ _ (start .pre .0) (start .args .key .now) (start .pre .2)))
 
 pub choose-spec : {M : Type 1} → statement M
-choose-spec = tie.close (tie.spec h-lent-requires (λ c κs. search needs) returns)
+choose-spec = tie.close (tie.spec h-with-table-requires (λ c κs. search needs) returns)

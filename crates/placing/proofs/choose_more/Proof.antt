@@ -17,7 +17,7 @@ use Rattle.settings.specs.declared.Settings.{Settings}
 use Rattle.settings.proofs.Laws.{bounds}
 use Rattle.placing.specs.declared.Choice.{Choice}
 use Rattle.placing.specs.Worked.{nth, Chose}
-use Rattle.placing.proofs.RecordLaws.{record-within, next-at, key-lent, key-length, choosers-bound, chose-none, chose-all, chose-more}
+use Rattle.placing.proofs.RecordCountLaws.{record-within, next-at, key-lent, key-length, choosers-bound, chose-none, chose-all, chose-more}
 use Rattle.placing.proofs.WorkLaws.{picked-within}
 use Rattle.placing.proofs.ReadyLaws.{sound-card, chosen-within}
 use Rattle.placing.proofs.choose_more.Statement.{statement}

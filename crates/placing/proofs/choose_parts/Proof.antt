@@ -11,7 +11,7 @@ use Rattle.theory.proofs.ByteLaws.{length-records}
 use Rattle.memory.proofs.SliceLaws.{first-lent, second-lent, third-lent, three-back}
 use Rattle.settings.specs.Checked.{card}
 use Rattle.placing.specs.Worked.{Chose}
-use Rattle.placing.proofs.RecordLaws.{chose-append, chose-few}
+use Rattle.placing.proofs.RecordCountLaws.{chose-append, chose-few}
 use Rattle.placing.proofs.choose_parts.Statement.{statement}
 use Rattle.placing.proofs.choose_parts.Tie as tie
 

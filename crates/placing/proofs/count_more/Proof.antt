@@ -14,7 +14,7 @@ use Rattle.theory.specs.Placing.{true-count}
 use Rattle.settings.specs.Checked.{card}
 use Rattle.settings.specs.declared.Settings.{Settings}
 use Rattle.placing.specs.Worked.{nth}
-use Rattle.placing.proofs.RecordLaws.{record-within, next-at, key-lent, key-length, count-none, count-bound, count-more}
+use Rattle.placing.proofs.RecordCountLaws.{record-within, next-at, key-lent, key-length, count-none, count-bound, count-more}
 use Rattle.placing.proofs.ReadyLaws.{right-for, long-for}
 use Rattle.placing.proofs.count_more.Statement.{statement}
 use Rattle.placing.proofs.count_more.Tie as tie
@@ -97,7 +97,7 @@ loop-again c =
     let loop = at .before .loop in
     let raised = c .before .before .raise-at in
     let old = start whole .args .counts .now in
-    let by-key = raised .ensures (key at) (hashed .h-lent .ensures .1 (right-for _ _ (start whole .pre .0) (key at) (key-long at))) in
+    let by-key = raised .ensures (key at) (hashed .h-with-table .ensures .1 (right-for _ _ (start whole .pre .0) (key at) (key-long at))) in
     record {
       within = omega (arith, at .loop-test .taken);
       here = next-at (s whole) _ _ _ _ (width-is whole) (whole .record-size .ensures) (loop .inv .here);

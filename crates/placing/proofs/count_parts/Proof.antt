@@ -5,7 +5,7 @@ use native.Mathlib.Omega.{arith}
 use borrow.Author.Needs.{needs}
 use Rattle.theory.specs.Records.{records}
 use Rattle.settings.specs.Checked.{card}
-use Rattle.placing.proofs.RecordLaws.{count-bound, true-count-append}
+use Rattle.placing.proofs.RecordCountLaws.{count-bound, true-count-append}
 use Rattle.placing.proofs.count_parts.Statement.{statement}
 use Rattle.placing.proofs.count_parts.Tie as tie
 

@@ -4,7 +4,7 @@ use borrow.Author.Tests.{not-true, not-false}
 use Rattle.settings.specs.Checked.{given-of, card}
 use Rattle.settings.proofs.Laws.{allowed-arm, refused-arm, allowed-settings}
 use Rattle.settings.proofs.LengthLaws.{sized-by}
-use Rattle.update.proofs.CallLaws.{clears-1, clears-2, clears}
+use Rattle.update.proofs.PerformLaws.{clears-1, clears-2, clears}
 use borrow.Author.Needs.{needs}
 use Rattle.theory.specs.CallAreas.{areas-now}
 use Rattle.update.proofs.clear.Statement.{statement}

@@ -18,7 +18,7 @@ use Rattle.settings.specs.Checked.{paper}
 use Rattle.settings.proofs.Laws.{capacity-is, side-places-are}
 use Rattle.ledger.proofs.LedgerLaws.{has-count, records-are}
 use Rattle.ledger.proofs.SpotLaws.{search-room, search-rises, ledger-spot}
-use Rattle.ledger.proofs.EditLaws.{few, listed}
+use Rattle.ledger.proofs.LedgerEditLaws.{few, listed}
 use Rattle.placing.specs.Worked.{Placed}
 use Rattle.update.specs.Editing.{edited, brings, leaves-out}
 use Rattle.update.proofs.PlanLaws.{Found, Accepted, ledger-room, place-fits, place-listed, place-inside, makes, made-length, made-few}

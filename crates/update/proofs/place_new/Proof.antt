@@ -14,7 +14,7 @@ use Rattle.settings.specs.Checked.{paper, card}
 use Rattle.placing.specs.Worked.{Placed}
 use Rattle.placing.proofs.WorkLaws.{kept-within}
 use Rattle.update.specs.Editing.{edited, brings, leaves-out}
-use Rattle.update.proofs.EditLaws.{size-is, within, Around, from-within, after-within, first-room, mid-room, last-room, new-list, total-is}
+use Rattle.update.proofs.EditKindLaws.{size-is, within, Around, from-within, after-within, first-room, mid-room, last-room, new-list, total-is}
 use borrow.Author.Needs.{needs}
 use Rattle.update.proofs.place_new.Statement.{statement}
 use Rattle.update.proofs.place_new.Tie as tie

@@ -11,7 +11,7 @@ use Rattle.settings.specs.Checked.{given-of, card}
 use Rattle.settings.proofs.Laws.{allowed-arm, refused-arm, allowed-settings}
 use Rattle.settings.proofs.LengthLaws.{sized-by}
 use Rattle.placing.proofs.ReadyLaws.{ready}
-use Rattle.update.proofs.CallLaws.{performs-1, performs-2, performs-on}
+use Rattle.update.proofs.PerformLaws.{performs-1, performs-2, performs-on}
 use Rattle.update.proofs.update.Statement.{statement}
 use Rattle.update.proofs.update.Tie as tie
 
@@ -43,8 +43,8 @@ returns-2 c =
     let work-length = c .before .before .work-length in
     let arm = allowed-arm (given-of (start .args .given)) (new .result) (new .ensures) (checked .given .0 .0) (checked .given .1) in performs-2 (given-of (start .args .given)) (start .args .edit) (start .args .key .now) (start .args .class) (length (start .args .work .now)) (areas-now (start .args .ledger) (start .args .true-counts) (start .args .clipped) (start .args .buckets) (start .args .side)) (arm .0) (checked .given .0 .0) (arm .1) (work-length .result) (work-length .ensures) (ap (λ (b : Bool). (eqb (length (start .args .work .now)) (work-length .result)) && b) (sym (c .before .lengths-right .ensures)) ∙ not-true _ (c .if1 .taken))
 
-update-lent-requires : tie.Need-update-lent-requires
-update-lent-requires c κs =
+update-checked-requires : tie.Need-update-checked-requires
+update-checked-requires c κs =
     let start = c .before .before .before .before .before .before .before .before .before .before .before .before .before .before .before .before .before .before .before .before .before .before in
     let new = c .before .before .before .before .before .before .before .before .before .before .before .before .before .before .new in
     let checked = c .before .before .before .before .before .before .before .before .before .before .before .before .checked in
@@ -66,8 +66,8 @@ returns-3 c =
     let work-length = c .before .before .before .before .before .before .before .before .before .before .before .before .before .before .before .before .before .before .before .before .before .before .before .work-length in
     let lengths-right = c .before .before .before .before .before .before .before .before .before .before .before .before .before .before .before .before .before .before .before .before .before .before .lengths-right in
     let if1 = c .before .before .before .before .before .before .before .before .before .before .before .before .before .before .before .before .before .before .before .before .before .if1 in
-    let update-lent = c .before .before .before .before .before .before .before .before .before .before .before .before .update-lent in
-    let arm = allowed-arm (given-of (start .args .given)) (new .result) (new .ensures) (checked .given .0 .0) (checked .given .1) in performs-on (given-of (start .args .given)) (start .args .edit) (start .args .key .now) (start .args .class) (length (start .args .work .now)) (areas-now (start .args .ledger) (start .args .true-counts) (start .args .clipped) (start .args .buckets) (start .args .side)) (arm .0) (checked .given .0 .0) (arm .1) (work-length .result) (work-length .ensures) (ap (λ (b : Bool). (eqb (length (start .args .work .now)) (work-length .result)) && b) (sym (lengths-right .ensures)) ∙ not-false _ (if1 .left)) _ (update-lent .ensures)
+    let update-checked = c .before .before .before .before .before .before .before .before .before .before .before .before .update-checked in
+    let arm = allowed-arm (given-of (start .args .given)) (new .result) (new .ensures) (checked .given .0 .0) (checked .given .1) in performs-on (given-of (start .args .given)) (start .args .edit) (start .args .key .now) (start .args .class) (length (start .args .work .now)) (areas-now (start .args .ledger) (start .args .true-counts) (start .args .clipped) (start .args .buckets) (start .args .side)) (arm .0) (checked .given .0 .0) (arm .1) (work-length .result) (work-length .ensures) (ap (λ (b : Bool). (eqb (length (start .args .work .now)) (work-length .result)) && b) (sym (lengths-right .ensures)) ∙ not-false _ (if1 .left)) _ (update-checked .ensures)
 
 pub update-spec : {M : Type 1} → statement M
 update-spec =
@@ -82,7 +82,7 @@ update-spec =
     returns-2
     (λ c κs. search needs)
     (λ c. search needs)
-    update-lent-requires
+    update-checked-requires
     (λ c. search needs)
     (λ c. search needs)
     (λ c. search needs)

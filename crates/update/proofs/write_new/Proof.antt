@@ -10,10 +10,10 @@ use Rattle.theory.specs.Layout.{counted-places}
 use Rattle.theory.proofs.ByteLaws.{Fit, length-record}
 use Rattle.settings.specs.Checked.{card}
 use Rattle.ledger.proofs.LedgerLaws.{has-count}
-use Rattle.ledger.proofs.EditLaws.{records-fit-width}
+use Rattle.ledger.proofs.LedgerEditLaws.{records-fit-width}
 use Rattle.memory.proofs.SliceLaws.{bytes-of}
-use Rattle.update.specs.Editing.{list-after}
-use Rattle.update.proofs.EditLaws.{size-is}
+use Rattle.update.specs.Editing.{edited-list}
+use Rattle.update.proofs.EditKindLaws.{size-is}
 use Rattle.update.proofs.WriteLaws.{plan-room, plan-fit, plan-kept, Written, long, lent-records, lent-room, laid-out}
 use borrow.Author.Needs.{needs}
 use Rattle.update.proofs.write_new.Statement.{statement}
@@ -28,7 +28,7 @@ module _ (c : tie.Start) where
   new = record { key = c .args .key .now; class = c .args .class }
 
   abbrev made : List Record
-  made = list-after (c .args .s) (c .args .edit) (c .args .key .now) (c .args .class) (c .args .ledger .now)
+  made = edited-list (c .args .s) (c .args .edit) (c .args .key .now) (c .args .class) (c .args .ledger .now)
 
   new-fits : Fit (s .width) new
   new-fits = record { wide = c .pre .wide; small = c .fits .class .fits }

@@ -1,6 +1,6 @@
 -- `card::snapshots::flow_load` meets its contract: an area for the settings of another length; else what loading gives.
 use lib.ListN.{length}
-use Rattle.card.proofs.SnapshotLaws.{settings-area-wrong, loaded-into}
+use Rattle.card.proofs.SnapshotDoorLaws.{settings-area-wrong, loaded-into}
 use borrow.Author.Needs.{needs}
 use Rattle.card.proofs.snapshots.flow_load.Statement.{statement}
 use Rattle.card.proofs.snapshots.flow_load.Tie as tie

@@ -1,6 +1,6 @@
 -- `card::snapshots::refuse_settings_area` meets its contract: what the head decides, else 2.
 use borrow.Author.Tests.{ne-eqb}
-use Rattle.card.proofs.SnapshotLaws.{refusal-by-head}
+use Rattle.card.proofs.SnapshotDoorLaws.{refusal-by-head}
 use borrow.Author.Needs.{needs}
 use Rattle.card.proofs.snapshots.refuse_settings_area.Statement.{statement}
 use Rattle.card.proofs.snapshots.refuse_settings_area.Tie as tie

@@ -9,7 +9,7 @@ use Rattle.settings.specs.Checked.{paper, card}
 use Rattle.memory.proofs.SliceLaws.{bytes-of}
 use Rattle.memory.proofs.SliceLaws.{two-kept}
 use Rattle.ledger.proofs.LedgerLaws.{has-count}
-use Rattle.ledger.proofs.EditLaws.{listed, place-within, one-more-within, inserted}
+use Rattle.ledger.proofs.LedgerEditLaws.{listed, place-within, one-more-within, inserted}
 use Rattle.ledger.proofs.edits.insert_record.Statement.{statement}
 use Rattle.ledger.proofs.edits.insert_record.Tie as tie
 

@@ -8,7 +8,7 @@ use Rattle.settings.specs.Checked.{card}
 use Rattle.memory.proofs.SliceLaws.{bytes-of}
 use Rattle.memory.proofs.SliceLaws.{two-kept}
 use Rattle.ledger.proofs.LedgerLaws.{has-count}
-use Rattle.ledger.proofs.EditLaws.{listed, record-within, ends-within, removed}
+use Rattle.ledger.proofs.LedgerEditLaws.{listed, record-within, ends-within, removed}
 use Rattle.ledger.proofs.edits.remove_record.Statement.{statement}
 use Rattle.ledger.proofs.edits.remove_record.Tie as tie
 

@@ -7,7 +7,7 @@ use lib.ListN.{length}
 use Rattle.theory.specs.Records.{count-of}
 use Rattle.settings.specs.Checked.{card}
 use Rattle.memory.proofs.SliceLaws.{bytes-of}
-use Rattle.ledger.proofs.EditLaws.{record-within, ends-within, replaced}
+use Rattle.ledger.proofs.LedgerEditLaws.{record-within, ends-within, replaced}
 use Rattle.ledger.proofs.edits.replace_record.Statement.{statement}
 use Rattle.ledger.proofs.edits.replace_record.Tie as tie
 

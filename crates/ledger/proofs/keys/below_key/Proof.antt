@@ -5,7 +5,7 @@ use native.Mathlib.Omega.{arith}
 use lib.ListN.{length, drop}
 use borrow.Author.Tests.{eq-eqb, ne-eqb, lt-ltb, le-ltb}
 use Rattle.theory.specs.Records.{key-below}
-use Rattle.ledger.proofs.KeyLaws.{below-from, below-end}
+use Rattle.ledger.proofs.KeyCompareLaws.{below-from, below-end}
 use Rattle.ledger.proofs.keys.below_key.Statement.{statement}
 use Rattle.ledger.proofs.keys.below_key.Tie as tie
 

@@ -7,7 +7,7 @@ use borrow.Author.Tests.{not-true, not-false}
 use lib.ListN.{length, take, drop}
 use Rattle.theory.specs.Records.{records, key-below, rising}
 use Rattle.memory.proofs.SliceLaws.{length-lent}
-use Rattle.ledger.proofs.RecordLaws.{room-next, room-two, rising-none, rising-one, rising-next}
+use Rattle.ledger.proofs.RisingLaws.{room-next, room-two, rising-none, rising-one, rising-next}
 use Rattle.ledger.proofs.keys.keys_rise.Statement.{statement}
 use Rattle.ledger.proofs.keys.keys_rise.Tie as tie
 

@@ -5,7 +5,7 @@ use native.Mathlib.Omega.{arith}
 use lib.ListN.{length, drop}
 use borrow.Author.Tests.{eq-eqb, ne-eqb}
 use Rattle.theory.specs.Records.{same-key}
-use Rattle.ledger.proofs.KeyLaws.{same-from, same-end}
+use Rattle.ledger.proofs.KeyCompareLaws.{same-from, same-end}
 use Rattle.ledger.proofs.keys.same_bytes.Statement.{statement}
 use Rattle.ledger.proofs.keys.same_bytes.Tie as tie
 

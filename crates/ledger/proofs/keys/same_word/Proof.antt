@@ -1,6 +1,6 @@
 -- `ledger::keys::same_word` meets its contract: eight bytes are the same where their numbers are, the law `same-by-word`.
 use Rattle.memory.proofs.SliceLaws.{bytes-of}
-use Rattle.ledger.proofs.KeyLaws.{same-by-word}
+use Rattle.ledger.proofs.KeyCompareLaws.{same-by-word}
 use borrow.Author.Needs.{needs}
 use Rattle.ledger.proofs.keys.same_word.Statement.{statement}
 use Rattle.ledger.proofs.keys.same_word.Tie as tie

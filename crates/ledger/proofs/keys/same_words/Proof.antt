@@ -5,7 +5,7 @@ use Prim.Native.Nat.{_≤_, _+_, _-_}
 use native.Mathlib.Omega.{arith}
 use lib.ListN.{length, take, drop}
 use Rattle.theory.specs.Records.{same-key}
-use Rattle.ledger.proofs.KeyLaws.{same-word-more, same-all}
+use Rattle.ledger.proofs.KeyCompareLaws.{same-word-more, same-all}
 use Rattle.ledger.proofs.keys.same_words.Statement.{statement}
 use Rattle.ledger.proofs.keys.same_words.Tie as tie
 

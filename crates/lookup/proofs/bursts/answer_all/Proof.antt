@@ -8,7 +8,7 @@ use lib.ListN.{length, getD}
 use Rattle.theory.specs.Settings as plain
 use Rattle.theory.specs.Lookup.{driver-number}
 use Rattle.settings.specs.Checked.{paper, card}
-use Rattle.lookup.specs.Places.{ChoiceFits}
+use Rattle.lookup.specs.Places.{KeyCountersFit}
 use Rattle.lookup.specs.Bursts.{key-at, each, unpacked-of, number-by}
 use Rattle.lookup.proofs.BurstLaws.{Passed, passed-none, passed-more, passed-all, key-within, key-lent, key-size, next-key, number-from}
 use Rattle.lookup.proofs.bursts.answer_all.Statement.{statement}
@@ -51,9 +51,9 @@ module _ (c : tie.After-unpacked Inv-loop μ-loop) where
   is-choice : c .unpacked .result ≡ unpacked-of (getD (start hand .args .answers .now) (hand .before .loop .i) 0)
   is-choice = c .unpacked .ensures ∙ ap unpacked-of (hand .before .loop .inv .passed .left (hand .before .loop .i) (omega arith))
 
-  fits : ChoiceFits (paper (start hand .args .s)) (c .unpacked .result)
+  fits : KeyCountersFit (paper (start hand .args .s)) (c .unpacked .result)
   fits =
-      subst (ChoiceFits (paper (start hand .args .s))) (sym is-choice)
+      subst (KeyCountersFit (paper (start hand .args .s))) (sym is-choice)
       (start hand .pre .2 (hand .before .loop .i) (omega (arith, hand .before .loop .inv .passed .long)))
 
 search-chosen-requires : tie.Need-search-chosen-requires Inv-loop μ-loop

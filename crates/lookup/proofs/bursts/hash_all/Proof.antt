@@ -42,8 +42,8 @@ module _ (c : tie.In-loop Inv-loop μ-loop) where
       key-within w width (c .before .loop .at) (c .before .loop .i) (measured .width .ensures) (c .before .loop .inv .here)
       (length (start .args .answers .now)) (start .args .keys .now) (start .pre .1) (omega (arith, c .before .loop .inv .passed .long))
 
-h-lent-requires : tie.Need-h-lent-requires Inv-loop μ-loop
-h-lent-requires c κs =
+h-with-table-requires : tie.Need-h-with-table-requires Inv-loop μ-loop
+h-with-table-requires c κs =
     let at = c .before in
     let size = key-size (width at) (at .before .loop .at) (start at .args .keys .now) (inside at) in
     omega (arith, size, measured at .width .ensures, lent-length _ _ (start at .pre .0))
@@ -53,9 +53,9 @@ loop-again c =
     let at = c .before .before in
     let l = at .before .loop in
     let keys = start at .args .keys .now in
-    let e = c .h-lent .ensures .0 ∙ ap (H-by (start at .args .table .now)) (key-lent (w at) (width at) (l .at) (l .i) (measured at .width .ensures) (l .inv .here) keys) in
+    let e = c .h-with-table .ensures .0 ∙ ap (H-by (start at .args .table .now)) (key-lent (w at) (width at) (l .at) (l .i) (measured at .width .ensures) (l .inv .here) keys) in
     record {
-      passed = passed-more _ _ (l .i) (l .answers) (l .inv .passed) (c .h-lent .result) (at .loop-test .taken) e;
+      passed = passed-more _ _ (l .i) (l .answers) (l .inv .passed) (c .h-with-table .result) (at .loop-test .taken) e;
       here = next-key (w at) (width at) (l .at) (l .i) (measured at .width .ensures) (l .inv .here);
     }
 
@@ -78,7 +78,7 @@ hash-all-spec =
     (λ c. omega arith)
     (λ c. omega arith)
     (λ c. omega (arith, inside c))
-    h-lent-requires
+    h-with-table-requires
     (λ c. omega arith)
     (λ c. omega arith)
     (λ c. omega arith)

@@ -46,10 +46,10 @@ answer-all-requires c κs =
     let at = c .before .before .before .before .before .before .before .before .before in
     let lent = fine at .lent in
     let clipped = start at .args .clipped .now in
-    let long = packed-length (paper (s at)) (lent .ok) clipped (h at) (length (answers at)) _ _ (c .before .before .before .before .before .before .before .hash-all .ensures) (c .before .before .before .choose-all .ensures) in (
+    let long = packed-length (paper (s at)) (lent .ok) clipped (h at) (length (answers at)) _ _ (c .before .before .before .before .before .before .before .hash-all .ensures) (c .before .before .before .read-all-counters .ensures) in (
       record { ok = lent .ok; buckets-size = lent .buckets-size; side-size = lent .side-size },
       fine at .keys-size ∙ ap (λ (n : ℕ). n * card (s at) .width) (sym long),
-      packed-fits (paper (s at)) (lent .ok) clipped (h at) (length (answers at)) _ _ (c .before .before .before .before .before .before .before .hash-all .ensures) (c .before .before .before .choose-all .ensures),
+      packed-fits (paper (s at)) (lent .ok) clipped (h at) (length (answers at)) _ _ (c .before .before .before .before .before .before .before .hash-all .ensures) (c .before .before .before .read-all-counters .ensures),
     )
 
 returns-2 : tie.Need-returns-2
@@ -57,7 +57,7 @@ returns-2 c =
     let at = c .before .before .before .before .before .before .before .before .before .before .before .before in
     let args = start at .args in
     burst-answered (args .table .now) (args .clipped .now) (args .buckets .now) (args .side .now) (args .keys .now) (answers at) (given (start at)) (s at) (ready at) (fine at .same) _
-    (numbered (paper (s at)) (fine at .lent .ok) (args .clipped .now) (h at) (length (answers at)) _ _ (c .before .before .before .before .before .before .before .before .before .before .hash-all .ensures) (c .before .before .before .before .before .before .choose-all .ensures)
+    (numbered (paper (s at)) (fine at .lent .ok) (args .clipped .now) (h at) (length (answers at)) _ _ (c .before .before .before .before .before .before .before .before .before .before .hash-all .ensures) (c .before .before .before .before .before .before .read-all-counters .ensures)
     (args .buckets .now) (args .side .now) (args .keys .now) (card (s at) .width) _ (c .before .before .answer-all .ensures))
 
 pub search-burst-spec : {M : Type 1} → statement M

@@ -5,7 +5,7 @@ use borrow.Author.Needs.{needs}
 use Rattle.theory.specs.Lookup as plain
 use Rattle.theory.specs.Lookup.{answer-at}
 use Rattle.settings.specs.Checked.{paper, card}
-use Rattle.lookup.specs.declared.placing.Place.{Place}
+use Rattle.lookup.specs.declared.places.Place.{Place}
 use Rattle.lookup.specs.Places.{place-of, place-by, Inside}
 use Rattle.lookup.proofs.bursts.search_chosen.Statement.{statement}
 use Rattle.lookup.proofs.bursts.search_chosen.Tie as tie

@@ -41,10 +41,10 @@ answer-all-requires c κs =
     let lent = right at .lent in
     let clipped = start at .args .clipped .now in
     let h : ℕ → ℕ = λ j. c .before .before .before .before .h-rows .result in
-    let long = packed-length (paper (s at)) (lent .ok) clipped h 1 _ _ refl (c .before .before .choose-all .ensures) in (
+    let long = packed-length (paper (s at)) (lent .ok) clipped h 1 _ _ refl (c .before .before .read-all-counters .ensures) in (
       record { ok = lent .ok; buckets-size = lent .buckets-size; side-size = lent .side-size },
       right at .wide ∙ rw long (omega arith),
-      packed-fits (paper (s at)) (lent .ok) clipped h 1 _ _ refl (c .before .before .choose-all .ensures),
+      packed-fits (paper (s at)) (lent .ok) clipped h 1 _ _ refl (c .before .before .read-all-counters .ensures),
     )
 
 returns-2 : tie.Need-returns-2
@@ -52,7 +52,7 @@ returns-2 c =
     let at = c .before .before .before .before .before .before .before in
     let args = start at .args in
     let h : ℕ → ℕ = λ j. c .before .before .before .before .before .before .h-rows .result in
-    let numbers = numbered (paper (s at)) (right at .lent .ok) (args .clipped .now) h 1 _ _ refl (c .before .before .before .before .choose-all .ensures) (args .buckets .now) (args .side .now) (args .key .now) (card (s at) .width) _ (c .before .answer-all .ensures) in
+    let numbers = numbered (paper (s at)) (right at .lent .ok) (args .clipped .now) h 1 _ _ refl (c .before .before .before .before .read-all-counters .ensures) (args .buckets .now) (args .side .now) (args .key .now) (card (s at) .width) _ (c .before .answer-all .ensures) in
     ap (λ (l : List ℕ). getD l 0 0) numbers
     ∙ one-number (given (start at)) (args .clipped .now) (args .buckets .now) (args .side .now) (args .key .now) (s at) (ready at) (c .before .before .before .before .before .before .h-rows .result) (c .before .before .before .before .before .before .h-rows .ensures)
 

@@ -4,7 +4,7 @@ use Prim.Native.Nat.{_+_}
 use native.Mathlib.Nat.{add-sub-cancel-left, add-assoc}
 use native.Mathlib.Omega.{arith}
 use lib.ListN.{length}
-use Rattle.ledger.proofs.RecordLaws.{room-next}
+use Rattle.ledger.proofs.RisingLaws.{room-next}
 use Rattle.lookup.proofs.ScanLaws.{Scanning, scanning-start, scanning-hit, scanning-on, scanning-end, length-part}
 use Rattle.lookup.proofs.scanning.scan.Statement.{statement}
 use Rattle.lookup.proofs.scanning.scan.Tie as tie

@@ -9,7 +9,7 @@ use Rattle.settings.specs.declared.Settings as code
 use Rattle.settings.specs.Checked.{paper, given-of}
 use Rattle.settings.proofs.Laws.{allowed-arm, refused-arm, allowed-settings}
 use Rattle.lookup.specs.Tallies.{totals-of}
-use Rattle.lookup.proofs.TallyLaws.{tally-1, lengths-by, Checked, tally-2, tally-on, tally-lent}
+use Rattle.lookup.proofs.TallyLaws.{tally-1, lengths-by, Checked, tally-2, tally-on, tally-checked}
 use borrow.Author.Needs.{needs}
 use Rattle.lookup.proofs.tallying.tally.Statement.{statement}
 use Rattle.lookup.proofs.tallying.tally.Tie as tie
@@ -63,7 +63,7 @@ returns-2 : tie.Need-returns-2
 returns-2 c = tally-2 _ _ _ _ _ (judged (c .before .before)) (not-true _ (c .before .if1 .taken)) (totals-of (c .no-totals2 .result)) (c .no-totals2 .ensures)
 
 returns-3 : tie.Need-returns-3
-returns-3 c = tally-on _ _ _ _ _ (judged (c .before .before)) (not-false _ (c .before .if1 .left)) (totals-of (c .tally-lent .result)) (c .tally-lent .ensures)
+returns-3 c = tally-on _ _ _ _ _ (judged (c .before .before)) (not-false _ (c .before .if1 .left)) (totals-of (c .tally-checked .result)) (c .tally-checked .ensures)
 
 pub tally-spec : {M : Type 1} → statement M
 tally-spec =
@@ -78,5 +78,5 @@ tally-spec =
     (λ c κs. ok (c .before))
     (λ c κs. search needs)
     returns-2
-    (λ c κs. tally-lent _ _ _ _ _ (judged (c .before)) (not-false _ (c .if1 .left)))
+    (λ c κs. tally-checked _ _ _ _ _ (judged (c .before)) (not-false _ (c .if1 .left)))
     returns-3)

@@ -59,8 +59,8 @@ returns-3 c =
     let lengths-right = c .before .before .lengths-right in
     let arm = allowed-arm (file-settings (start .args .file .now)) (read-settings .result) (read-settings .ensures) (checked .given .0 .0) (checked .given .1) in (c .not-loaded3 .ensures (areas-now (start .args .ledger) (start .args .true-counts) (start .args .clipped) (start .args .buckets) (start .args .side))) ∙ loads-2 (start .args .file .now) (length (start .args .work .now)) (areas-now (start .args .ledger) (start .args .true-counts) (start .args .clipped) (start .args .buckets) (start .args .side)) (sym (head-wrong .ensures) ∙ (if1 .left)) (arm .0) (checked .given .0 .0) (arm .1) (work-length .result) (work-length .ensures) (ap (λ (b : Bool). (eqb (length (start .args .work .now)) (work-length .result)) && b) (sym (lengths-right .ensures)) ∙ not-true _ (c .before .if2 .taken))
 
-load-lent-requires : tie.Need-load-lent-requires
-load-lent-requires c κs =
+load-checked-requires : tie.Need-load-checked-requires
+load-checked-requires c κs =
     let start = c .before .before .before .before .before .before .before .before .before .before .before .before .before .before .before .before .before .before .before .before .before .before .before .before in
     let head-wrong = c .before .before .before .before .before .before .before .before .before .before .before .before .before .before .before .before .head-wrong in
     let if1 = c .before .before .before .before .before .before .before .before .before .before .before .before .before .before .before .if1 in
@@ -97,7 +97,7 @@ load-spec =
     returns-3
     (λ c κs. search needs)
     (λ c. search needs)
-    load-lent-requires
+    load-checked-requires
     (λ c. search needs)
     (λ c. search needs)
     (λ c. search needs)

@@ -44,8 +44,8 @@ returns-2 c =
     let ledger-length = c .before .ledger-length in
     let arm = allowed-arm (given-of (start .args .given)) (new .result) (new .ensures) (checked .given .0 .0) (checked .given .1) in saves-2 (given-of (start .args .given)) (start .args .ledger .now) (length (start .args .work .now)) (start .args .target .now) (arm .0) (checked .given .0 .0) (arm .1) (work-length .result) (ledger-length .result) (work-length .ensures) (ledger-length .ensures) (not-true _ (c .if1 .taken))
 
-save-lent-requires : tie.Need-save-lent-requires
-save-lent-requires c κs =
+save-checked-requires : tie.Need-save-checked-requires
+save-checked-requires c κs =
     let start = c .before .before .before .before .before .before .before .before .before .before .before .before .before .before in
     let new = c .before .before .before .before .before .before .before .before .before .before .new in
     let checked = c .before .before .before .before .before .before .before .before .checked in
@@ -64,8 +64,8 @@ returns-3 c =
     let start = c .before .before .before .before .before .before .before .before .before .before .before .before .before .before .before .before .before .before .before in
     let new = c .before .before .before .before .before .before .before .before .before .before .before .before .before .before .before .new in
     let checked = c .before .before .before .before .before .before .before .before .before .before .before .before .before .checked in
-    let save-lent = c .before .before .before .before .save-lent in
-    let arm = allowed-arm (given-of (start .args .given)) (new .result) (new .ensures) (checked .given .0 .0) (checked .given .1) in (save-lent .ensures) ∙ ap (λ (u : Settings). save u (start .args .ledger .now) (length (start .args .work .now)) (start .args .target .now)) (arm .1)
+    let save-checked = c .before .before .before .before .save-checked in
+    let arm = allowed-arm (given-of (start .args .given)) (new .result) (new .ensures) (checked .given .0 .0) (checked .given .1) in (save-checked .ensures) ∙ ap (λ (u : Settings). save u (start .args .ledger .now) (length (start .args .work .now)) (start .args .target .now)) (arm .1)
 
 pub save-spec : {M : Type 1} → statement M
 save-spec =
@@ -80,7 +80,7 @@ save-spec =
     returns-2
     (λ c κs. search needs)
     (λ c. search needs)
-    save-lent-requires
+    save-checked-requires
     (λ c. search needs)
     (λ c. search needs)
     returns-3)

@@ -5,7 +5,7 @@ use lib.Seq.{length-take-le}
 use Rattle.theory.proofs.SettingsLaws.{sound}
 use Rattle.settings.specs.Checked.{paper, card}
 use Rattle.memory.proofs.SliceLaws.{bytes-of}
-use Rattle.ledger.proofs.EditLaws.{few}
+use Rattle.ledger.proofs.LedgerEditLaws.{few}
 use Rattle.snapshot.proofs.SaveLaws.{end-within, same-room, snapshot-written}
 use borrow.Author.Needs.{needs}
 use Rattle.snapshot.proofs.saving.write_snapshot.Statement.{statement}

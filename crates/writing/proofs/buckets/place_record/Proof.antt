@@ -12,7 +12,7 @@ use Rattle.settings.specs.Checked.{paper, card}
 use Rattle.memory.proofs.SliceLaws.{length-lent, row-fits, bytes-of}
 use Rattle.placing.specs.Worked.{nth, belongs-by}
 use Rattle.writing.proofs.ChoiceLaws.{key-at, kept-length, kept-is, kept-most, kept-side}
-use Rattle.writing.proofs.PartLaws.{Turn, within-by}
+use Rattle.writing.proofs.TurnLaws.{Turn, within-by}
 use Rattle.writing.proofs.BucketLaws.{skip-side, ChosenPart, chosen-part}
 use borrow.Author.Needs.{needs}
 use Rattle.writing.proofs.buckets.place_record.Statement.{statement}

@@ -14,7 +14,7 @@ use Rattle.memory.proofs.SliceLaws.{lent-is, back-is, bytes-of}
 use Rattle.settings.specs.Checked.{card}
 use Rattle.placing.specs.Worked.{nth, belongs-by, Worked}
 use Rattle.writing.proofs.ChoiceLaws.{key-at, kept-length, kept-most, kept-side}
-use Rattle.writing.proofs.PartLaws.{Turn, within-by}
+use Rattle.writing.proofs.TurnLaws.{Turn, within-by}
 use Rattle.writing.proofs.SideLaws.{not-sent, sent-length, place-within, sent-put}
 use borrow.Author.Needs.{needs}
 use Rattle.writing.proofs.side.side_record.Statement.{statement}
