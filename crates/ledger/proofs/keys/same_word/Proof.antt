@@ -5,19 +5,10 @@ use borrow.Author.Needs.{needs}
 use Rattle.ledger.proofs.keys.same_word.Statement.{statement}
 use Rattle.ledger.proofs.keys.same_word.Tie as tie
 
--- src/keys.rt:28:5
-low-word-at-requires : tie.Need-low-word-at-requires
-low-word-at-requires c κs = search needs
-
--- src/keys.rt:28:27
-low-word-at-requires-2 : tie.Need-low-word-at-requires-2
-low-word-at-requires-2 c κs = search needs
-
--- src/keys.rt:24:1
 returns : tie.Need-returns
 returns c =
     rw (c .before .low-word-at .ensures, c .low-word-at2 .ensures)
     (same-by-word (c .before .before .before .before .args .a .now) (c .before .before .before .before .args .b .now) (c .before .before .before .before .args .at) (bytes-of (c .before .before .before .before .args .a .now) (c .before .before .before .shared-slice-known .given)) (bytes-of (c .before .before .before .before .args .b .now) (c .before .before .shared-slice-known2 .given)) (c .before .before .before .before .pre .0) (c .before .before .before .before .pre .1))
 
 pub same-word-spec : {M : Type 1} → statement M
-same-word-spec = tie.close (tie.spec low-word-at-requires low-word-at-requires-2 returns)
+same-word-spec = tie.close (tie.spec (λ c κs. search needs) (λ c κs. search needs) returns)

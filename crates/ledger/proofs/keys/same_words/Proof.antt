@@ -16,31 +16,12 @@ Inv-loop a b last same₀ i₀ same i = (i ≤ last + 7)
 abbrev μ-loop : tie.MeasureT-loop
 μ-loop a b last same₀ i₀ same i = last + 8 - i
 
--- src/keys.rt:36:16
-sub-last : tie.Need-sub-last Inv-loop μ-loop
-sub-last c = omega (arith, c .before .before .pre .1)
-
--- src/keys.rt:37:9
 same-word-requires : tie.Need-same-word-requires Inv-loop μ-loop
 same-word-requires c κs = (omega (arith, c .before .before .pre .1), omega (arith, c .before .before .pre .0, c .before .before .pre .1))
 
--- src/keys.rt:39:5
-loop-holds : tie.Need-loop-holds Inv-loop μ-loop
-loop-holds c = (omega arith, c .same-word .ensures)
-
--- src/keys.rt:40:16
 same-word-requires-2 : tie.Need-same-word-requires-2 Inv-loop μ-loop
 same-word-requires-2 c κs = (omega (arith, c .before .before .before .before .before .pre .1, c .loop-test .taken), omega (arith, c .before .before .before .before .before .pre .0, c .before .before .before .before .before .pre .1, c .loop-test .taken))
 
--- src/keys.rt:41:9
-add-i : tie.Need-add-i Inv-loop μ-loop
-add-i c = omega (arith, c .before .loop-test .taken)
-
--- src/keys.rt:39:5
-loop-less : tie.Need-loop-less Inv-loop μ-loop
-loop-less c = omega (arith, c .before .loop-test .taken)
-
--- src/keys.rt:39:5
 loop-again : tie.Need-loop-again Inv-loop μ-loop
 loop-again c = (
   omega (arith, c .before .loop-test .taken),
@@ -49,7 +30,6 @@ loop-again c = (
       (omega (arith, c .before .before .before .before .before .before .pre .1, c .before .loop-test .taken))),
 )
 
--- src/keys.rt:32:1
 returns : tie.Need-returns Inv-loop μ-loop
 returns c =
     c .before .loop .inv .1 ∙ same-all (c .before .before .before .before .before .args .a .now) (c .before .before .before .before .before .args .b .now) (c .before .before .before .before .before .pre .0) (length (c .before .before .before .before .before .args .a .now) - 8) (c .before .loop .i) (omega (arith, c .before .before .before .before .before .pre .1)) (omega (arith, c .loop-test .left))
@@ -60,11 +40,11 @@ same-words-spec =
     (tie.spec
     Inv-loop
     μ-loop
-    sub-last
+    (λ c. omega (arith, c .before .before .pre .1))
     same-word-requires
-    loop-holds
+    (λ c. (omega arith, c .same-word .ensures))
     same-word-requires-2
-    add-i
-    loop-less
+    (λ c. omega (arith, c .before .loop-test .taken))
+    (λ c. omega (arith, c .before .loop-test .taken))
     loop-again
     returns)

@@ -1,6 +1,5 @@
 -- `lookup::tallying::count_all` meets its contract, by what its callees count.
 use native.Mathlib.Omega.{arith}
-use Rattle.theory.specs.Ledger.{counted-totals}
 use Rattle.settings.specs.Checked.{paper}
 use Rattle.settings.proofs.Laws.{bounds}
 use borrow.Author.Needs.{needs}
