@@ -1,5 +1,6 @@
 -- `lookup::tallying::count_all` meets its contract, by what its callees count.
 use native.Mathlib.Omega.{arith}
+use Rattle.theory.specs.Ledger.{counted-totals}
 use Rattle.settings.specs.Checked.{paper}
 use Rattle.settings.proofs.Laws.{bounds}
 use borrow.Author.Needs.{needs}
@@ -20,7 +21,7 @@ fill-requires c κs =
     let b = bounds (paper (start .args .s)) (start .pre .0) in (omega (arith, c .before .count-at2 .ensures .1), omega (arith, c .buckets .ensures), omega (arith, c .buckets .ensures))
 
 returns : tie.Need-returns
-unfolding totals-of
+unfolding counted-totals
 returns c =
     let sum-marks = c .before .before .before .before .sum-marks in
     let count-at = c .before .before .before .count-at in
