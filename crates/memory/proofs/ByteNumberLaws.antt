@@ -50,7 +50,8 @@ low-half-is l i h =
     )
     (omega arith)
 
-low-four : (k : ℕ) (l : List ℕ) → 4 ≤ length l → low-first (take (suc (suc (suc (suc k)))) l) ≡ low-first (take 4 l) + low-first (take k (drop 4 l)) * 4294967296
+low-four : (k : ℕ) (l : List ℕ) → 4 ≤ length l
+    → low-first (take (suc (suc (suc (suc k)))) l) ≡ low-first (take 4 l) + low-first (take k (drop 4 l)) * 4294967296
 unfolding low-first
 low-four k [] h = absurd (omega arith)
 low-four k (x ∷ []) h = absurd (omega arith)
@@ -94,7 +95,8 @@ four-written (x ∷ y ∷ z ∷ u ∷ v ∷ vs) n e = absurd (omega arith)
 
 -- a record: the key copied to the front, then the class in what is left
 pub record-written : (to key : List ℕ) (n : ℕ) (front end : List ℕ) → length to ≡ length key + 4 → front ≡ key → end ≡ to-bytes 4 n
-    → back (length key) (length (front ++ drop (length key) to) - length key) (front ++ drop (length key) to) end ≡ record-bytes (record { key = key; class = n })
+    → back (length key) (length (front ++ drop (length key) to) - length key) (front ++ drop (length key) to) end
+    ≡ record-bytes (record { key = key; class = n })
 unfolding record-bytes
 record-written to key n front end size e f =
     rw (

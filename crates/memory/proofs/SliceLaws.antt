@@ -1,4 +1,5 @@
--- Parts of a slice that are lent: their lengths, what a part read to the end is, and the slice once a part is back as other bytes; zeros; rows of one size; bytes.
+-- Parts of a slice that are lent: their lengths, what a part read to the end is, and the slice once a part is back as other bytes; zeros; rows of one size;
+-- bytes.
 use mathlib.Core.Path.{_≡_, refl, subst, _∙_}
 use mathlib.Core.Logic.{_≢_}
 use mathlib.Core.Bool.{Bool, false, _||_}
@@ -158,7 +159,13 @@ pub flat-set : (f g : ℕ → List ℕ) (z : ℕ) → ((b : ℕ) → length (f b
     → back (i * z) z (flat f (upto a n)) (g (a + i)) ≡ flat g (upto a n)
 flat-set f g z e a zero i h o = absurd (not-suc-le-zero h)
 flat-set f g z e a (suc n) zero h o =
-    rw (zero-mul, add-zero, drop-at (f a) (flat f (upto (suc a) n)) z (e a), flat-cong f g (upto (suc a) n) (upto-from (λ x. f x ≡ g x) (suc a) n (λ x q. o x (omega arith))))
+    rw (
+      zero-mul,
+      add-zero,
+      drop-at (f a) (flat f (upto (suc a) n)) z (e a),
+      flat-cong f g (upto (suc a) n)
+          (upto-from (λ x. f x ≡ g x) (suc a) n (λ x q. o x (omega arith))),
+    )
 flat-set f g z e a (suc n) (suc i) h o =
     let s : suc i * z ≡ z + i * z = suc-mul i z ∙ add-comm (i * z) z in
     let q : a + suc i ≡ suc a + i = omega arith in

@@ -9,7 +9,14 @@ use Rattle.settings.specs.declared.lengths.Lengths.{Lengths}
 
 abbrev pub code-lengths : Areas → Lengths
 code-lengths a =
-    record { ledger = length (a .ledger); «true_counts» = length (a .true-counts); clipped = length (a .clipped-counts); buckets = length (a .buckets); side = length (a .side-store) }
+    record {
+      ledger = length (a .ledger);
+      «true_counts» = length (a .true-counts);
+      clipped = length (a .clipped-counts);
+      buckets = length
+          (a .buckets);
+      side = length (a .side-store);
+    }
 
 -- each is as the settings say: of the lookup areas, and of all five
 abbrev pub right-lookup-lengths : Card → ℕ → ℕ → ℕ → Bool

@@ -1,4 +1,5 @@
-// "a clipped count is never stored as or taken for a true count": each is a type of its own. A count is made, compared and ranked here, and not by its bare number.
+// "a clipped count is never stored as or taken for a true count": each is a type of its own. A count is made, compared and ranked here, and not by its bare
+// number.
 use memory::numbers::wide64;
 use memory::picks::pick64;
 ghost use mathlib.Core.Path.{_≡_};

@@ -1,7 +1,8 @@
 // The settings of document 01 as a type by value: their limits, the checking constructor, and the lengths of the areas.
 ghost use mathlib.Core.Path.{_≡_};
 ghost use mathlib.Core.Bool.{true};
-ghost use Rattle.theory.specs.Settings.{allowed, record-size, bucket-size, ledger-length, true-length, clipped-length, buckets-length, side-length, work-length};
+ghost use Rattle.theory.specs.Settings.{allowed, record-size, bucket-size, ledger-length, true-length, clipped-length, buckets-length, side-length};
+ghost use Rattle.theory.specs.Settings.{work-length};
 ghost use Rattle.settings.specs.Checked.{paper, given-of, checked-of, card};
 
 pub mod counts; // counts.rt: true counts and clipped counts, each a type of its own

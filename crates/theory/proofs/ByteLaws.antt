@@ -65,7 +65,8 @@ module _ {A : Type 0} (z : ℕ) (read : List ℕ → A) (write : A → List ℕ)
   room-for n a h = let h′ = rw suc-mul at h in (omega arith, rw length-drop (omega arith))
 
   -- what holds of each entry that bytes give, holds of all
-  pub all-entries : (P : A → Type 0) → ((a : List ℕ) → z ≤ length a → All Byte a → P (read a)) → (n : ℕ) (a : List ℕ) → n * z ≤ length a → All Byte a → All P (entries z read n a)
+  pub all-entries : (P : A → Type 0) → ((a : List ℕ) → z ≤ length a → All Byte a → P (read a)) → (n : ℕ) (a : List ℕ) → n * z ≤ length a → All Byte a
+      → All P (entries z read n a)
   unfolding entries
   all-entries P f zero a h b = tt
   all-entries P f (suc n) a h b =

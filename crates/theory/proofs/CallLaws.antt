@@ -16,13 +16,16 @@ use Rattle.theory.specs.Settings.{Card, record-size, ledger-length, true
 use Rattle.theory.specs.Placing.{true-count, side-need, mark, side-records, clip, crowded, choosers}
 use Rattle.theory.specs.Layout.{layout, layout-by, places, counted-places, counter-bytes, bucket-bytes, buckets-bytes, side-bytes}
 use Rattle.theory.specs.Lookup.{part, counter, search-areas, fetch-areas}
-use Rattle.theory.specs.Ledger.{Call, clear, add, change, remove, search, fetch, tally, held, insert, replace, without, key-wrong, side-need-of, side-short, next, refusal, search-by, list-tally, updated, plain}
+use Rattle.theory.specs.Ledger.{Call, clear, add, change, remove, search, fetch, tally, held, insert, replace, without, key-wrong, side-need-of}
+use Rattle.theory.specs.Ledger.{side-short, next, refusal, search-by, list-tally, updated, plain}
 use Rattle.theory.specs.Calls.{ledger-records, ledger-invalid, update, marks, lookup-invalid, tally-areas, call, shown}
 pub use Rattle.theory.specs.Demands.{Small, HasLayout, Sized}
-use Rattle.theory.proofs.ListLaws.{map-all, all-of-map, by-test, or-left, or-right, All, all-every, all-map, all-drop, all-upto, any-false, map-cong, filter-len, filter-all, length-flat, length-upto}
+use Rattle.theory.proofs.ListLaws.{map-all, all-of-map, by-test, or-left, or-right, All, all-every, all-map, all-drop, all-upto, any-false, map-cong}
+use Rattle.theory.proofs.ListLaws.{filter-len, filter-all, length-flat, length-upto}
 use Rattle.theory.proofs.SettingsLaws.{Sound}
 use Rattle.theory.proofs.ByteLaws.{Byte, Fit, length-to-bytes, length-record, length-records, records-fit}
-use Rattle.theory.proofs.LayoutLaws.{read-places, read-count, after-count, read-counter, read-bucket, length-counted, length-counters, length-buckets, side-fit}
+use Rattle.theory.proofs.LayoutLaws.{read-places, read-count, after-count, read-counter, read-bucket, length-counted, length-counters, length-buckets}
+use Rattle.theory.proofs.LayoutLaws.{side-fit}
 use Rattle.theory.proofs.PlacingLaws.{same-key-eq, mark-crowded}
 use Rattle.theory.proofs.LookupLaws.{central, central-bytes}
 use Rattle.theory.proofs.OrderLaws.{rising-insert, length-insert, insert-all, rising-filter, replace-key, rising-map}
@@ -76,7 +79,8 @@ module _ (s : Card) where
       let v = valid a e in
       let room : count-of a * (s .width + 4) ≤ s .capacity * (s .width + 4) = mul-le-mul-right (s .width + 4) (v .few) in
       record {
-        fit = records-fit (s .width) (count-of a) (drop 2 a) (rw length-drop (omega (arith, size, mul-comm (s .capacity) (s .width + 4)))) (all-drop Byte 2 a bytes);
+        fit = records-fit (s .width) (count-of a) (drop 2 a) (rw length-drop (omega (arith, size, mul-comm (s .capacity) (s .width + 4))))
+            (all-drop Byte 2 a bytes);
         order = v .order;
         few = rw length-records (v .few);
         need = enough (ledger-records s a) short;
@@ -113,7 +117,8 @@ module _ (s : Card) where
 
       pub not-invalid : ledger-invalid s (counted-places s (s .capacity) l) ≡ false
       unfolding ledger-invalid
-      not-invalid = rw (ledger-back, count-back, tail-back, le-ltb (s .capacity) (length l) (g .few), g .order) (no-zeros (record-size s * (s .capacity - length l)))
+      not-invalid = rw (ledger-back, count-back, tail-back, le-ltb (s .capacity) (length l) (g .few), g .order)
+          (no-zeros (record-size s * (s .capacity - length l)))
 
     -- ---- an accepted update keeps a list good
     pub has-layout-empty : HasLayout s []
@@ -145,7 +150,8 @@ module _ (s : Card) where
         let h = not-refused (not (held k l)) 6 _ (w .1) in
         let d = not-refused (side-short s (replace r l)) 8 _ (h .1) in
         record {
-          fit = map-all (Fit (s .width)) (λ y. cond (same-key k (y .key)) r y) (λ y f. by-test (same-key k (y .key)) (λ e. rw e (record { wide = width-of k (w .0); small = m })) (λ e. rw e f)) l (g .fit);
+          fit = map-all (Fit (s .width)) (λ y. cond (same-key k (y .key)) r y)
+              (λ y f. by-test (same-key k (y .key)) (λ e. rw e (record { wide = width-of k (w .0); small = m })) (λ e. rw e f)) l (g .fit);
           order = rising-map (λ y. cond (same-key k (y .key)) r y) (replace-key r) l ∙ g .order;
           few = rw length-map (g .few);
           need = enough (replace r l) (d .0);
@@ -215,7 +221,8 @@ module _ (s : Card) where
           not-invalid l g,
           marks-back c l (g .fit),
           any-false _ (upto 0 (s .buckets)) (all-upto 0 (s .buckets) (λ b h. counter-range c l b (omega arith))),
-          any-false _ (map (mark s c l) (upto 0 (s .buckets))) (all-of-map _ (mark s c l) (upto 0 (s .buckets)) (all-every (mark-range c l) (upto 0 (s .buckets)))),
+          any-false _ (map (mark s c l) (upto 0 (s .buckets)))
+              (all-of-map _ (mark s c l) (upto 0 (s .buckets)) (all-every (mark-range c l) (upto 0 (s .buckets)))),
           read-count s (s .side-places) (side-records s c l) (omega (arith, g .need, ok .side-small)),
           le-ltb (s .side-places) (length (side-records s c l)) (g .need),
           count-back l g,

@@ -75,7 +75,8 @@ module _ (t : Settings) (ok : allowed t ≡ true) where
   performed c a z = rw (ok, lent-lengths-right s a z c)
 
   -- one call on the layout of a list
-  pub performed-step : (c : Call) (l : List Record) → HasLayout s l → perform t w c (layout s l) ≡ record { reply = plain s c l .reply; state = layout s (plain s c l .state) }
+  pub performed-step : (c : Call) (l : List Record) → HasLayout s l
+      → perform t w c (layout s l) ≡ record { reply = plain s c l .reply; state = layout s (plain s c l .state) }
   performed-step c l g = performed c (layout s l) (sized s (sound t ok) l g) ∙ call-step s (sound t ok) c l g
 
   -- ---- from the layout of a list, any calls come back, and leave the areas, as the plain ledger says

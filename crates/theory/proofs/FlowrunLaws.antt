@@ -74,7 +74,11 @@ line-length x a b c d e =
 -- lines printed in two pieces, the first of j whole calls
 pub lines-in-pieces : (w n j k : ℕ) (x y : List ℕ) (a : Areas) → length x ≡ 18 * j
     → print-lines w n (j + k) (x ++ y) a ≡
-    record { text = print-lines w n j x a .text ++ print-lines w (n + j) k y (print-lines w n j x a .areas) .text; areas = print-lines w (n + j) k y (print-lines w n j x a .areas) .areas }
+    record {
+      text = print-lines w n j x a .text
+          ++ print-lines w (n + j) k y (print-lines w n j x a .areas) .text;
+      areas = print-lines w (n + j) k y (print-lines w n j x a .areas) .areas;
+    }
 unfolding print-lines
 lines-in-pieces w n zero k [] y a h = rw (zero-add k, add-zero n)
 lines-in-pieces w n zero k (b ∷ x) y a h = absurd (omega arith)

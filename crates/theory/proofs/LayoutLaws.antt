@@ -37,7 +37,14 @@ module _ (s : Card) where
   pub length-places : (n : ℕ) (l : List Record) → All (Fit (s .width)) l → length l ≤ n → length (places s n l) ≡ record-size s * n
   unfolding places record-size
   length-places n l h le =
-      rw (length-append, length-replicate, length-flat record-bytes (s .width + 4) l (all-map (λ r f. length-record (s .width) r f) l h), ← mul-add, add-sub-of-le le)
+      rw (
+        length-append,
+        length-replicate,
+        length-flat record-bytes (s .width + 4) l
+            (all-map (λ r f. length-record (s .width) r f) l h),
+        ← mul-add,
+        add-sub-of-le le,
+      )
 
   pub read-places : (n : ℕ) (l : List Record) → All (Fit (s .width)) l → records (s .width) (length l) (places s n l) ≡ l
   unfolding places
@@ -102,7 +109,12 @@ module _ (s : Card) where
 
         pub length-buckets : length (buckets-bytes s c l) ≡ buckets-length s
         unfolding buckets-bytes buckets-length
-        length-buckets = rw (length-flat (λ b. bucket-bytes s c l b) (bucket-size s) (upto 0 (s .buckets)) (all-every length-bucket (upto 0 (s .buckets))), length-upto, mul-comm)
+        length-buckets = rw (
+          length-flat (λ b. bucket-bytes s c l b) (bucket-size s) (upto 0 (s .buckets))
+              (all-every length-bucket (upto 0 (s .buckets))),
+          length-upto,
+          mul-comm,
+        )
 
         pub read-bucket : (b : ℕ) → b < s .buckets → bucket-part s (buckets-bytes s c l) b ≡ bucket-bytes s c l b
         unfolding buckets-bytes bucket-part

@@ -43,7 +43,8 @@ negated-true r true e f = absurd (true≢false (sym f ∙ e))
 negated-true r false e f = refl
 
 -- two choices by one test, each under a function; and a fact by a test's two values
-pub either : {A B X : Type 0} (F : A → X) (H : B → X) (t : Bool) {a b : A} {a′ b′ : B} → (t ≡ true → F a ≡ H a′) → (t ≡ false → F b ≡ H b′) → F (cond t a b) ≡ H (cond t a′ b′)
+pub either : {A B X : Type 0} (F : A → X) (H : B → X) (t : Bool) {a b : A} {a′ b′ : B} → (t ≡ true → F a ≡ H a′) → (t ≡ false → F b ≡ H b′)
+    → F (cond t a b) ≡ H (cond t a′ b′)
 either F H true f g = f refl
 either F H false f g = g refl
 
@@ -202,7 +203,8 @@ pub least-lt : (c : ℕ → ℕ) (t : ℕ) (l : List ℕ) → all (λ b. leb t (
 least-lt c t [] e = absurd (true≢false e)
 least-lt c t (x ∷ xs) e = go (leb t (c x)) refl e (λ f. least-lt c t xs f)
   where
-    go : (b : Bool) → leb t (c x) ≡ b → (b && all (λ b. leb t (c b)) xs) ≡ false → (all (λ b. leb t (c b)) xs ≡ false → least t (map c xs) < t) → min (c x) (least t (map c xs)) < t
+    go : (b : Bool) → leb t (c x) ≡ b → (b && all (λ b. leb t (c b)) xs) ≡ false → (all (λ b. leb t (c b)) xs ≡ false → least t (map c xs) < t)
+        → min (c x) (least t (map c xs)) < t
     go true q f r = omega (arith, r f)
     go false q f r = omega (arith, leb-false t (c x) q)
 
@@ -235,5 +237,7 @@ pub least-top : (c : ℕ → ℕ) (t : ℕ) (l : List ℕ) → all (λ b. leb t 
 least-top c t [] = sym (eq-eqb t t refl)
 least-top c t (x ∷ xs) =
     rw (least-top c t xs)
-    (by-test (leb t (c x)) (λ e. rw e (eqb-same (least t (map c xs)) t (min (c x) (least t (map c xs))) t (omega (arith, leb-true t (c x) e, least-le t (map c xs))) (omega (arith, leb-true t (c x) e, least-le t (map c xs)))))
+    (by-test (leb t (c x)) (λ e. rw e
+    (eqb-same (least t (map c xs)) t (min (c x) (least t (map c xs))) t (omega (arith, leb-true t (c x) e, least-le t (map c xs)))
+    (omega (arith, leb-true t (c x) e, least-le t (map c xs)))))
     (λ e. rw e (sym (ne-eqb (min (c x) (least t (map c xs))) t (omega (arith, leb-false t (c x) e))))))

@@ -14,12 +14,14 @@ use Rattle.theory.specs.Records.{Record, count-of, records, find, compar
 use Rattle.theory.specs.Settings.{Card}
 use Rattle.theory.specs.Placing.{clip, true-count, all-top, least-count, chosen, crowded, mark, bucket-records, side-records, side-need}
 use Rattle.theory.specs.Layout.{places, counter-bytes, bucket-bytes, buckets-bytes, side-bytes}
-use Rattle.theory.specs.Lookup.{answer, part, counter, Place, invalid, nowhere, among, bucket-part, side-place, bucket-place, by-counters, reads-bucket, place, answer-at, part-at, search-areas, fetch-areas}
+use Rattle.theory.specs.Lookup.{answer, part, counter, Place, invalid, nowhere, among, bucket-part, side-place, bucket-place, by-counters, reads-bucket}
+use Rattle.theory.specs.Lookup.{place, answer-at, part-at, search-areas, fetch-areas}
 use Rattle.theory.specs.Ledger.{Seen, unseen, seen, answer-seen, seen-by, search-by}
 use Rattle.theory.proofs.ListLaws.{either, by-test, All, all-map, any-cong, all-cong, filter-cong, map-cong}
 use Rattle.theory.proofs.ByteLaws.{Fit}
 use Rattle.theory.proofs.SettingsLaws.{Sound}
-use Rattle.theory.proofs.LayoutLaws.{read-places, read-place-bytes, read-count, after-count, read-counter, read-bucket, bucket-fits, bucket-fit, side-fit}
+use Rattle.theory.proofs.LayoutLaws.{read-places, read-place-bytes, read-count, after-count, read-counter, read-bucket, bucket-fits, bucket-fit}
+use Rattle.theory.proofs.LayoutLaws.{side-fit}
 use Rattle.theory.proofs.PlacingLaws.{found-in, clipped-in-range, clipped-all-top, clipped-chosen, chosen-below, lying, mark-crowded, found-where-looked}
 
 either-if : {X : Type 0} {P : Type 0} (t : Bool) {a a′ b b′ : X} {u v : Bool}
@@ -35,7 +37,8 @@ module _ (s : Card) where
       rw (map-cong f g (s .numbers k) h)
       (ap (least (s .buckets)) (filter-cong _ _ (s .numbers k) (all-map (λ b e. ap (λ x. eqb x (least (s .top) (map g (s .numbers k)))) e) (s .numbers k) h)))
 
-  pub by-counters-cong : {X : Type 0} (f g : ℕ → ℕ) (k : List ℕ) → All (λ b. f b ≡ g b) (s .numbers k) → (a b c d : X) → by-counters s f k a b c d ≡ by-counters s g k a b c d
+  pub by-counters-cong : {X : Type 0} (f g : ℕ → ℕ) (k : List ℕ) → All (λ b. f b ≡ g b) (s .numbers k) → (a b c d : X)
+      → by-counters s f k a b c d ≡ by-counters s g k a b c d
   unfolding by-counters
   by-counters-cong f g k h a b c d =
       rw (
@@ -49,13 +52,19 @@ module _ (s : Card) where
     read-side : (n : ℕ) → side-place s (side-bytes s c l) n ≡ among (places s (s .side-places) (side-records s c l)) (length (side-records s c l)) n
     unfolding side-place side-bytes side-need
     read-side n =
-        rw (read-count s (s .side-places) (side-records s c l) (omega (arith, ok .side-small)), le-ltb (s .side-places) (length (side-records s c l)) need, after-count)
+        rw (
+          read-count s (s .side-places) (side-records s c l) (omega (arith, ok .side-small)),
+          le-ltb (s .side-places)
+              (length (side-records s c l)) need,
+          after-count,
+        )
 
     read-crowded : (b : ℕ) → crowded s c l b ≡ true → bucket-place s (bucket-bytes s c l b) (side-bytes s c l) ≡ side-place s (side-bytes s c l) 1
     unfolding bucket-place bucket-bytes
     read-crowded b e = rw (mark-crowded s ok c l b, e)
 
-    read-one : (side : List ℕ) (b : ℕ) → crowded s c l b ≡ false → bucket-place s (bucket-bytes s c l b) side ≡ among (places s (s .room) (bucket-records s c l b)) (length (bucket-records s c l b)) 1
+    read-one : (side : List ℕ) (b : ℕ) → crowded s c l b ≡ false
+        → bucket-place s (bucket-bytes s c l b) side ≡ among (places s (s .room) (bucket-records s c l b)) (length (bucket-records s c l b)) 1
     unfolding bucket-place bucket-bytes
     read-one side b e =
         let m : mark s c l b ≡ length (bucket-records s c l b) = unfold mark in rw (e, lying s ok c l b e) in
@@ -75,7 +84,8 @@ module _ (s : Card) where
       at-one f =
           rw (read-bucket s ok c l fit (chosen s c k) (chosen-below s ok c k f), mark-crowded s ok c l (chosen s c k))
           (by-test (crowded s c l (chosen s c k)) (λ e. rw (e, read-crowded (chosen s c k) e) (at-side 1))
-          (λ e. rw (e, read-one (side-bytes s c l) (chosen s c k) e) (here (s .room) (bucket-records s c l (chosen s c k)) 1 (bucket-fit s ok c l fit (chosen s c k)))))
+          (λ e. rw (e, read-one (side-bytes s c l) (chosen s c k) e)
+          (here (s .room) (bucket-records s c l (chosen s c k)) 1 (bucket-fit s ok c l fit (chosen s c k)))))
 
       pub looked : F (place s (counter-bytes s c) (buckets-bytes s c l) (side-bytes s c l) k) ≡ H (seen-by s c l k)
       unfolding place seen-by

@@ -91,7 +91,8 @@ rising-filter p [] h = refl
 rising-filter p (x ∷ xs) h =
     by-test (p x)
     (λ e. rw e (and-both _ _
-    (below-first-near (x .key) (filter p xs) (filter-all (λ r. key-below (x .key) (r .key) ≡ true) p xs (below-first-far (x .key) xs (and-left _ _ h) (and-right (below-first (x .key) xs) _ h))))
+    (below-first-near (x .key) (filter p xs)
+    (filter-all (λ r. key-below (x .key) (r .key) ≡ true) p xs (below-first-far (x .key) xs (and-left _ _ h) (and-right (below-first (x .key) xs) _ h))))
     (rising-filter p xs (and-right (below-first (x .key) xs) _ h))))
     (λ e. rw e (rising-filter p xs (and-right (below-first (x .key) xs) _ h)))
 
@@ -143,7 +144,8 @@ rising-answers [] (y ∷ ys) p q f =
     let e = rw (same-key-self (y .key)) at (f (y .key)) in let z : _≡_ {A = ℕ} 0 1 = cc in absurd (omega arith)
 rising-answers (x ∷ xs) [] p q f =
     let e = rw (same-key-self (x .key)) at (f (x .key)) in let z : _≡_ {A = ℕ} 0 1 = cc in absurd (omega arith)
-rising-answers (x ∷ xs) (y ∷ ys) p q f = rw (first, rising-answers xs ys (and-right (below-first (x .key) xs) _ p) (and-right (below-first (y .key) ys) _ q) rest)
+rising-answers (x ∷ xs) (y ∷ ys) p q f = rw
+    (first, rising-answers xs ys (and-right (below-first (x .key) xs) _ p) (and-right (below-first (y .key) ys) _ q) rest)
   where
     here : (z : Record) (zs : List Record) → find (z .key) (z ∷ zs) ≡ some z
     here z zs = rw (same-key-self (z .key))

@@ -13,9 +13,11 @@ use lib.ListN.{length}
 use Rattle.theory.specs.Lists.{filter, any, all, has, least}
 use Rattle.theory.specs.Records.{Record, find, same-key}
 use Rattle.theory.specs.Settings.{Card}
-use Rattle.theory.specs.Placing.{clip, true-count, all-top, least-count, chosen, chooses, choosers, crowded, mark, bucket-records, belongs-to-side, side-records}
+use Rattle.theory.specs.Placing.{clip, true-count, all-top, least-count, chosen, chooses, choosers, crowded, mark, bucket-records, belongs-to-side}
+use Rattle.theory.specs.Placing.{side-records}
 use Rattle.theory.specs.Ledger.{Seen, unseen, seen, seen-by}
-use Rattle.theory.proofs.ListLaws.{by-test, All, all-every, all-map, all-cong, filter-cong, any-false, filter-first, filter-grows, all-has, least-clip, least-lt, attained, least-filter}
+use Rattle.theory.proofs.ListLaws.{by-test, All, all-every, all-map, all-cong, filter-cong, any-false, filter-first, filter-grows, all-has, least-clip}
+use Rattle.theory.proofs.ListLaws.{least-lt, attained, least-filter}
 use Rattle.theory.proofs.SettingsLaws.{Sound}
 
 -- ---- tests of a clipped number-after
@@ -70,7 +72,8 @@ module _ (s : Card) where
       go : (t : Bool) → same-key k (r .key) ≡ t → (find k rs ≡ none) ⊎ All (λ b. 0 < true-count s rs b) (s .numbers k)
           → (cond t (some r) (find k rs) ≡ none) ⊎ All (λ b. 0 < true-count s (r ∷ rs) b) (s .numbers k)
       go true q i =
-          inr (rw (same-key-eq k (r .key) q) (all-map (λ b e. filter-first (λ r. has b (s .numbers (r .key))) r rs e) (s .numbers (r .key)) (all-has (s .numbers (r .key)))))
+          inr (rw (same-key-eq k (r .key) q)
+          (all-map (λ b e. filter-first (λ r. has b (s .numbers (r .key))) r rs e) (s .numbers (r .key)) (all-has (s .numbers (r .key)))))
       go false q (inl e) = inl e
       go false q (inr a) = inr (all-map (λ b h. le-trans h (filter-grows (λ r. has b (s .numbers (r .key))) r rs)) (s .numbers k) a)
 
@@ -91,7 +94,8 @@ module _ (s : Card) where
     unfolding clip all-top chosen least-count
     clipped-chosen k e =
         rw (least-clip c (s .top) (s .numbers k))
-        (ap (least (s .buckets)) (filter-cong _ _ (s .numbers k) (all-every (λ b. clip-eq (c b) (s .top) _ (least-lt c (s .top) (s .numbers k) e)) (s .numbers k))))
+        (ap (least (s .buckets)) (filter-cong _ _ (s .numbers k)
+        (all-every (λ b. clip-eq (c b) (s .top) _ (least-lt c (s .top) (s .numbers k) e)) (s .numbers k))))
 
     pub chosen-below : (k : List ℕ) → all-top s c k ≡ false → chosen s c k < s .buckets
     unfolding all-top chosen least-count
@@ -130,7 +134,8 @@ module _ (s : Card) where
           go : (find k l ≡ none) ⊎ All (λ b. 0 < true-count s l b) (s .numbers k) → find k l ≡ none
           go (inl q) = q
           go (inr a) =
-              absurd (true≢false (sym e ∙ any-false _ (s .numbers k) (all-map (λ b h. ne-eqb (min (c b) (s .top)) 0 (omega (arith, up b, ok .top-some))) (s .numbers k) a)))
+              absurd (true≢false (sym e ∙ any-false _ (s .numbers k)
+              (all-map (λ b h. ne-eqb (min (c b) (s .top)) 0 (omega (arith, up b, ok .top-some))) (s .numbers k) a)))
 
       pub found-where-looked : ((b : ℕ) → true-count s l b ≤ c b) → (k : List ℕ) → found-in k (seen-by s c l k) ≡ find k l
       unfolding seen-by
@@ -139,4 +144,5 @@ module _ (s : Card) where
           (by-test (any (λ b. eqb (clipped b) 0) (s .numbers k)) (λ z. rw z (sym (absent up k z)))
           (λ z. rw z (by-test (all-top s c k) (λ f. rw f (find-side k (unfold belongs-to-side in rw f)))
           (λ f. rw (f, clipped-chosen k f, mark-crowded (chosen s c k))
-          (by-test (crowded s c l (chosen s c k)) (λ e. rw e (find-side k (unfold belongs-to-side in rw (f, e)))) (λ e. rw (e, lying (chosen s c k) e) (find-bucket k f)))))))
+          (by-test (crowded s c l (chosen s c k)) (λ e. rw e (find-side k (unfold belongs-to-side in rw (f, e))))
+          (λ e. rw (e, lying (chosen s c k) e) (find-bucket k f)))))))

@@ -53,7 +53,8 @@ has-least f t x (y ∷ ys) h =
 min-swap : (a x b : ℕ) → min a (min x b) ≡ min (min x a) b
 min-swap a x b = omega arith
 
-least-fresh : (f : ℕ → ℕ) (t : ℕ) (seen l : List ℕ) → min (least t (map f seen)) (least t (map f (fresh seen l))) ≡ min (least t (map f seen)) (least t (map f l))
+least-fresh : (f : ℕ → ℕ) (t : ℕ) (seen l : List ℕ)
+    → min (least t (map f seen)) (least t (map f (fresh seen l))) ≡ min (least t (map f seen)) (least t (map f l))
 least-fresh f t seen [] = refl
 least-fresh f t seen (x ∷ xs) =
     let a = least t (map f seen) in

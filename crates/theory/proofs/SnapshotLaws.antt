@@ -77,7 +77,8 @@ module _ (t : Settings) (ok : allowed t ≡ true) (l : List Record) (g : HasLayo
       (read-words (head t (length l)) (flat record-bytes l)
       (omega arith, (omega arith, (omega arith, (omega arith, (omega arith, (omega arith, (omega arith, (omega arith, tt)))))))))
 
-  heads : count-of (snapshot t l) ∷ setting (snapshot t l) 0 ∷ setting (snapshot t l) 1 ∷ setting (snapshot t l) 2 ∷ setting (snapshot t l) 3 ∷ setting (snapshot t l) 4
+  heads : count-of (snapshot t l) ∷ setting (snapshot t l) 0 ∷ setting (snapshot t l) 1 ∷ setting (snapshot t l) 2 ∷ setting (snapshot t l) 3
+      ∷ setting (snapshot t l) 4
       ∷ setting (snapshot t l) 5 ∷ file-count (snapshot t l) ∷ [] ≡ head t (length l)
   heads = sym (words-are (snapshot t l)) ∙ words-back
 
@@ -101,7 +102,13 @@ module _ (t : Settings) (ok : allowed t ≡ true) (l : List Record) (g : HasLayo
   records-back : file-records (snapshot t l) ≡ l
   unfolding file-records
   records-back =
-      rw (settings-back, second-count, snapshot-is t l, drop-at (flat (to-bytes 2) (head t (length l))) (flat record-bytes l) 16 (length-head (head t (length l))))
+      rw (
+        settings-back,
+        second-count,
+        snapshot-is t l,
+        drop-at (flat (to-bytes 2) (head t (length l))) (flat record-bytes l) 16
+            (length-head (head t (length l))),
+      )
       (ap (records (card-of t .width) (length l)) (sym (append-nil (flat record-bytes l))) ∙ read-records (card-of t .width) l [] (g .fit))
 
   -- a snapshot loads: its settings, its list's layout
@@ -159,7 +166,8 @@ module _ (t : Settings) (ledger : List ℕ) (w : ℕ) (target : List ℕ) (done 
   unfolding save
   saving =
       let a = passed (λ (x : Saved). x .number) (not (allowed t)) (λ q. omega arith) done in
-      let b = passed (λ (x : Saved). x .number) (not (all (λ x. x) (eqb w (work-length (card-of t)) ∷ eqb (length ledger) (ledger-length (card-of t)) ∷ []))) (λ q. omega arith) (a .1) in
+      let b = passed (λ (x : Saved). x .number) (not (all (λ x. x) (eqb w (work-length (card-of t)) ∷ eqb (length ledger) (ledger-length (card-of t)) ∷ [])))
+      (λ q. omega arith) (a .1) in
       let c = passed (λ (x : Saved). x .number) (ledger-invalid (card-of t) ledger) (λ q. omega arith) (b .1) in
       let d = passed (λ (x : Saved). x .number) (side-short (card-of t) flows) (λ q. omega arith) (c .1) in
       let e = passed (λ (x : Saved). x .number) (not (eqb (length target) (16 + record-size (card-of t) * length flows))) (λ q. omega arith) (d .1) in

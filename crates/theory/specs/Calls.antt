@@ -6,10 +6,12 @@ use lib.Dec.{ltb, eqb}
 use lib.ListN.{length, drop, getD}
 use Rattle.theory.specs.Lists.{any, all, upto}
 use Rattle.theory.specs.Records.{Record, count-of, records, rising}
-use Rattle.theory.specs.Settings.{Settings, allowed, Card, card-of, record-size, ledger-length, true-length, clipped-length, buckets-length, side-length, work-length}
+use Rattle.theory.specs.Settings.{Settings, allowed, Card, card-of, record-size, ledger-length, true-length, clipped-length, buckets-length, side-length}
+use Rattle.theory.specs.Settings.{work-length}
 use Rattle.theory.specs.Layout.{Areas, layout}
 use Rattle.theory.specs.Lookup.{bare, counter, bucket-part, search-areas, fetch-areas}
-use Rattle.theory.specs.Ledger.{Call, clear, add, change, remove, search, fetch, tally, Totals, no-totals, Reply, answered, handed, totalled, Step, key-wrong, next, refusal, counted-totals, plain}
+use Rattle.theory.specs.Ledger.{Call, clear, add, change, remove, search, fetch, tally, Totals, no-totals, Reply, answered, handed, totalled, Step}
+use Rattle.theory.specs.Ledger.{key-wrong, next, refusal, counted-totals, plain}
 
 -- the number, class and buckets read of what comes back; fetch hands back a part alone
 abbrev pub reply-number : Reply → ℕ
@@ -134,7 +136,8 @@ only-reads tally = true
 -- a call under any settings, on areas of any lengths and contents, with a work area of w numbers of any contents: 1, then 2, then the call
 unfoldable pub perform : Settings → ℕ → Call → Areas → Step Areas
 perform t w c a =
-    cond (not (allowed t)) (stopped (refused-reply c 1) a) (cond (not (all (λ x. x) (lent-lengths (card-of t) w c a))) (stopped (refused-reply c 2) a) (call (card-of t) c a))
+    cond (not (allowed t)) (stopped (refused-reply c 1) a)
+    (cond (not (all (λ x. x) (lent-lengths (card-of t) w c a))) (stopped (refused-reply c 2) a) (call (card-of t) c a))
 
 -- ---- a list of calls: what comes back of each, with the areas after it; each call gets the areas as the last one left them
 unfoldable pub run : Settings → ℕ → List Call → Areas → List (Step Areas)

@@ -27,7 +27,8 @@ in-range low high n = leb low n && leb n high
 -- each setting is in its range; else 1
 unfoldable pub in-ranges : Settings → List Bool
 in-ranges t =
-    in-range 4 12 (t .p) ∷ in-range 1 4 (t .k) ∷ in-range 1 4 (t .room) ∷ in-range 2 15 (t .top) ∷ in-range 1 4096 (t .capacity) ∷ in-range 0 64 (t .side-places) ∷ []
+    in-range 4 12 (t .p) ∷ in-range 1 4 (t .k) ∷ in-range 1 4 (t .room) ∷ in-range 2 15 (t .top) ∷ in-range 1 4096 (t .capacity)
+    ∷ in-range 0 64 (t .side-places) ∷ []
 
 unfoldable pub allowed : Settings → Bool
 allowed t = all (λ x. x) (in-ranges t)

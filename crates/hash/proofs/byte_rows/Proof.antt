@@ -14,7 +14,8 @@ returns c =
     let c3 = c4 .before in
     let c2 = c3 .before in
     let c1 = c2 .before in
-    rw (c1 .if-set .ensures, c2 .if-set2 .ensures, c3 .if-set3 .ensures, c4 .if-set4 .ensures, c5 .if-set5 .ensures, c6 .if-set6 .ensures, c7 .if-set7 .ensures, c .if-set8 .ensures, xor-zero-r)
+    rw (c1 .if-set .ensures, c2 .if-set2 .ensures, c3 .if-set3 .ensures, c4 .if-set4 .ensures)
+    (rw (c5 .if-set5 .ensures, c6 .if-set6 .ensures, c7 .if-set7 .ensures, c .if-set8 .ensures, xor-zero-r))
 
 pub byte-rows-spec : {M : Type 1} → statement M
 byte-rows-spec =

@@ -36,8 +36,11 @@ returns c =
     let start = c .before .before .before .before in
     let key = start .args .key .now in
     let l = c .before .loop in
-    let is = by-end (start .args .t .now) key (l .i) (l .h) (c .loop-test .left) (l .inv .1) in
-    (is, λ right. is ∙ by-right (length key) (start .args .t .now) right key (omega arith) (λ j. omega (arith, c .before .before .shared-slice-known2 .given j)))
+    let is = by-end (start .args .t .now) key (l .i) (l .h) (c .loop-test .left) (l .inv .1) in (
+      is,
+      λ right. is ∙ by-right (length key) (start .args .t .now) right key (omega arith)
+          (λ j. omega (arith, c .before .before .shared-slice-known2 .given j)),
+    )
 
 pub h-with-table-spec : {M : Type 1} → statement M
 h-with-table-spec =

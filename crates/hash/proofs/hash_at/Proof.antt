@@ -24,4 +24,5 @@ unfolding hash
 returns c = ap (λ (n : ℕ). (c .args .h / 2 ^ (16 * c .args .j)) % n) (one-shl (c .args .p) (omega arith))
 
 pub hash-at-spec : {M : Type 1} → statement M
-hash-at-spec = tie.close (tie.spec (λ c. search needs) (λ c. search needs) (λ c. search needs) rem-result (λ c. record { fits = fits _ (c .args .p) (omega arith) }) returns)
+hash-at-spec = tie.close (tie.spec (λ c. search needs) (λ c. search needs) (λ c. search needs) rem-result
+    (λ c. record { fits = fits _ (c .args .p) (omega arith) }) returns)

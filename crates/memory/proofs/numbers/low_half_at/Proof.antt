@@ -7,8 +7,12 @@ use Rattle.memory.proofs.numbers.low_half_at.Tie as tie
 
 returns : tie.Need-returns
 returns c =
-    let e = low-half-is (c .before .before .before .before .before .before .before .before .before .args .area .now) (c .before .before .before .before .before .before .before .before .before .args .at) (c .before .before .before .before .before .before .before .before .before .pre) in
-    omega (arith, c .before .before .before .before .before .before .wide32 .ensures, c .before .before .before .before .wide322 .ensures, c .before .before .wide323 .ensures, c .wide324 .ensures)
+    let third = c .before .before in
+    let second = third .before .before in
+    let first = second .before .before in
+    let start = first .before .before .before in
+    let e = low-half-is (start .args .area .now) (start .args .at) (start .pre) in
+    omega (arith, first .wide32 .ensures, second .wide322 .ensures, third .wide323 .ensures, c .wide324 .ensures)
 
 pub low-half-at-spec : {M : Type 1} → statement M
 low-half-at-spec =

@@ -7,8 +7,12 @@ use Rattle.memory.proofs.numbers.low_word_at.Tie as tie
 
 returns : tie.Need-returns
 returns c =
-    let e = low-word-is (c .before .before .before .before .before .args .area .now) (c .before .before .before .before .before .args .at) (c .before .before .before .before .before .pre) in
-    omega (arith, c .before .before .before .low-half-at .ensures, c .before .before .wide-half .ensures, c .before .low-half-at2 .ensures, c .wide-half2 .ensures)
+    let high = c .before in
+    let first = high .before in
+    let low = first .before in
+    let start = low .before .before in
+    let e = low-word-is (start .args .area .now) (start .args .at) (start .pre) in
+    omega (arith, low .low-half-at .ensures, first .wide-half .ensures, high .low-half-at2 .ensures, c .wide-half2 .ensures)
 
 pub low-word-at-spec : {M : Type 1} → statement M
 low-word-at-spec =

@@ -29,7 +29,10 @@ loop-again c =
     )
 
 returns : tie.Need-returns Inv-loop μ-loop
-returns c = sym (take-all (c .before .loop .i) (c .before .loop .to) (omega arith)) ∙ c .before .loop .inv .2 ∙ take-all (c .before .loop .i) (c .before .before .args .from .now) (omega arith)
+returns c =
+    let l = c .before .loop in
+    let from = c .before .before .args .from .now in
+    sym (take-all (l .i) (l .to) (omega arith)) ∙ l .inv .2 ∙ take-all (l .i) from (omega arith)
 
 pub copy-counts-spec : {M : Type 1} → statement M
 copy-counts-spec =

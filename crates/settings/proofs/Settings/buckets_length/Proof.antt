@@ -10,7 +10,8 @@ use Rattle.settings.proofs.Settings.buckets_length.Tie as tie
 mul-result : tie.Need-mul-result
 unfolding buckets-length
 mul-result c =
-    let limits = bounds (paper (c .before .before .args .self)) (c .before .before .pre) in rw (c .before .buckets .ensures, c .bucket-size .ensures) (omega (arith, limits .buckets-length-most))
+    let limits = bounds (paper (c .before .before .args .self)) (c .before .before .pre) in rw (c .before .buckets .ensures, c .bucket-size .ensures)
+    (omega (arith, limits .buckets-length-most))
 
 returns : tie.Need-returns
 unfolding buckets-length

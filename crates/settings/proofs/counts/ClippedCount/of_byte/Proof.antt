@@ -10,7 +10,8 @@ use Rattle.settings.proofs.counts.ClippedCount.of_byte.Tie as tie
 returns : tie.Need-returns
 returns c = (
   rw (c .pick64 .ensures, c .before .wide64 .ensures .0),
-  rw (c .pick64 .ensures) (by-test (eqb (c .before .before .args .b % 2) 0) (λ e. rw e (omega arith)) (λ e. rw e (omega (arith, c .before .wide64 .ensures .1)))),
+  rw (c .pick64 .ensures) (by-test (eqb (c .before .before .args .b % 2) 0) (λ e. rw e (omega arith))
+      (λ e. rw e (omega (arith, c .before .wide64 .ensures .1)))),
 )
 
 pub of-byte-spec : {M : Type 1} → statement M
