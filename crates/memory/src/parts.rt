@@ -38,12 +38,12 @@ pub fn copy_counts(to: &mut [u16], from: &[u16])
     }
 }
 
-pub fn zero_counts(to: &mut [u16])
-    ensures { λ _. ⌜ now (to .exit) ≡ replicate (length (now (to .entry))) 0 ⌝ }
+pub fn zero_counts(counts: &mut [u16])
+    ensures { λ _. ⌜ now (counts .exit) ≡ replicate (length (now (counts .entry))) 0 ⌝ }
 {
     let mut i = 0;
-    while i < to.len() {
-        to[i] = 0;
+    while i < counts.len() {
+        counts[i] = 0;
         i += 1;
     }
 }

@@ -11,23 +11,23 @@ use Rattle.memory.proofs.parts.zero_counts.Statement.{statement}
 use Rattle.memory.proofs.parts.zero_counts.Tie as tie
 
 abbrev Inv-loop : tie.InvT-loop
-Inv-loop to₀ i₀ to i = (i ≤ length to₀) × (to ≡ replicate i 0 ++ drop i to₀) × (length to ≡ length to₀)
+Inv-loop counts₀ i₀ counts i = (i ≤ length counts₀) × (counts ≡ replicate i 0 ++ drop i counts₀) × (length counts ≡ length counts₀)
 
 abbrev μ-loop : tie.MeasureT-loop
-μ-loop to₀ i₀ to i = length to₀ - i
+μ-loop counts₀ i₀ counts i = length counts₀ - i
 
 loop-again : tie.Need-loop-again Inv-loop μ-loop
 loop-again c =
     let loop = c .before .loop in (
       omega arith,
-      rw (loop .inv .1) (fill-more (loop .i) 0 (c .before .before .args .to .now) (omega arith)),
+      rw (loop .inv .1) (fill-more (loop .i) 0 (c .before .before .args .counts .now) (omega arith)),
       simp length-set (loop .inv .2),
     )
 
 returns : tie.Need-returns Inv-loop μ-loop
 returns c =
     let loop = c .before .loop in
-    let e : loop .i ≡ length (c .before .before .args .to .now) = omega arith in rw (loop .inv .1, e, drop-length, append-nil)
+    let e : loop .i ≡ length (c .before .before .args .counts .now) = omega arith in rw (loop .inv .1, e, drop-length, append-nil)
 
 pub zero-counts-spec : {M : Type 1} → statement M
 zero-counts-spec =
