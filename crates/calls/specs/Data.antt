@@ -3,7 +3,7 @@ use mathlib.Core.List.{List}
 use Prim.Native.Nat.{ℕ}
 use Rattle.theory.specs.Ledger as plain
 use Rattle.lookup.specs.Answers.{answer-of}
-use Rattle.lookup.specs.Tallies.{totals-of}
+use Rattle.tally.specs.Tallies.{totals-of}
 use Rattle.update.specs.Editing as edits
 use Rattle.calls.specs.declared.Kind.{Kind}
 use Rattle.calls.specs.declared.Kind.the-variants.{Clear, Update, Search, Tally}

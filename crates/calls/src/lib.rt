@@ -1,7 +1,7 @@
 // A call as data: programs that run lists of calls go through this one function.
 use lookup::searching::Answer;
-use lookup::tallying::Totals;
 use settings::Given;
+use tally::Totals;
 use update::Edit;
 ghost use mathlib.Core.Path.{_≡_};
 ghost use lib.ListN.{length};
@@ -77,12 +77,6 @@ pub fn perform(
             side,
             key,
         )),
-        Kind::Tally => Reply::Totalled(lookup::tallying::tally(
-            given,
-            ledger,
-            clipped,
-            buckets,
-            side,
-        )),
+        Kind::Tally => Reply::Totalled(tally::tally(given, ledger, clipped, buckets, side)),
     }
 }

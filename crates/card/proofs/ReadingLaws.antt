@@ -14,7 +14,7 @@ use Rattle.theory.proofs.ListLaws.{by-test}
 use Rattle.lookup.specs.declared.locating.Located.{Located}
 use Rattle.lookup.specs.Answers.{answer-of, lookup-areas}
 use Rattle.lookup.specs.Locating.{lies-at, LocatedCall}
-use Rattle.lookup.specs.Tallies.{read-areas}
+use Rattle.tally.specs.Tallies.{read-areas}
 use Rattle.lookup.proofs.LocateLaws.{place-accepted}
 use Rattle.card.specs.Doors.{refused}
 use Rattle.card.specs.Reading.{answer-in, place-given, search-place-of, totals-in, tally-of}

@@ -9,7 +9,7 @@ use Rattle.theory.specs.Lookup.{Answer, bare, accepted, RecordPlace, record-pla
 use Rattle.theory.specs.Ledger.{search, tally, Totals, no-totals, Reply, answered, handed, totalled}
 use Rattle.theory.specs.Calls.{perform}
 use Rattle.lookup.specs.Answers.{lookup-areas}
-use Rattle.lookup.specs.Tallies.{read-areas}
+use Rattle.tally.specs.Tallies.{read-areas}
 use Rattle.card.specs.Doors.{Filled, refused, filled, unless}
 
 -- what the search call gives back

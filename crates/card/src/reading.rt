@@ -2,8 +2,8 @@
 use lookup::locating::Located;
 use lookup::searching::bare;
 use lookup::searching::driver_number;
-use lookup::tallying::Totals;
 use settings::Given;
+use tally::Totals;
 ghost use mathlib.Core.Path.{_≡_};
 ghost use mathlib.Core.List.{[], _∷_};
 ghost use lib.ListN.{length};
@@ -193,7 +193,7 @@ pub extern "C" fn flow_tally(
         capacity,
         side_places,
     };
-    let x = lookup::tallying::tally(given, ledger, clipped, buckets, side);
+    let x = tally::tally(given, ledger, clipped, buckets, side);
     let number = x.number;
     if number == 1 {
         return 1;

@@ -15,7 +15,7 @@ use Rattle.theory.specs.Calls.{perform}
 use Rattle.theory.specs.Flowrun as flowrun
 use Rattle.theory.specs.Flowrun.{flowrun-settings, decimal, line-text, letter-call, call-in, Printed, print-bytes}
 use Rattle.lookup.specs.declared.searching.Answer.{Answer}
-use Rattle.lookup.specs.declared.tallying.Totals.{Totals}
+use Rattle.tally.specs.declared.Totals.{Totals}
 use Rattle.lookup.specs.Answers.{answer-of}
 use Rattle.calls.specs.declared.Kind.{Kind}
 use Rattle.calls.specs.declared.Kind.the-variants.{Clear, Update, Search, Tally}

@@ -5,5 +5,4 @@ pub mod JudgeLaws
 pub mod WithTableLaws
 pub mod LocateLaws
 pub mod FetchLaws
-pub mod TallyLaws
 pub mod BurstLaws

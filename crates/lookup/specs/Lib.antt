@@ -5,4 +5,3 @@ pub mod Answers
 pub mod Bursts
 pub mod Locating
 pub mod Parts
-pub mod Tallies

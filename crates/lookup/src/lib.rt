@@ -1,4 +1,4 @@
-// Document 01, the calls that only read: search, the second search call, tally.
+// Document 01, the calls that look for a key and only read: search, the second search call.
 pub mod bursts; // bursts.rt: many keys at once
 pub mod counters; // counters.rt: what the counters of a key say
 pub mod fetching; // fetching.rt: the record itself
@@ -7,4 +7,3 @@ pub mod locating; // locating.rt: where the record lies
 pub mod places; // places.rt: where a search looks
 pub mod scanning; // scanning.rt: the key among records
 pub mod searching; // searching.rt: the answer with its counts
-pub mod tallying; // tallying.rt: what the areas hold, counted

@@ -2,7 +2,7 @@
 use mathlib.Core.Path.{refl, sym, _∙_}
 use Rattle.theory.specs.Ledger as plain
 use Rattle.lookup.specs.Answers.{answer-of}
-use Rattle.lookup.specs.Tallies.{totals-of}
+use Rattle.tally.specs.Tallies.{totals-of}
 use Rattle.theory.proofs.LentLaws.{clear-lent, read-on-all}
 use borrow.Author.Needs.{needs}
 use Rattle.calls.proofs.perform.Statement.{statement}

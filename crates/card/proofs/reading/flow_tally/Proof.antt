@@ -1,5 +1,5 @@
 -- `card::reading::flow_tally` meets its contract: each refusal in its order, then the four numbers.
-use Rattle.lookup.specs.Tallies.{totals-of}
+use Rattle.tally.specs.Tallies.{totals-of}
 use Rattle.card.proofs.ReadingLaws.{tallied-1, tallied-2, tallied-refused, tallied}
 use borrow.Author.Needs.{needs}
 use Rattle.card.proofs.reading.flow_tally.Statement.{statement}

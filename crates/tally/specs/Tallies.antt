@@ -3,7 +3,7 @@ use mathlib.Core.List.{List, []}
 use Prim.Native.Nat.{ℕ}
 use Rattle.theory.specs.Layout.{Areas}
 use Rattle.theory.specs.Ledger as plain
-use Rattle.lookup.specs.declared.tallying.Totals.{Totals}
+use Rattle.tally.specs.declared.Totals.{Totals}
 
 -- the paper's number and its four values
 abbrev pub totals-of : Totals → plain.Totals

@@ -1,6 +1,6 @@
 // Tally: what the areas hold, counted.
-use crate::counters::counter;
-use crate::judging::areas_right;
+use lookup::counters::counter;
+use lookup::judging::areas_right;
 use settings::Checked;
 use settings::Given;
 use settings::Settings;
@@ -19,8 +19,8 @@ ghost use Rattle.theory.specs.Ledger as ledgers;
 ghost use Rattle.theory.specs.Ledger.{Step, totalled};
 ghost use Rattle.theory.specs.Calls.{marks, lookup-invalid, tally-areas, perform};
 ghost use Rattle.settings.specs.Checked.{paper, given-of, card};
 ghost use Rattle.lookup.specs.Places.{Lent};
-ghost use Rattle.lookup.specs.Tallies.{totals-of, read-areas};
+ghost use Rattle.tally.specs.Tallies.{totals-of, read-areas};
 
 // The answer's number, records in buckets, records in the side store, buckets marked 255, fill.
 pub struct Totals {

@@ -1,4 +1,4 @@
--- `lookup::tallying::marks_valid` meets its contract: whether a mark from bucket b on cannot be is whether any cannot.
+-- `tally::marks_valid` meets its contract: whether a mark from bucket b on cannot be is whether any cannot.
 use mathlib.Core.Path.{_≡_, ap}
 use mathlib.Core.Bool.{not, _&&_}
 use mathlib.Core.List.{List, map}
@@ -8,9 +8,9 @@ use lib.Dec.{eqb, ltb}
 use Rattle.theory.specs.Lists.{any, upto}
 use Rattle.settings.specs.Checked.{paper}
 use Rattle.settings.proofs.Laws.{bounds}
-use Rattle.lookup.proofs.TallyLaws.{rest, rest-all, any-here, any-on, any-none-left, mark-at, marks-are, mark-there}
-use Rattle.lookup.proofs.tallying.marks_valid.Statement.{statement}
-use Rattle.lookup.proofs.tallying.marks_valid.Tie as tie
+use Rattle.tally.proofs.TallyLaws.{rest, rest-all, any-here, any-on, any-none-left, mark-at, marks-are, mark-there}
+use Rattle.tally.proofs.marks_valid.Statement.{statement}
+use Rattle.tally.proofs.marks_valid.Tie as tie
 
 abbrev Inv-loop : tie.InvT-loop
 Inv-loop buckets m size room b₀ at₀ b at = (b ≤ m) × (at ≡ b * size) × (any (λ x. ltb room x && not (eqb x 255)) (map (mark-at buckets size) (rest b m)) ≡ any (λ x. ltb room x && not (eqb x 255)) (map (mark-at buckets size) (upto 0 m)))

@@ -1,12 +1,12 @@
--- `lookup::tallying::tally_checked` meets its contract: 4, then 5, then the four numbers.
+-- `tally::tally_checked` meets its contract: 4, then 5, then the four numbers.
 use borrow.Author.Tests.{not-true, not-false}
 use Rattle.theory.specs.Calls.{ledger-invalid, lookup-invalid, tally-areas}
 use Rattle.settings.specs.Checked.{card}
-use Rattle.lookup.specs.Tallies.{read-areas}
+use Rattle.tally.specs.Tallies.{read-areas}
 use Rattle.theory.proofs.ListLaws.{negated-false, negated-true}
 use borrow.Author.Needs.{needs}
-use Rattle.lookup.proofs.tallying.tally_checked.Statement.{statement}
-use Rattle.lookup.proofs.tallying.tally_checked.Tie as tie
+use Rattle.tally.proofs.tally_checked.Statement.{statement}
+use Rattle.tally.proofs.tally_checked.Tie as tie
 
 returns : tie.Need-returns
 unfolding tally-areas

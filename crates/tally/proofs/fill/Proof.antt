@@ -1,4 +1,4 @@
--- `lookup::tallying::fill` meets its contract: what the code computes is the definition.
+-- `tally::fill` meets its contract: what the code computes is the definition.
 use mathlib.Core.Path.{refl}
 use Prim.Native.Nat.{ℕ, _/_, _<_, _^_}
 use native.Mathlib.Nat.{div-le-self}
@@ -7,8 +7,8 @@ use mir.Syntax.{w32}
 use mir.Val.{Fits}
 use Rattle.theory.specs.Ledger.{fill-of}
 use borrow.Author.Needs.{needs}
-use Rattle.lookup.proofs.tallying.fill.Statement.{statement}
-use Rattle.lookup.proofs.tallying.fill.Tie as tie
+use Rattle.tally.proofs.fill.Statement.{statement}
+use Rattle.tally.proofs.fill.Tie as tie
 
 -- a quotient fits where its dividend does
 quotient-fits : (x y : ℕ) → x < 2 ^ 32 → Fits w32 (x / y)

@@ -1,10 +1,10 @@
--- `lookup::tallying::with_mark` meets its contract: by the test of the mark.
+-- `tally::with_mark` meets its contract: by the test of the mark.
 use mathlib.Core.Path.{refl}
 use native.Mathlib.Omega.{arith}
 use borrow.Author.Tests.{eq-eqb, ne-eqb}
 use borrow.Author.Needs.{needs}
-use Rattle.lookup.proofs.tallying.with_mark.Statement.{statement}
-use Rattle.lookup.proofs.tallying.with_mark.Tie as tie
+use Rattle.tally.proofs.with_mark.Statement.{statement}
+use Rattle.tally.proofs.with_mark.Tie as tie
 
 returns : tie.Need-returns
 returns c = rw (eq-eqb (c .before .before .args .mark) 255 (c .before .if1 .taken)) (omega arith, refl)

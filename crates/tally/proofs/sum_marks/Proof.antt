@@ -1,4 +1,4 @@
--- `lookup::tallying::sum_marks` meets its contract: what is summed so far, with the marks from bucket b on, is the whole sum.
+-- `tally::sum_marks` meets its contract: what is summed so far, with the marks from bucket b on, is the whole sum.
 use mathlib.Core.Path.{_≡_, ap, _∙_}
 use mathlib.Core.Bool.{not}
 use mathlib.Core.List.{List, map}
@@ -10,9 +10,9 @@ use lib.ListN.{length, getD}
 use Rattle.theory.specs.Lists.{filter, sum, upto}
 use Rattle.settings.specs.Checked.{paper}
 use Rattle.settings.proofs.Laws.{bounds}
-use Rattle.lookup.proofs.TallyLaws.{rest, rest-all, sum-on, sum-end, count-on, count-end, more-marks, more-255, not-255, mark-at, marks-are, mark-there}
-use Rattle.lookup.proofs.tallying.sum_marks.Statement.{statement}
-use Rattle.lookup.proofs.tallying.sum_marks.Tie as tie
+use Rattle.tally.proofs.TallyLaws.{rest, rest-all, sum-on, sum-end, count-on, count-end, more-marks, more-255, not-255, mark-at, marks-are, mark-there}
+use Rattle.tally.proofs.sum_marks.Statement.{statement}
+use Rattle.tally.proofs.sum_marks.Tie as tie
 
 abbrev Inv-loop : tie.InvT-loop
 Inv-loop buckets m size sums₀ b₀ at₀ sums b at = (b ≤ m)

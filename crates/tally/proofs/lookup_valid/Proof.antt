@@ -1,4 +1,4 @@
--- `lookup::tallying::lookup_valid` meets its contract: the three tests in their order.
+-- `tally::lookup_valid` meets its contract: the three tests in their order.
 use mathlib.Core.Bool.{not, _&&_}
 use native.Mathlib.Omega.{arith}
 use lib.Dec.{eqb, ltb}
@@ -9,10 +9,10 @@ use Rattle.theory.specs.Calls.{marks}
 use borrow.Author.Tests.{not-true, not-false}
 use Rattle.settings.specs.Checked.{paper, card}
 use Rattle.settings.proofs.Laws.{bounds}
-use Rattle.lookup.proofs.TallyLaws.{leb-not-ltb, invalid-is}
+use Rattle.tally.proofs.TallyLaws.{leb-not-ltb, invalid-is}
 use borrow.Author.Needs.{needs}
-use Rattle.lookup.proofs.tallying.lookup_valid.Statement.{statement}
-use Rattle.lookup.proofs.tallying.lookup_valid.Tie as tie
+use Rattle.tally.proofs.lookup_valid.Statement.{statement}
+use Rattle.tally.proofs.lookup_valid.Tie as tie
 
 returns : tie.Need-returns
 returns c =

@@ -1,11 +1,11 @@
--- `lookup::tallying::count_all` meets its contract, by what its callees count.
+-- `tally::count_all` meets its contract, by what its callees count.
 use native.Mathlib.Omega.{arith}
 use Rattle.theory.specs.Ledger.{counted-totals}
 use Rattle.settings.specs.Checked.{paper}
 use Rattle.settings.proofs.Laws.{bounds}
 use borrow.Author.Needs.{needs}
-use Rattle.lookup.proofs.tallying.count_all.Statement.{statement}
-use Rattle.lookup.proofs.tallying.count_all.Tie as tie
+use Rattle.tally.proofs.count_all.Statement.{statement}
+use Rattle.tally.proofs.count_all.Tie as tie
 
 count-at-requires : tie.Need-count-at-requires
 count-at-requires c κs = let b = bounds (paper (c .before .before .before .before .args .s)) (c .before .before .before .before .pre .0) in omega (arith, c .before .before .before .before .pre .3)

@@ -1,4 +1,4 @@
--- `lookup::tallying::tally` meets its contract: 1, 2, then tally on areas of their lengths.
+-- `tally::tally` meets its contract: 1, 2, then tally on areas of their lengths.
 use mathlib.Core.Path.{_≡_}
 use mathlib.Core.Bool.{true, _&&_}
 use lib.Dec.{eqb}
@@ -8,11 +8,11 @@ use Rattle.theory.specs.Settings.{Settings, allowed}
 use Rattle.settings.specs.declared.Settings as code
 use Rattle.settings.specs.Checked.{paper, given-of}
 use Rattle.settings.proofs.Laws.{allowed-arm, refused-arm, allowed-settings}
-use Rattle.lookup.specs.Tallies.{totals-of}
-use Rattle.lookup.proofs.TallyLaws.{tally-1, lengths-by, Checked, tally-2, tally-on, tally-checked}
+use Rattle.tally.specs.Tallies.{totals-of}
+use Rattle.tally.proofs.TallyLaws.{tally-1, lengths-by, Checked, tally-2, tally-on, tally-checked}
 use borrow.Author.Needs.{needs}
-use Rattle.lookup.proofs.tallying.tally.Statement.{statement}
-use Rattle.lookup.proofs.tallying.tally.Tie as tie
+use Rattle.tally.proofs.tally.Statement.{statement}
+use Rattle.tally.proofs.tally.Tie as tie
 
 -- ---- what the call is given
 module _ (c : tie.After-new) where

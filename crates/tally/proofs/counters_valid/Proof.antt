@@ -1,4 +1,4 @@
--- `lookup::tallying::counters_valid` meets its contract: whether a counter from bucket b on is above T is whether any is.
+-- `tally::counters_valid` meets its contract: whether a counter from bucket b on is above T is whether any is.
 use mathlib.Core.Path.{_≡_, ap, sym, _∙_}
 use mathlib.Core.List.{List, map}
 use Prim.Native.Nat.{ℕ, _-_, _≤_}
@@ -8,9 +8,9 @@ use borrow.Author.Needs.{needs}
 use Rattle.theory.specs.Lists.{any, upto}
 use Rattle.theory.specs.Lookup.{counter}
 use Rattle.settings.specs.Checked.{paper}
-use Rattle.lookup.proofs.TallyLaws.{rest, rest-all, any-here, any-on, any-none-left, any-map, counter-in}
-use Rattle.lookup.proofs.tallying.counters_valid.Statement.{statement}
-use Rattle.lookup.proofs.tallying.counters_valid.Tie as tie
+use Rattle.tally.proofs.TallyLaws.{rest, rest-all, any-here, any-on, any-none-left, any-map, counter-in}
+use Rattle.tally.proofs.counters_valid.Statement.{statement}
+use Rattle.tally.proofs.counters_valid.Tie as tie
 
 abbrev Inv-loop : tie.InvT-loop
 Inv-loop clipped m top b₀ b = (b ≤ m) × (any (λ x. ltb top x) (map (counter clipped) (rest b m)) ≡ any (λ x. ltb top x) (map (counter clipped) (upto 0 m)))

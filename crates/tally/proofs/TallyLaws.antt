@@ -19,10 +19,10 @@ use Rattle.theory.proofs.SettingsLaws.{sound}
 use Rattle.settings.specs.declared.Settings as settings
 use Rattle.settings.specs.Checked.{paper, card}
 use Rattle.settings.proofs.Laws.{bucket-within}
 use Rattle.lookup.specs.Places.{Lent}
 use Rattle.lookup.specs.Answers.{lookup-areas}
-use Rattle.lookup.specs.Tallies.{read-areas}
+use Rattle.tally.specs.Tallies.{read-areas}
 use Rattle.lookup.proofs.PlaceLaws.{mark-is}
 
 -- ---- the numbers from b up to m
 abbrev pub rest : ℕ → ℕ → List ℕ
