@@ -18,7 +18,7 @@ returns-2 c =
     let bucket = c .before .before .before .before .wide-count in
     let args = c .before .before .before .before .before .before .args in
     let other = ne-eqb (args .choice) (args .m) (λ e. c .before .before .before .if1 .left (bucket .ensures ∙ e)) in
-    rw (other, getD-drop (args .m) (args .work .now) (args .choice) 0, room-is (paper (args .s))) (rw (c .before .wide-count-count2 .ensures, bucket .ensures))
+    rw (other, getD-drop (args .m) (args .work .now) (args .choice) 0, room-is (paper (args .s))) (rw (c .before .wide-count2 .ensures, bucket .ensures))
 
 pub aside-spec : {M : Type 1} → statement M
 aside-spec =

@@ -17,19 +17,19 @@ abbrev μ-loop : tie.MeasureT-loop
 μ-loop s clipped answers₀ n i₀ answers i = n - i
 
 -- ---- the choice of the H that stands there
-module _ (c : tie.After-read_counters Inv-loop μ-loop) where
+module _ (c : tie.After-read-counters Inv-loop μ-loop) where
   abbrev at : tie.In-loop Inv-loop μ-loop
   at = c .before .before
 
   abbrev start : tie.Start Inv-loop μ-loop
   start = at .before .before .before .before
 
-  is-choice : c .read_counters .result ≡ key-counters-at (paper (start .args .s)) (start .args .clipped .now) (getD (start .args .answers .now) (at .before .loop .i) 0)
+  is-choice : c .read-counters .result ≡ key-counters-at (paper (start .args .s)) (start .args .clipped .now) (getD (start .args .answers .now) (at .before .loop .i) 0)
   is-choice =
-      choice-is (paper (start .args .s)) (start .pre .0) (start .args .clipped .now) (getD (at .before .loop .answers) (at .before .loop .i) 0) (c .read_counters .result) (c .read_counters .ensures)
+      choice-is (paper (start .args .s)) (start .pre .0) (start .args .clipped .now) (getD (at .before .loop .answers) (at .before .loop .i) 0) (c .read-counters .result) (c .read-counters .ensures)
       ∙ ap (key-counters-at (paper (start .args .s)) (start .args .clipped .now)) (at .before .loop .inv .left (at .before .loop .i) (omega arith))
 
-  small : (c .read_counters .result .least .0 < 65536) × (c .read_counters .result .bucket < 65536)
+  small : (c .read-counters .result .least .0 < 65536) × (c .read-counters .result .bucket < 65536)
   small = rw is-choice (at-small (paper (start .args .s)) (start .pre .0) (start .args .clipped .now) (getD (start .args .answers .now) (at .before .loop .i) 0))
 
 loop-again : tie.Need-loop-again Inv-loop μ-loop

@@ -118,8 +118,8 @@ returns c =
     let choice = choice-of (t at) (first .pre .0) (first .args .h) clipped (c .before .above .result) (l .best) (rw (m-is at) at seen) (rw (m-is at) at low) in
     record { above = choice .above; least = λ key. c .of-rank .ensures ∙ choice .least key; bucket = choice .bucket }
 
-pub read_counters-spec : {M : Type 1} → statement M
-read_counters-spec =
+pub read-counters-spec : {M : Type 1} → statement M
+read-counters-spec =
     tie.close
     (tie.spec
     Inv-loop

@@ -27,7 +27,7 @@ place-by-requires c κs =
     let start = c .before .before .before .before .before .before in
     let lent = start .pre .0 in (
       record { ok = lent .ok; buckets-size = lent .buckets-size; side-size = lent .side-size },
-      key-counters-fit (paper (start .args .s)) (lent .ok) (start .args .h) (start .args .clipped .now) (c .read_counters .result) (c .read_counters .ensures),
+      key-counters-fit (paper (start .args .s)) (lent .ok) (start .args .h) (start .args .clipped .now) (c .read-counters .result) (c .read-counters .ensures),
     )
 
 -- ---- the place where the search looks is found
@@ -62,7 +62,7 @@ module _ (c : tie.After-place-by) where
 
   answered : (x : Place) → c .place-by .result ≡ x → answer-at (card-of t) key (found x) ≡ search-areas the-card clipped buckets side key
   answered x e =
-      let is = place-by-is t (start .pre .0 .ok) (start .args .h) clipped (c .before .read_counters .result) (c .before .read_counters .ensures) buckets side key in
+      let is = place-by-is t (start .pre .0 .ok) (start .args .h) clipped (c .before .read-counters .result) (c .before .read-counters .ensures) buckets side key in
       search-is t (start .args .h) clipped buckets side key (found x) (ap found (sym e) ∙ c .place-by .ensures .0 ∙ is)
 
   within : (x : Place) → c .place-by .result ≡ x → Inside t x
@@ -70,11 +70,11 @@ module _ (c : tie.After-place-by) where
 
   goes : (x : Place) → c .place-by .result ≡ x → Goes (card-of t) (chosen the-card (counter clipped) key) (goes-to-bucket the-card clipped buckets key) x
   goes x e =
-      let of = c .before .read_counters .ensures in
-      let is = goes-by-is t (start .pre .0 .ok) (start .args .h) clipped (c .before .read_counters .result) of buckets side key in
+      let of = c .before .read-counters .ensures in
+      let is = goes-by-is t (start .pre .0 .ok) (start .args .h) clipped (c .before .read-counters .result) of buckets side key in
       subst (λ (b : ℕ). Goes (card-of t) b (goes-to-bucket the-card clipped buckets key) x) (of .bucket key)
-      (subst (λ (g : Bool). Goes (card-of t) (c .before .read_counters .result .bucket) g x) is
-      (subst (Goes (card-of t) (c .before .read_counters .result .bucket) _) e (c .place-by .ensures .2)))
+      (subst (λ (g : Bool). Goes (card-of t) (c .before .read-counters .result .bucket) g x) is
+      (subst (Goes (card-of t) (c .before .read-counters .result .bucket) _) e (c .place-by .ensures .2)))
 
   size-is : c .before .before .record-size .result ≡ 17
   size-is = c .before .before .record-size .ensures ∙ record-size-is t

@@ -11,14 +11,14 @@ place-by-requires c κs =
     let start = c .before .before .before .before in
     let lent = start .pre in (
       record { ok = lent .ok; buckets-size = lent .buckets-size; side-size = lent .side-size },
-      key-counters-fit (paper (start .args .s)) (lent .ok) (start .args .h) (start .args .clipped .now) (c .read_counters .result) (c .read_counters .ensures),
+      key-counters-fit (paper (start .args .s)) (lent .ok) (start .args .h) (start .args .clipped .now) (c .read-counters .result) (c .read-counters .ensures),
     )
 
 returns : tie.Need-returns
 returns c =
     let start = c .before .before .before .before .before in
     let args = start .args in
-    let found = place-by-is (paper (args .s)) (start .pre .ok) (args .h) (args .clipped .now) (c .before .read_counters .result) (c .before .read_counters .ensures) in
+    let found = place-by-is (paper (args .s)) (start .pre .ok) (args .h) (args .clipped .now) (c .before .read-counters .result) (c .before .read-counters .ensures) in
     (λ key. c .place-by .ensures .0 ∙ found (args .buckets .now) (args .side .now) key, c .place-by .ensures .1)
 
 pub find-place-spec : {M : Type 1} → statement M
