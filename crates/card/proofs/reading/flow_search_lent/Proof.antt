@@ -5,8 +5,8 @@ use Rattle.theory.specs.Lookup.{driver-number}
 use Rattle.card.proofs.reading.flow_search_lent.Statement.{statement}
 use Rattle.card.proofs.reading.flow_search_lent.Tie as tie
 
-pub flow-search-with-table-spec : {M : Type 1} → statement M
-flow-search-with-table-spec =
+pub flow-search-lent-spec : {M : Type 1} → statement M
+flow-search-lent-spec =
     tie.close
     (tie.spec
     (λ c κs. search needs)
