@@ -1,15 +1,7 @@
 //! The fuzzer's target: bytes are taken as settings, areas and a list of calls of every door. Each answer and every area is compared with
 //! the model's. A difference aborts, which the fuzzer reports with the bytes that led there.
 
-#[path = "../rust/tests/lending/mod.rs"]
-mod lending;
-#[path = "../rust/tests/model/mod.rs"]
-mod model;
-#[path = "../rust/tests/seen/mod.rs"]
-mod seen;
-
 use flow::{doors, HashTable};
-use lending::{assert_areas, door, kind, lend};
 use model::calls::{perform, Call};
 use model::card::Card;
 use model::hash::{self, KEY_BYTES};
@@ -20,8 +12,9 @@ use model::packet::packet_key_into;
 use model::records::{Key, RECORD_BYTES};
 use model::settings::{Settings as Model, LIMITS};
 use model::snapshot::{self, snapshot, HEAD_BYTES};
-use seen::Seen;
 use std::sync::Mutex;
+use testing::lending::{assert_areas, door, kind, lend};
+use testing::seen::Seen;
 
 // A longer list would only make a run slow.
 const MOST_CALLS: usize = 48;

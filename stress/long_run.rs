@@ -1,29 +1,18 @@
 //! Ten million calls through the doors, or as many as the first argument says: a random walk of adds, changes, removals, searches and bursts of
 //! searches near what each table can hold. Every answer is compared with the model's, and after every 10,000 calls all areas with the model's layout.
 
-#[path = "../rust/tests/lending/mod.rs"]
-mod lending;
-#[path = "../rust/tests/made/mod.rs"]
-mod made;
-#[path = "../rust/tests/model/mod.rs"]
-mod model;
-#[path = "../rust/tests/random/mod.rs"]
-mod random;
-#[path = "../rust/tests/seen/mod.rs"]
-mod seen;
-
 use flow::{doors, HashTable};
-use lending::{assert_areas, door, kind};
-use made::{random_areas, random_class, random_key, random_work};
 use model::calls::Call;
 use model::card::Card;
 use model::layout::{layout, Areas};
 use model::ledger::Ledger;
 use model::records::Key;
 use model::settings::Settings as Model;
-use random::Random;
-use seen::Seen;
 use std::time::Instant;
+use testing::lending::{assert_areas, door, kind};
+use testing::made::{random_areas, random_class, random_key, random_work};
+use testing::random::Random;
+use testing::seen::Seen;
 
 const CALLS: u64 = 10_000_000;
 const CALLS_BETWEEN_COMPARISONS: u64 = 10_000;

@@ -1,24 +1,19 @@
 //! The door for a burst of searches against the model, and key by key against the door for one: with every number of keys from 0 to 70, on
 //! layouts that the model makes, on damaged areas, with wrong lengths and settings, and with hash tables of any contents.
 
-mod made;
-mod model;
-mod random;
-mod seen;
-
 use flow::{doors, HashTable, LookupAreas, Refusal, Settings, Table, HASH_TABLE_ENTRIES};
-use made::{
-    damage_lookup, filled, random_card, random_class, random_key, random_table, spoiled,
-    wrong_length,
-};
 use model::card::Card;
 use model::hash::KEY_BYTES;
 use model::layout::{layout, Areas};
 use model::lookup::{self as paper, Lookup};
 use model::records::{Key, Record};
 use model::settings::{Settings as Model, LIMITS};
-use random::Random;
-use seen::Seen;
+use testing::made::{
+    damage_lookup, filled, random_card, random_class, random_key, random_table, spoiled,
+    wrong_length,
+};
+use testing::random::Random;
+use testing::seen::Seen;
 
 // Bursts of each test have so many keys, from none, and each number occurs.
 const MOST_KEYS: usize = 70;
@@ -394,11 +389,11 @@ fn other_table(random: &mut Random, right: &[u64]) -> Vec<u64> {
             let mut table = right.to_vec();
             for _ in 0..random.between(1, 2000) {
                 let at = random.between(0, right.len() as u64 - 1) as usize;
-                table[at] = random.next();
+                table[at] = random.number();
             }
             table
         }
-        _ => right.iter().map(|_| random.next()).collect(),
+        _ => right.iter().map(|_| random.number()).collect(),
     }
 }
 

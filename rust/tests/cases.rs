@@ -1,8 +1,5 @@
 //! The paper's own cases, and its plain ledger beside its layout: the model against the paper. No door is called here.
 
-mod model;
-mod random;
-
 use model::card::Card;
 use model::hash;
 use model::hash::KEY_BYTES;
@@ -13,7 +10,7 @@ use model::placing::Placing;
 use model::records::{Key, Record, RECORD_BYTES};
 use model::settings::Settings;
 use model::snapshot::snapshot;
-use random::Random;
+use testing::random::Random;
 
 // k is not looked at: the bucket numbers are given.
 fn placed(b: u64, t: u64, numbers: &[&[u64]]) -> Placing {
@@ -133,7 +130,7 @@ fn plain_ledger_and_layout() {
             } else {
                 KEY_BYTES
             }];
-            let class = random.next() as u32;
+            let class = random.number() as u32;
             let before = ledger.clone();
             let answer = match random.between(0, 99) {
                 0 => ledger.clear(),

@@ -1,21 +1,16 @@
 //! The program flowrun against the model: its whole output, on the paper's sample, on random inputs, and on input in small pieces.
 
-mod made;
-mod model;
-mod random;
-mod seen;
-
-use made::{random_class, random_key};
 use model::card::Card;
 use model::flowrun::{output, settings};
 use model::records::{Key, Record};
-use random::Random;
-use seen::Seen;
 use std::io::Write;
 use std::path::Path;
 use std::process::{Command, Stdio};
 use std::thread;
 use std::time::Duration;
+use testing::made::{random_class, random_key};
+use testing::random::Random;
+use testing::seen::Seen;
 
 const INPUTS: u64 = 200;
 const IN_PIECES: u64 = 20;
@@ -172,7 +167,7 @@ fn random_input(random: &mut Random, tidy: &[Key], calls: u64) -> Vec<u8> {
     for _ in 0..calls {
         let letter = match random.between(0, 999) {
             way if way < clears => b'X',
-            way if way < 10 => random.next() as u8,
+            way if way < 10 => random.number() as u8,
             way if way < 250 => b'S',
             way if way < 300 => b'C',
             _ if random.between(0, 99) < adds => b'I',
@@ -185,7 +180,7 @@ fn random_input(random: &mut Random, tidy: &[Key], calls: u64) -> Vec<u8> {
         input.extend(call(letter, &key, random_class(random)));
     }
     let left_over = random.between(0, 17);
-    input.extend((0..left_over).map(|_| random.next() as u8));
+    input.extend((0..left_over).map(|_| random.number() as u8));
     input
 }
 

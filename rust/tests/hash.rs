@@ -1,12 +1,9 @@
 //! H, the hash table, the hashes and the bucket numbers against the model.
 
-mod model;
-mod random;
-
 use flow::{doors, HashTable, Refusal, Settings, HASH_TABLE_ENTRIES, KEY_BYTES};
 use model::hash as paper;
 use model::settings::{Settings as Model, LIMITS};
-use random::Random;
+use testing::random::Random;
 
 const RANDOM_KEYS: usize = 100_000;
 
@@ -220,7 +217,7 @@ fn key_buckets_settings() {
 #[test]
 fn lent_table_of_any_contents() {
     let mut random = Random::new(4);
-    let table: Vec<u64> = (0..HASH_TABLE_ENTRIES).map(|_| random.next()).collect();
+    let table: Vec<u64> = (0..HASH_TABLE_ENTRIES).map(|_| random.number()).collect();
     for key in special_keys() {
         let mut h = [0];
         assert_eq!(doors::hash_lent(&table, &key, &mut h), 0);

@@ -1,15 +1,6 @@
 //! Both search doors and tally against the model: on layouts that the model makes, on damaged areas, on wrong lengths and settings.
 
-mod made;
-mod model;
-mod random;
-mod seen;
-
 use flow::{doors, HashTable, LookupAreas, Refusal, Settings, Store, Tally};
-use made::{
-    damage_ledger, damage_lookup, filled, random_card, random_key, random_table, set_count,
-    spoiled, wrong_length,
-};
 use model::card::Card;
 use model::hash::KEY_BYTES;
 use model::layout::{layout, Areas};
@@ -17,8 +8,12 @@ use model::ledger::Ledger;
 use model::lookup::{self as paper, Answer, Lookup, Part, Place};
 use model::records::{Key, Record, RECORD_BYTES};
 use model::settings::{Settings as Model, LIMITS};
-use random::Random;
-use seen::Seen;
+use testing::made::{
+    damage_ledger, damage_lookup, filled, random_card, random_key, random_table, set_count,
+    spoiled, wrong_length,
+};
+use testing::random::Random;
+use testing::seen::Seen;
 
 // Searches of each test, each through both doors.
 const ON_LAYOUTS: u64 = 400_000;
@@ -433,12 +428,14 @@ fn lent_table_of_any_contents() {
         let card = random_card(&mut random);
         let (list, mut areas) = random_table(&mut random, &card);
         damage_lookup(&mut random, &card, &mut areas, &[]);
-        let mut table: Vec<u64> = (0..right.entries().len()).map(|_| random.next()).collect();
+        let mut table: Vec<u64> = (0..right.entries().len())
+            .map(|_| random.number())
+            .collect();
         if random.between(0, 1) == 0 {
             // but for one entry the right one, so that flows are found too
             let entry = random.between(0, table.len() as u64 - 1) as usize;
             table = right.entries().to_vec();
-            table[entry] = random.next();
+            table[entry] = random.number();
         }
         let numbers = card.settings.numbers();
         let by_table = Card::with_table(card.settings, table.clone());
@@ -484,7 +481,7 @@ fn other_buckets_do_not_count() {
             for (b, bucket) in other.buckets.chunks_mut(card.bucket_bytes()).enumerate() {
                 if Some(b as u64) != chosen {
                     for byte in bucket {
-                        *byte = random.next() as u8;
+                        *byte = random.number() as u8;
                     }
                 }
             }

@@ -1,16 +1,11 @@
 //! The packet key's door against the model: every length up to 80 with every header length, and random packets.
 
-mod made;
-mod model;
-mod random;
-mod seen;
-
 use flow::{doors, packet_key, packet_key_into, Refusal};
-use made::random_bytes;
 use model::hash::KEY_BYTES;
 use model::packet as paper;
-use random::Random;
-use seen::Seen;
+use testing::made::random_bytes;
+use testing::random::Random;
+use testing::seen::Seen;
 
 const PACKETS: u64 = 300_000;
 const MOST_BYTES: u64 = 80;
@@ -77,7 +72,7 @@ fn random_packets() {
         if length > 9 && random.between(0, 9) != 0 {
             packet[0] = (16 * 4 + words) as u8;
             packet[9] =
-                [6, 17, 6, 17, 1, 0, 47, 255, random.next() as u8][random.between(0, 8) as usize];
+                [6, 17, 6, 17, 1, 0, 47, 255, random.number() as u8][random.between(0, 8) as usize];
         }
         let buffer = match random.between(0, 9) {
             0 => random.between(0, 40) as usize,

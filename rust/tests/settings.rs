@@ -1,7 +1,5 @@
 //! The settings' verdicts and the areas' lengths against the model, on every combination of values at and around the limits.
 
-mod model;
-
 use flow::{doors, Refusal, Settings};
 use model::settings::{Settings as Model, LIMITS};
 

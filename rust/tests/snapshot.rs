@@ -1,18 +1,7 @@
 //! Save and load against the model: on lists with and without a layout, on damaged ledgers, on files cut, extended and altered, on wrong
 //! lengths and settings. All areas are compared after every call.
 
-mod lending;
-mod made;
-mod model;
-mod random;
-mod seen;
-
 use flow::{doors, Refusal, Table};
-use lending::{assert_areas, lend};
-use made::{
-    damage_ledger, filled, random_areas, random_bytes, random_count, random_list, random_work,
-    resize, set_count, small_card, spoiled, wrong_length,
-};
 use model::card::Card;
 use model::hash::KEY_BYTES;
 use model::layout::{layout, placing, Areas};
@@ -20,9 +9,14 @@ use model::ledger::list_of;
 use model::records::{count, counted_area, Record, RECORD_BYTES};
 use model::settings::{Settings as Model, LIMITS};
 use model::snapshot::{self as paper, snapshot, HEAD_BYTES};
-use random::Random;
-use seen::Seen;
 use std::collections::BTreeMap;
+use testing::lending::{assert_areas, lend};
+use testing::made::{
+    damage_ledger, filled, random_areas, random_bytes, random_count, random_list, random_work,
+    resize, set_count, small_card, spoiled, wrong_length,
+};
+use testing::random::Random;
+use testing::seen::Seen;
 
 const SAVES: u64 = 200_000;
 const LOADS: u64 = 200_000;
@@ -145,7 +139,7 @@ impl Load {
             file: snapshot(settings, &list),
             areas: random_areas(random, settings),
             work: random_work(random, settings),
-            settings: (0..6).map(|_| random.next()).collect(),
+            settings: (0..6).map(|_| random.number()).collect(),
         }
     }
 
@@ -226,7 +220,7 @@ fn fault(random: &mut Random, card: &Card, load: &mut Load, name: &str) -> bool 
                 .truncate(random.between(HEAD_BYTES as u64, length - 1) as usize);
         }
         "cut by a record" if n > 0 => load.file.truncate(load.file.len() - RECORD_BYTES),
-        "a byte more" => load.file.push(random.next() as u8),
+        "a byte more" => load.file.push(random.number() as u8),
         "a record more" => {
             let more = random.between(1, 3);
             load.file
@@ -432,7 +426,7 @@ fn alter_bytes(random: &mut Random, file: &mut [u8]) {
             0 => file.len().min(HEAD_BYTES),
             _ => file.len(),
         };
-        file[random.between(0, most as u64 - 1) as usize] = random.next() as u8;
+        file[random.between(0, most as u64 - 1) as usize] = random.number() as u8;
     }
 }
 

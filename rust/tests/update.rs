@@ -1,18 +1,7 @@
 //! The doors that write against the model: lists of calls with all five areas compared after every call, areas that no call left behind,
 //! damaged ledgers, wrong lengths and settings, and lists that end with the same flows.
 
-mod lending;
-mod made;
-mod model;
-mod random;
-mod seen;
-
 use flow::{doors, HashTable, Refusal, Settings, Table, Tally};
-use lending::{assert_areas, door, kind};
-use made::{
-    damage_ledger, filled, random_areas, random_class, random_key, random_list, random_work,
-    resize, small_card, spoiled, wrong_length,
-};
 use model::calls::{perform, Call};
 use model::card::Card;
 use model::hash::KEY_BYTES;
@@ -21,9 +10,14 @@ use model::ledger::{list_of, Ledger};
 use model::lookup as paper;
 use model::records::{counted_area, Key, Record, RECORD_BYTES};
 use model::settings::{Settings as Model, LIMITS};
-use random::Random;
-use seen::Seen;
 use std::collections::BTreeMap;
+use testing::lending::{assert_areas, door, kind};
+use testing::made::{
+    damage_ledger, filled, random_areas, random_class, random_key, random_list, random_work,
+    resize, small_card, spoiled, wrong_length,
+};
+use testing::random::Random;
+use testing::seen::Seen;
 
 const LISTS: u64 = 4_000;
 const CALLS_OF_A_LIST: u64 = 200;

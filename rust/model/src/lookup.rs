@@ -1,12 +1,12 @@
 //! 'The calls' that only read, on areas with any contents and lengths: search, the second search call, a burst of searches, tally.
 
-use super::card::Card;
-use super::hash::KEY_BYTES;
-use super::layout::Areas;
-use super::ledger;
-use super::placing::ClippedCount;
-use super::records::{count, first_records, Key, RECORD_BYTES};
-use super::settings::Settings;
+use crate::card::Card;
+use crate::hash::KEY_BYTES;
+use crate::layout::Areas;
+use crate::ledger;
+use crate::placing::ClippedCount;
+use crate::records::{count, first_records, Key, RECORD_BYTES};
+use crate::settings::Settings;
 
 /// The three lookup areas.
 #[derive(Clone, Copy)]

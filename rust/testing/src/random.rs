@@ -1,8 +1,5 @@
 //! Random numbers for tests: splitmix64 (Steele, Lea and Flood, 2014), which is not the generator under test.
 
-// each test takes what it needs
-#![allow(dead_code)]
-
 pub struct Random(u64);
 
 impl Random {
@@ -12,7 +9,7 @@ impl Random {
         Random(seed)
     }
 
-    pub fn next(&mut self) -> u64 {
+    pub fn number(&mut self) -> u64 {
         self.0 = self.0.wrapping_add(0x9e3779b97f4a7c15);
         let mut z = self.0;
         z = (z ^ (z >> 30)).wrapping_mul(0xbf58476d1ce4e5b9);
@@ -22,13 +19,13 @@ impl Random {
 
     /// A number from low to high.
     pub fn between(&mut self, low: u64, high: u64) -> u64 {
-        low + self.next() % (high - low + 1)
+        low + self.number() % (high - low + 1)
     }
 
     pub fn bytes<const N: usize>(&mut self) -> [u8; N] {
         let mut bytes = [0; N];
         for byte in &mut bytes {
-            *byte = self.next() as u8;
+            *byte = self.number() as u8;
         }
         bytes
     }

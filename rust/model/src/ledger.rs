@@ -1,12 +1,12 @@
 //! 'The plain ledger', and what makes a ledger area valid.
 
-use super::card::Card;
-use super::hash::KEY_BYTES;
-use super::layout::placing;
-use super::lookup::{fill, Answer, Totals};
-use super::placing::ClippedCount;
-use super::records::{below, count, first_records, rising, Key, Record, RECORD_BYTES};
-use super::settings::Settings;
+use crate::card::Card;
+use crate::hash::KEY_BYTES;
+use crate::layout::placing;
+use crate::lookup::{fill, Answer, Totals};
+use crate::placing::ClippedCount;
+use crate::records::{below, count, first_records, rising, Key, Record, RECORD_BYTES};
+use crate::settings::Settings;
 
 /// The records of a ledger area, as its count says.
 pub fn list_of(area: &[u8]) -> Vec<Record> {

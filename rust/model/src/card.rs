@@ -1,8 +1,8 @@
 //! Settings with the hash: what placing, layout and search go by.
 
-use super::hash;
-use super::records::{Key, RECORD_BYTES};
-use super::settings::Settings;
+use crate::hash;
+use crate::records::{Key, RECORD_BYTES};
+use crate::settings::Settings;
 
 pub struct Card {
     pub settings: Settings,

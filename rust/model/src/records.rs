@@ -1,6 +1,6 @@
 //! 'Settings and areas': keys, records, and areas of a two-byte count and records.
 
-use super::hash::KEY_BYTES;
+use crate::hash::KEY_BYTES;
 
 pub type Key = [u8; KEY_BYTES];
 

@@ -1,6 +1,6 @@
 //! 'Hash'.
 
-use super::settings::Settings;
+use crate::settings::Settings;
 
 /// A key's bytes, and so the rows' count: 8 for each byte.
 pub const KEY_BYTES: usize = 13;

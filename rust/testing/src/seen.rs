@@ -1,8 +1,5 @@
 //! How often each kind of call gave each answer.
 
-// each test takes what it needs
-#![allow(dead_code)]
-
 use std::collections::BTreeMap;
 
 #[derive(Default)]

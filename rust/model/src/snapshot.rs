@@ -1,10 +1,10 @@
 //! 'Snapshot': a file of settings and records, saved from a ledger area and loaded into every area.
 
-use super::card::Card;
-use super::layout::{layout, placing, Areas};
-use super::ledger::{list_of, valid};
-use super::records::{count, counted_area, first_records, rising, Record, RECORD_BYTES};
-use super::settings::Settings;
+use crate::card::Card;
+use crate::layout::{layout, placing, Areas};
+use crate::ledger::{list_of, valid};
+use crate::records::{count, counted_area, first_records, rising, Record, RECORD_BYTES};
+use crate::settings::Settings;
 
 /// p, k, B, T, N and S.
 pub const SETTINGS_COUNT: usize = 6;

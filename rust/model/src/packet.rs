@@ -1,7 +1,7 @@
 //! 'Packet': the key of an IPv4 packet (RFC 791).
 
-use super::hash::KEY_BYTES;
-use super::records::Key;
+use crate::hash::KEY_BYTES;
+use crate::records::Key;
 
 /// What the key is made of, and the part after the header.
 struct Packet<'a> {

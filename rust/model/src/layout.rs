@@ -1,9 +1,9 @@
 //! The layout of a list of records: the five areas, byte by byte.
 
-use super::card::Card;
-use super::placing::Placing;
-use super::records::{counted_area, Record};
-use super::settings::Settings;
+use crate::card::Card;
+use crate::placing::Placing;
+use crate::records::{counted_area, Record};
+use crate::settings::Settings;
 
 /// The five areas that calls share.
 #[derive(Clone, Debug, PartialEq, Eq)]

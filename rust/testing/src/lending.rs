@@ -1,12 +1,9 @@
 //! The model's areas lent to the doors, and compared afterwards.
 
-// each test takes what it needs
-#![allow(dead_code)]
-
-use crate::model::calls::Call;
-use crate::model::layout::Areas;
-use crate::model::settings::Settings as Model;
 use flow::doors::{self, LentAreas};
+use model::calls::Call;
+use model::layout::Areas;
+use model::settings::Settings as Model;
 use std::fmt::Debug;
 
 pub fn lend(areas: &mut Areas) -> LentAreas<'_> {

@@ -1,6 +1,6 @@
 //! 'Settings and areas'.
 
-use super::records::RECORD_BYTES;
+use crate::records::RECORD_BYTES;
 
 /// Six settings, in or out of range, by the paper's letters.
 #[derive(Clone, Copy, Debug, PartialEq, Eq)]

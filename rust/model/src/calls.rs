@@ -1,9 +1,9 @@
 //! 'The calls' that write, on areas with any contents and lengths: clear, add, change, remove.
 
-use super::card::Card;
-use super::hash::KEY_BYTES;
-use super::layout::{layout, Areas};
-use super::ledger::{list_of, valid, Ledger};
+use crate::card::Card;
+use crate::hash::KEY_BYTES;
+use crate::layout::{layout, Areas};
+use crate::ledger::{list_of, valid, Ledger};
 
 /// A call, as the plain ledger is fed it.
 #[derive(Clone, Debug, PartialEq, Eq)]

@@ -1,10 +1,10 @@
 //! 'Program flowrun': its whole output.
 
-use super::card::Card;
-use super::hash::KEY_BYTES;
-use super::ledger::Ledger;
-use super::lookup::Answer;
-use super::settings::Settings;
+use crate::card::Card;
+use crate::hash::KEY_BYTES;
+use crate::ledger::Ledger;
+use crate::lookup::Answer;
+use crate::settings::Settings;
 use std::fmt::Write;
 
 /// A letter, a key, a class of four bytes.

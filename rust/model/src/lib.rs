@@ -2,9 +2,6 @@
 //! doors or with the crate over them.
 //! Clear before fast: a layout takes time in proportion to records and buckets, all else is done as the paper says it.
 
-// each test takes the part of the model that it needs
-#![allow(dead_code)]
-
 pub mod calls;
 pub mod card;
 pub mod flowrun;

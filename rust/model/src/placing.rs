@@ -1,6 +1,6 @@
 //! 'Placing', on the bucket numbers of the held keys in key order: no key or hash comes in here.
 
-use super::settings::Settings;
+use crate::settings::Settings;
 
 /// How many held keys have a bucket's number among theirs.
 #[derive(Clone, Copy, Debug, PartialEq, Eq, PartialOrd, Ord)]

@@ -1,14 +1,11 @@
 //! Tables, damage and wrong numbers, made at random.
 
-// each test takes what it needs
-#![allow(dead_code)]
-
-use crate::model::card::Card;
-use crate::model::hash::KEY_BYTES;
-use crate::model::layout::{layout, Areas};
-use crate::model::records::{Key, Record, RECORD_BYTES};
-use crate::model::settings::{Settings as Model, LIMITS};
 use crate::random::Random;
+use model::card::Card;
+use model::hash::KEY_BYTES;
+use model::layout::{layout, Areas};
+use model::records::{Key, Record, RECORD_BYTES};
+use model::settings::{Settings as Model, LIMITS};
 
 /// Random bytes, or bits that stand alone, or all zeros.
 pub fn random_key(random: &mut Random) -> Key {
@@ -27,7 +24,7 @@ pub fn random_class(random: &mut Random) -> u32 {
     match random.between(0, 9) {
         0 => 0,
         1 => u32::MAX,
-        _ => random.next() as u32,
+        _ => random.number() as u32,
     }
 }
 
@@ -166,11 +163,11 @@ pub fn damage_ledger(random: &mut Random, card: &Card, ledger: &mut [u8]) {
         }
         4 => {
             let at = random.between(0, ledger.len() as u64 - 1) as usize;
-            ledger[at] = random.next() as u8;
+            ledger[at] = random.number() as u8;
         }
         _ => {
             for byte in ledger.iter_mut() {
-                *byte = random.next() as u8;
+                *byte = random.number() as u8;
             }
         }
     }
@@ -226,14 +223,14 @@ pub fn damage_lookup(random: &mut Random, card: &Card, areas: &mut Areas, keys: 
             for _ in 0..random.between(1, 8) {
                 for area in [&mut areas.clipped, &mut areas.buckets, &mut areas.side] {
                     let at = random.between(0, area.len() as u64 - 1) as usize;
-                    area[at] = random.next() as u8;
+                    area[at] = random.number() as u8;
                 }
             }
         }
         // one kind of damage: counters, marks or the side count
         1 => {
             let at = random.between(0, areas.clipped.len() as u64 - 1) as usize;
-            areas.clipped[at] = random.next() as u8;
+            areas.clipped[at] = random.number() as u8;
         }
         2 => {
             for bucket in areas.buckets.chunks_mut(bucket_bytes) {
@@ -250,7 +247,7 @@ pub fn damage_lookup(random: &mut Random, card: &Card, areas: &mut Areas, keys: 
         4 => {
             for area in [&mut areas.buckets, &mut areas.side] {
                 for byte in area.iter_mut() {
-                    *byte = random.next() as u8;
+                    *byte = random.number() as u8;
                 }
             }
             random_counters(random, &mut areas.clipped, card.settings.t);
@@ -270,7 +267,7 @@ pub fn damage_lookup(random: &mut Random, card: &Card, areas: &mut Areas, keys: 
         _ => {
             for area in [&mut areas.clipped, &mut areas.buckets, &mut areas.side] {
                 for byte in area.iter_mut() {
-                    *byte = random.next() as u8;
+                    *byte = random.number() as u8;
                 }
             }
         }
@@ -303,11 +300,11 @@ pub fn small_card(random: &mut Random) -> Card {
 }
 
 pub fn random_bytes(random: &mut Random, length: u64) -> Vec<u8> {
-    (0..length).map(|_| random.next() as u8).collect()
+    (0..length).map(|_| random.number() as u8).collect()
 }
 
 fn random_numbers(random: &mut Random, length: u64) -> Vec<u16> {
-    (0..length).map(|_| random.next() as u16).collect()
+    (0..length).map(|_| random.number() as u16).collect()
 }
 
 /// Areas of their lengths with random bytes.

@@ -1,0 +1,6 @@
+//! What the tests and the stress programs share.
+
+pub mod lending;
+pub mod made;
+pub mod random;
+pub mod seen;
