@@ -1,2 +1,3 @@
 pub mod SliceLaws
 pub mod ByteNumberLaws
+pub mod RecordPartLaws

@@ -19,28 +19,6 @@ use Rattle.theory.proofs.GrowingLaws.{count-append, count-end, records-more}
 use Rattle.theory.proofs.ByteLaws.{length-records}
 use Rattle.placing.specs.Worked.{nth, choice-by, choices-by, Chose}
 
--- ---- the place of record i, where width and size are the card's
-module _ (s : Card) (width size at i : ℕ) (wide : width ≡ s .width) (sized : size ≡ record-size s) (here : at ≡ i * (s .width + 4)) where
-  size-is : size ≡ width + 4
-  unfolding record-size
-  size-is = sized ∙ rw wide
-
-  -- its key and all of it lie within
-  pub record-within : (n len : ℕ) → n * (s .width + 4) ≤ len → i < n → (at + width ≤ len) × (at + size ≤ len)
-  record-within n len fits more =
-      let h : at + size ≤ len = omega (arith, wide, size-is, suc-mul i (s .width + 4), mul-le-mul-right (s .width + 4) more) in
-      (omega (arith, size-is), h)
-
-  pub next-at : at + size ≡ (i + 1) * (s .width + 4)
-  next-at = rw (add-one i, suc-mul i (s .width + 4)) (omega (arith, wide, size-is))
-
--- its key, as it is lent
-pub key-lent : (at width w : ℕ) (a : List ℕ) → width ≡ w → take (at + width - at) (drop at a) ≡ take w (drop at a)
-key-lent at width w a e = rw (add-sub-cancel-left at width, e)
-
-pub key-length : (at width w : ℕ) (a : List ℕ) → width ≡ w → at + width ≤ length a → length (take (at + width - at) (drop at a)) ≡ w
-key-length at width w a e h = rw (key-lent at width w a e) (length-take-le w (drop at a) (rw length-drop (omega arith)))
-
 -- ---- how many records pass a test of their key
 module _ (p : List ℕ → Bool) where
   abbrev kept : List Record → ℕ
@@ -50,9 +28,9 @@ module _ (p : List ℕ → Bool) where
   unfolding records entries
   kept-none w a = refl
 
-  pub kept-more : (w i at : ℕ) (a : List ℕ) → at ≡ i * (w + 4) → kept (records w (i + 1) a) ≡ kept (records w i a) + cond (p (take w (drop at a))) 1 0
+  pub kept-more : (w i : ℕ) (a : List ℕ) → kept (records w (i + 1) a) ≡ kept (records w i a) + cond (p (take w (drop (i * (w + 4)) a))) 1 0
   unfolding record-at
-  kept-more w i at a e = rw (records-more w i a, count-end (λ (r : Record). p (r .key)) (records w i a) (record-at w (drop (i * (w + 4)) a)), ← e)
+  kept-more w i a = rw (records-more w i a, count-end (λ (r : Record). p (r .key)) (records w i a) (record-at w (drop (i * (w + 4)) a)))
 
   pub kept-bound : (w n : ℕ) (a : List ℕ) → kept (records w n a) ≤ n
   kept-bound w n a = omega (arith, filter-len (λ (r : Record). p (r .key)) (records w n a), length-records w n a)
@@ -75,11 +53,11 @@ module _ (s : Card) where
   true-count-append l m b = kept-append (λ k. has b (s .numbers k)) l m
 
   -- one record counted
-  pub count-more : (w i at : ℕ) (a old c d : List ℕ) → at ≡ i * (w + 4) → ((b : ℕ) → nth c b ≡ nth old b + true-count s (records w i a) b)
-      → ((b : ℕ) → nth d b ≡ nth c b + cond (has b (s .numbers (take w (drop at a)))) 1 0)
+  pub count-more : (w i : ℕ) (a old c d : List ℕ) → ((b : ℕ) → nth c b ≡ nth old b + true-count s (records w i a) b)
+      → ((b : ℕ) → nth d b ≡ nth c b + cond (has b (s .numbers (take w (drop (i * (w + 4)) a)))) 1 0)
       → (b : ℕ) → nth d b ≡ nth old b + true-count s (records w (i + 1) a) b
   unfolding true-count
-  count-more w i at a old c d e f g b = rw (kept-more (λ k. has b (s .numbers k)) w i at a e) (omega (arith, f b, g b))
+  count-more w i a old c d f g b = rw (kept-more (λ k. has b (s .numbers k)) w i a) (omega (arith, f b, g b))
 
   -- ---- choosers, by counts c
   module _ (c : ℕ → ℕ) where
@@ -91,10 +69,10 @@ module _ (s : Card) where
     unfolding choosers
     choosers-append l m b = kept-append (chooses s c b) l m
 
-    choices-more : (w i at : ℕ) (a : List ℕ) → at ≡ i * (w + 4)
-        → choices-by s c (records w (i + 1) a) ≡ choices-by s c (records w i a) ++ (choice-by s c (take w (drop at a)) ∷ [])
+    choices-more : (w i : ℕ) (a : List ℕ)
+        → choices-by s c (records w (i + 1) a) ≡ choices-by s c (records w i a) ++ (choice-by s c (take w (drop (i * (w + 4)) a)) ∷ [])
     unfolding record-at
-    choices-more w i at a e = rw (records-more w i a, map-append, ← e)
+    choices-more w i a = rw (records-more w i a, map-append)
 
   pub chose-none : (m w : ℕ) (a work kept : List ℕ) → Chose s m (records w 0 a) work work (take 0 kept)
   unfolding records entries choosers
@@ -121,8 +99,9 @@ module _ (s : Card) where
   chose-few m l old work ys f zeros b = omega (arith, f .more b, zeros b, filter-len (λ r. chooses s (nth (take m old)) b (r .key)) l)
 
   -- one record's choice: f, all counts are top or more, else bucket x
-  module _ (m w i : ℕ) (a old work kept : List ℕ) (so-far : Chose s m (records w i a) old work (take i kept)) (f : Bool) (x at : ℕ) (here : at ≡ i * (w + 4))
-      (top : f ≡ all-top s (nth (take m work)) (take w (drop at a))) (choice : x ≡ chosen s (nth (take m work)) (take w (drop at a))) where
+  module _ (m w i : ℕ) (a old work kept : List ℕ) (so-far : Chose s m (records w i a) old work (take i kept)) (f : Bool) (x : ℕ)
+      (top : f ≡ all-top s (nth (take m work)) (take w (drop (i * (w + 4)) a)))
+      (choice : x ≡ chosen s (nth (take m work)) (take w (drop (i * (w + 4)) a))) where
     pub chose-more : (new : List ℕ) → take m new ≡ take m work → ((b : ℕ) → nth (drop m new) b ≡ nth (drop m work) b + cond (not f && eqb b x) 1 0)
         → (v : ℕ) → v ≡ cond f (s .buckets) x → i < length kept → Chose s m (records w (i + 1) a) old new (take (i + 1) (set kept i v))
     unfolding choosers chooses choice-by
@@ -133,6 +112,6 @@ module _ (s : Card) where
         let stored : take (i + 1) (set kept i v) ≡ take i kept ++ (v ∷ []) = rw (add-one i) (take-suc-set kept i v there) in
         record {
           same = same ∙ so-far .same;
-          more = λ b. rw (kept-more (chooses s c b) w i at a here, ← top-is, ← choice-is) (omega (arith, so-far .more b, more b));
-          choices = rw (stored, v-is, choices-more c w i at a here, so-far .choices, ← top-is, ← choice-is);
+          more = λ b. rw (kept-more (chooses s c b) w i a, ← top-is, ← choice-is) (omega (arith, so-far .more b, more b));
+          choices = rw (stored, v-is, choices-more c w i a, so-far .choices, ← top-is, ← choice-is);
         }

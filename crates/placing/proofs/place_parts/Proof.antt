@@ -51,15 +51,16 @@ module _ (c : tie.After-count-parts) where
 count-parts-requires : tie.Need-count-parts-requires
 count-parts-requires c κs =
     let zeroed = c .before .before .before in
-    let p = start zeroed .pre in (
-      p .ready,
-      half zeroed ∙ p .buckets,
-      p .before,
-      p .middle,
-      p .after,
-      p .few,
-      λ x. rw (zeroed .zero-counts .ensures) (zero-at-take (length (start zeroed .args .work .now)) (m zeroed) x),
-    )
+    let p = start zeroed .pre in
+    record {
+      ready = p .ready;
+      buckets = half zeroed ∙ p .buckets;
+      first = p .first;
+      second = p .second;
+      third = p .third;
+      few = p .few;
+      zeros = λ b. rw (zeroed .zero-counts .ensures) (zero-at-take (length (start zeroed .args .work .now)) (m zeroed) b);
+    }
 
 choose-parts-requires : tie.Need-choose-parts-requires
 choose-parts-requires c κs =
@@ -70,9 +71,9 @@ choose-parts-requires c κs =
         ready = p .ready;
         buckets = p .buckets;
         halves = front-length (m whole) (zeros whole) (counts counted) (long whole) (counts-long counted) ∙ whole .zero-counts .kept .0 ∙ p .halves;
-        before = p .before;
-        middle = p .middle;
-        after = p .after;
+        first = p .first;
+        second = p .second;
+        third = p .third;
         few = p .few;
         places = p .places;
       },

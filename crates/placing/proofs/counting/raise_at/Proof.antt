@@ -1,4 +1,4 @@
--- `placing::raise_at` meets its contract: after j hashes each count is one more where its bucket is one of them.
+-- `placing::counting::raise_at` meets its contract: after j hashes each count is one more where its bucket is one of them.
 use mathlib.Core.Path.{_≡_, refl, sym, ap, _∙_}
 use mathlib.Core.Bool.{Bool, cond}
 use mathlib.Core.List.{List}
@@ -15,8 +15,8 @@ use Rattle.settings.specs.Checked.{paper}
 use Rattle.settings.proofs.Laws.{bounds}
 use Rattle.placing.proofs.CountingLaws.{zero-bound, Raised, raised-few, raise-next}
 use Rattle.placing.proofs.ReadyLaws.{has-hashes}
-use Rattle.placing.proofs.raise_at.Statement.{statement}
-use Rattle.placing.proofs.raise_at.Tie as tie
+use Rattle.placing.proofs.counting.raise_at.Statement.{statement}
+use Rattle.placing.proofs.counting.raise_at.Tie as tie
 
 record Passed (h k m : ℕ) (counts₀ counts : List ℕ) (rest j : ℕ) : Type 0 where
   within : j ≤ k

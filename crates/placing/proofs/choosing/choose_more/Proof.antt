@@ -1,4 +1,4 @@
--- `placing::choose_more` meets its contract: after i records these have chosen, and the first i places of kept hold their choices.
+-- `placing::choosing::choose_more` meets its contract: after i records these have chosen, and the first i places of kept hold their choices.
 use mathlib.Core.Path.{_≡_, sym, ap, _∙_}
 use mathlib.Core.Bool.{cond, not, _&&_}
 use mathlib.Core.List.{List, _++_}
@@ -15,27 +15,27 @@ use Rattle.memory.proofs.SliceLaws.{tail-is, length-tail, tail-length, tail-tak
 use Rattle.settings.specs.Checked.{paper, card}
 use Rattle.settings.specs.declared.Settings.{Settings}
 use Rattle.settings.proofs.Laws.{bounds}
-use Rattle.placing.specs.declared.Choice.{Choice}
+use Rattle.placing.specs.declared.choosing.Choice.{Choice}
 use Rattle.placing.specs.Worked.{nth, Chose}
-use Rattle.placing.proofs.RecordCountLaws.{record-within, next-at, key-lent, key-length, choosers-bound, chose-none, chose-all, chose-more}
+use Rattle.memory.proofs.RecordPartLaws.{Sizes, key-inside, key-length, key-is}
+use Rattle.placing.proofs.RecordCountLaws.{choosers-bound, chose-none, chose-all, chose-more}
 use Rattle.placing.proofs.WorkLaws.{picked-within}
 use Rattle.placing.proofs.ReadyLaws.{sound-card, chosen-within}
-use Rattle.placing.proofs.choose_more.Statement.{statement}
-use Rattle.placing.proofs.choose_more.Tie as tie
+use Rattle.placing.proofs.choosing.choose_more.Statement.{statement}
+use Rattle.placing.proofs.choosing.choose_more.Tie as tie
 
 -- after i records
-record Passed (s : Settings) (m : ℕ) (work₀ area : List ℕ) (n : ℕ) (work kept : List ℕ) (i at : ℕ) : Type 0 where
+record Passed (s : Settings) (m : ℕ) (work₀ area : List ℕ) (n : ℕ) (work kept : List ℕ) (i : ℕ) : Type 0 where
   within : i ≤ n
-  here : at ≡ i * (card s .width + 4)
   halves : length work ≡ m + m
   places : length kept ≡ n
   chose : Chose (card s) m (records (card s .width) i area) work₀ work (take i kept)
 
 abbrev Inv-loop : tie.InvT-loop
-Inv-loop s t m work₀ area n kept₀ width size i₀ at₀ work kept i at = Passed s m work₀ area n work kept i at
+Inv-loop s table m work₀ area n kept₀ width size i₀ work kept i = Passed s m work₀ area n work kept i
 
 abbrev μ-loop : tie.MeasureT-loop
-μ-loop s t m work₀ area n kept₀ width size i₀ at₀ work kept i at = n - i
+μ-loop s table m work₀ area n kept₀ width size i₀ work kept i = n - i
 
 -- ---- the sizes are known
 module _ (c : tie.After-record-size Inv-loop μ-loop) where
@@ -51,16 +51,13 @@ module _ (c : tie.After-record-size Inv-loop μ-loop) where
   abbrev area : List ℕ
   area = start .args .area .now
 
-  abbrev width : ℕ
-  width = c .before .width .result
-
-  width-is : width ≡ s .width
-  width-is = c .before .width .ensures
+  sizes : Sizes s (c .record-size .result) (c .before .width .result)
+  sizes = record { size-is = c .record-size .ensures; width-is = c .before .width .ensures }
 
   few : m ≤ 4096
   few = omega (arith, start .pre .buckets, bounds (paper (start .args .s)) (start .pre .ready .ok) .buckets-most)
 
--- ---- in the loop: record i lies within the area
+-- ---- in the loop
 module _ (c : tie.In-loop Inv-loop μ-loop) where
   abbrev sized : tie.After-record-size Inv-loop μ-loop
   sized = c .before .before
@@ -68,16 +65,11 @@ module _ (c : tie.In-loop Inv-loop μ-loop) where
   abbrev work : List ℕ
   work = c .before .loop .work
 
-  room : (c .before .loop .at + width sized ≤ length (area sized)) × (c .before .loop .at + sized .record-size .result ≤ length (area sized))
-  room =
-      record-within (s sized) _ _ _ _ (width-is sized) (sized .record-size .ensures) (c .before .loop .inv .here) _ (length (area sized))
-      (start sized .pre .there) (c .loop-test .taken)
-
   halved : m sized ≤ length work
   halved = omega (arith, c .before .loop .inv .halves)
 
   abbrev key : List ℕ
-  key = take (s sized .width) (drop (c .before .loop .at) (area sized))
+  key = take (s sized .width) (drop (c .before .loop .i * (s sized .width + 4)) (area sized))
 
 -- ---- its choice is made
 module _ (c : tie.After-pick Inv-loop μ-loop) where
@@ -90,11 +82,14 @@ module _ (c : tie.After-pick Inv-loop μ-loop) where
   abbrev choice : Choice
   choice = c .before .choose .result
 
+  key-here : c .before .before .key-at .result .now ≡ key at
+  key-here = c .before .before .key-at .ensures ∙ key-is (sizes (sized at)) (at .before .loop .i) (area (sized at))
+
   top-is : choice .«all_top» ≡ all-top (s (sized at)) counts (key at)
-  top-is = c .before .choose .ensures .0 ∙ rw (key-lent (at .before .loop .at) (width (sized at)) _ (area (sized at)) (width-is (sized at)))
+  top-is = c .before .choose .ensures .0 ∙ ap (all-top (s (sized at)) counts) key-here
 
   bucket-is : choice .bucket ≡ chosen (s (sized at)) counts (key at)
-  bucket-is = c .before .choose .ensures .1 ∙ rw (key-lent (at .before .loop .at) (width (sized at)) _ (area (sized at)) (width-is (sized at)))
+  bucket-is = c .before .choose .ensures .1 ∙ ap (chosen (s (sized at)) counts) key-here
 
   kept-is : c .pick .result ≡ cond (choice .«all_top») (s (sized at) .buckets) (choice .bucket)
   kept-is = c .pick .ensures ∙ ap (λ (x : ℕ). cond (choice .«all_top») x (choice .bucket)) (start (sized at) .pre .buckets)
@@ -125,7 +120,6 @@ loop-holds : tie.Need-loop-holds Inv-loop μ-loop
 loop-holds c =
     record {
       within = omega arith;
-      here = omega arith;
       halves = start c .pre .halves;
       places = start c .pre .places;
       chose = chose-none _ _ _ _ _ (start c .args .kept .now);
@@ -137,7 +131,7 @@ choose-requires c κs =
     let pre = start (sized at) .pre in (
       pre .ready,
       length-take-le (m (sized at)) (work at) (halved at) ∙ pre .buckets,
-      key-length (at .before .loop .at) (width (sized at)) _ (area (sized at)) (width-is (sized at)) (room at .0),
+      ap length (c .key-at .ensures) ∙ key-length (sizes (sized at)) _ (at .before .loop .i) (area (sized at)) (pre .there) (at .loop-test .taken),
     )
 
 add-choice-requires : tie.Need-add-choice-requires Inv-loop μ-loop
@@ -164,11 +158,10 @@ loop-again c =
     let long = c .before .before .add-choice .kept .0 ∙ length-tail (m whole) (work in-loop) (halved in-loop) in
     record {
       within = omega (arith, in-loop .loop-test .taken);
-      here = next-at (s whole) _ _ _ _ (width-is whole) (whole .record-size .ensures) (loop .inv .here);
       halves = tail-length (m whole) (work in-loop) (halved in-loop) ys long ∙ loop .inv .halves;
       places = simp length-set (loop .inv .places);
       chose =
-          chose-more (s whole) _ _ _ _ _ _ (loop .kept) (loop .inv .chose) _ _ _ (loop .inv .here) (top-is made) (bucket-is made) _
+          chose-more (s whole) _ _ _ _ _ _ (loop .kept) (loop .inv .chose) _ _ (top-is made) (bucket-is made) _
           (tail-take (m whole) (work in-loop) (halved in-loop) ys) (added c) _ (kept-is made) (omega (arith, loop .inv .places, in-loop .loop-test .taken));
     }
 
@@ -184,12 +177,9 @@ choose-more-spec =
     (λ c κs. search needs)
     (λ c κs. search needs)
     loop-holds
-    (λ c. omega (arith, room c .0))
     halved
     (λ c. sym (length-take-le (m (sized (c .before))) (work (c .before)) (halved (c .before))))
-    (λ c. omega arith)
-    (λ c. omega arith)
-    (λ c. omega (arith, room (c .before) .0))
+    (λ c κs. key-inside (sizes (sized (c .before))) _ _ (area (sized (c .before))) (start (sized (c .before)) .pre .there) (c .before .loop-test .taken))
     choose-requires
     (λ c κs. tt)
     (λ c. omega (arith, small c, few (sized (at c))))
@@ -200,7 +190,6 @@ choose-more-spec =
     (λ c. omega arith)
     (λ c. omega arith)
     add-choice-requires
-    (λ c. omega (arith, room (at (c .before .before .before .before)) .1))
     (λ c. omega arith)
     (λ c. omega arith)
     loop-again

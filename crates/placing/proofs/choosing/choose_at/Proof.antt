@@ -1,4 +1,4 @@
--- `placing::choose_at` meets its contract: the least rank of a key's hashes has its least count and the bucket that it chooses.
+-- `placing::choosing::choose_at` meets its contract: the least rank of a key's hashes has its least count and the bucket that it chooses.
 use mathlib.Core.Path.{_≡_, refl}
 use mathlib.Core.List.{List, map}
 use Prim.Native.Nat.{ℕ, _-_, _*_, _/_, _%_, _^_, _≤_, _<_}
@@ -14,8 +14,8 @@ use Rattle.settings.specs.Checked.{paper}
 use Rattle.settings.proofs.Laws.{bounds}
 use Rattle.placing.specs.Worked.{nth}
 use Rattle.placing.proofs.ReadyLaws.{choice-by-rank}
-use Rattle.placing.proofs.choose_at.Statement.{statement}
-use Rattle.placing.proofs.choose_at.Tie as tie
+use Rattle.placing.proofs.choosing.choose_at.Statement.{statement}
+use Rattle.placing.proofs.choosing.choose_at.Tie as tie
 
 -- at hash j: the least rank so far, joined with the ranks of the hashes from j on, is the least of all
 record Ranked (h : ℕ) (counts : List ℕ) (k m best₀ rest best j : ℕ) : Type 0 where

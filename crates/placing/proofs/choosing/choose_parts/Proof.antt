@@ -1,4 +1,4 @@
--- `placing::choose_parts` meets its contract: the counts stay, so three lists that choose one after the other choose as the three in a row.
+-- `placing::choosing::choose_parts` meets its contract: the counts stay, so three lists that choose one after the other choose as the three in a row.
 use mathlib.Core.Path.{_≡_, sym, _∙_}
 use mathlib.Core.List.{List, _++_}
 use Prim.Native.Nat.{ℕ, _+_}
@@ -12,8 +12,8 @@ use Rattle.memory.proofs.SliceLaws.{first-lent, second-lent, third-lent, three-
 use Rattle.settings.specs.Checked.{card}
 use Rattle.placing.specs.Worked.{Chose}
 use Rattle.placing.proofs.RecordCountLaws.{chose-append, chose-few}
-use Rattle.placing.proofs.choose_parts.Statement.{statement}
-use Rattle.placing.proofs.choose_parts.Tie as tie
+use Rattle.placing.proofs.choosing.choose_parts.Statement.{statement}
+use Rattle.placing.proofs.choosing.choose_parts.Tie as tie
 
 -- ---- at the first call
 module _ (c : tie.After-choose-more-arg2) where
@@ -24,13 +24,13 @@ module _ (c : tie.After-choose-more-arg2) where
   s = card (start .args .s)
 
   abbrev before : List Record
-  before = records (s .width) (start .args .n) (start .args .a .now)
+  before = records (s .width) (start .args .before-count) (start .args .before .now)
 
-  abbrev middle : List Record
-  middle = records (s .width) (start .args .k) (start .args .mid .now)
+  abbrev between : List Record
+  between = records (s .width) (start .args .between-count) (start .args .between .now)
 
   abbrev after : List Record
-  after = records (s .width) (start .args .j) (start .args .b .now)
+  after = records (s .width) (start .args .after-count) (start .args .after .now)
 
 -- ---- the first list has chosen
 module _ (c : tie.After-choose-more) where
@@ -40,7 +40,7 @@ module _ (c : tie.After-choose-more) where
   abbrev ys : List ℕ
   ys = c .choose-more .last .1 .1 .1 .1 .1 .1 .0
 
-  ys-long : length ys ≡ start first .args .n
+  ys-long : length ys ≡ start first .args .before-count
   ys-long = c .choose-more .kept .1 .1 .1 .1 .1 .1 .0 ∙ first-lent _ _ _ _ (start first .pre .0 .places)
 
 -- ---- and the second
@@ -51,10 +51,10 @@ module _ (c : tie.After-choose-more2) where
   abbrev zs : List ℕ
   zs = c .choose-more2 .last .1 .1 .1 .1 .1 .1 .0
 
-  zs-long : length zs ≡ start (first once) .args .k
+  zs-long : length zs ≡ start (first once) .args .between-count
   zs-long = c .choose-more2 .kept .1 .1 .1 .1 .1 .1 .0 ∙ second-lent _ _ _ _ (start (first once) .pre .0 .places) (ys once) (ys-long once)
 
-  two : Chose (s (first once)) (start (first once) .args .m) (before (first once) ++ middle (first once)) (start (first once) .args .work .now)
+  two : Chose (s (first once)) (start (first once) .args .m) (before (first once) ++ between (first once)) (start (first once) .args .work .now)
       (c .choose-more2 .last .1 .1 .1 .0) (ys once ++ zs)
   two = chose-append _ _ _ _ _ _ _ (ys once) zs (once .choose-more .ensures) (c .choose-more2 .ensures)
 
@@ -65,7 +65,7 @@ choose-more-requires c κs =
       ready = p .ready;
       buckets = p .buckets;
       halves = p .halves;
-      there = p .before;
+      there = p .first;
       few = λ x. omega (arith, start c .pre .1 x, p .few);
       places = first-lent _ _ _ _ (p .places);
     }
@@ -80,8 +80,8 @@ choose-more-requires-2 c κs =
       ready = p .ready;
       buckets = p .buckets;
       halves = once .choose-more .kept .1 .1 .1 .0 ∙ p .halves;
-      there = p .middle;
-      few = λ x. omega (arith, few x, length-records (s at .width) (start at .args .n) (start at .args .a .now), p .few);
+      there = p .second;
+      few = λ x. omega (arith, few x, length-records (s at .width) (start at .args .before-count) (start at .args .before .now), p .few);
       places = second-lent _ _ _ _ (p .places) (ys once) (ys-long once);
     }
 
@@ -92,15 +92,15 @@ choose-more-requires-3 c κs =
     let args = start at .args in
     let p = start at .pre .0 in
     let few = chose-few _ _ _ _ _ _ (two twice) (start at .pre .1) in
-    let before-long = length-records (s at .width) (args .n) (args .a .now) in
-    let middle-long = length-records (s at .width) (args .k) (args .mid .now) in
-    let long = length-append (before at) (middle at) in
+    let before-long = length-records (s at .width) (args .before-count) (args .before .now) in
+    let between-long = length-records (s at .width) (args .between-count) (args .between .now) in
+    let long = length-append (before at) (between at) in
     record {
       ready = p .ready;
       buckets = p .buckets;
       halves = twice .choose-more2 .kept .1 .1 .1 .0 ∙ once twice .choose-more .kept .1 .1 .1 .0 ∙ p .halves;
-      there = p .after;
-      few = λ x. omega (arith, few x, long, before-long, middle-long, p .few);
+      there = p .third;
+      few = λ x. omega (arith, few x, long, before-long, between-long, p .few);
       places = third-lent _ _ _ _ (p .places) (ys (once twice)) (ys-long (once twice)) (zs twice) (zs-long twice);
     }
 

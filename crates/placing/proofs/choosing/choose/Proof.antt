@@ -1,8 +1,8 @@
--- `placing::choose` meets its contract: the table is right for the key's length, so the choice is that of H of the key.
+-- `placing::choosing::choose` meets its contract: the table is right for the key's length, so the choice is that of H of the key.
 use borrow.Author.Needs.{needs}
 use Rattle.placing.proofs.ReadyLaws.{right-for, long-for}
-use Rattle.placing.proofs.choose.Statement.{statement}
-use Rattle.placing.proofs.choose.Tie as tie
+use Rattle.placing.proofs.choosing.choose.Statement.{statement}
+use Rattle.placing.proofs.choosing.choose.Tie as tie
 
 h-with-table-requires : tie.Need-h-with-table-requires
 h-with-table-requires c κs = let start = c .before .before .before in long-for _ _ (start .pre .0) (start .args .key .now) (start .pre .2)

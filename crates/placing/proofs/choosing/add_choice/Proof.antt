@@ -1,10 +1,10 @@
--- `placing::add_choice` meets its contract: no count changes where all counts are top, else the chosen bucket's is one more.
+-- `placing::choosing::add_choice` meets its contract: no count changes where all counts are top, else the chosen bucket's is one more.
 use native.Mathlib.Nat.{add-zero}
 use native.Mathlib.Omega.{arith}
 use borrow.Author.Needs.{needs}
 use Rattle.placing.proofs.CountingLaws.{raise}
-use Rattle.placing.proofs.add_choice.Statement.{statement}
-use Rattle.placing.proofs.add_choice.Tie as tie
+use Rattle.placing.proofs.choosing.add_choice.Statement.{statement}
+use Rattle.placing.proofs.choosing.add_choice.Tie as tie
 
 add-choosers : tie.Need-add-choosers
 add-choosers c = omega (arith, c .before .before .pre .1 (c .before .before .args .choice .bucket))
