@@ -40,7 +40,8 @@ module _ (s : Card) where
   unfolding places
   places-more n l r fit h =
       let k = record-size s * length l in
-      let f : length (flat record-bytes l) ≡ k = unfold record-size in length-flat record-bytes (s .width + 4) l (all-map (λ r f. length-record (s .width) r f) l fit) in
+      let f : length (flat record-bytes l)
+      ≡ k = unfold record-size in length-flat record-bytes (s .width + 4) l (all-map (λ r f. length-record (s .width) r f) l fit) in
       rw (
         take-at (flat record-bytes l) (zeros (record-size s * (n - length l))) k f,
         drop-at (flat record-bytes l) (zeros (record-size s * (n - length l))) k f,
@@ -136,7 +137,12 @@ module _ (s : Card) where
         length-all-growing : length (growing-buckets s crowd c l) ≡ buckets-length s
         unfolding growing-buckets buckets-length
         length-all-growing =
-            rw (length-flat (growing-bucket s crowd c l) (bucket-size s) (upto 0 (s .buckets)) (all-every length-growing (upto 0 (s .buckets))), length-upto, mul-comm (bucket-size s) (s .buckets))
+            rw (
+              length-flat (growing-bucket s crowd c l) (bucket-size s) (upto 0 (s .buckets))
+                  (all-every length-growing (upto 0 (s .buckets))),
+              length-upto,
+              mul-comm (bucket-size s) (s .buckets),
+            )
 
         -- the part of bucket b
         growing-part : (b : ℕ) → b < s .buckets → take (bucket-size s) (drop (b * bucket-size s) (growing-buckets s crowd c l)) ≡ growing-bucket s crowd c l b
@@ -146,7 +152,8 @@ module _ (s : Card) where
         -- a record put into the bucket that it chooses
         module _ (r : Record) (out : all-top s c (r .key) ≡ false) (free : crowd (b l r) ≡ false) (room : length (choosers s c l (b l r)) < s .room) where
           put-here : growing-bucket s crowd c (more l r) (b l r)
-              ≡ set (back (1 + record-size s * length (choosers s c l (b l r))) (record-size s) (growing-bucket s crowd c l (b l r)) (record-bytes r)) 0 (length (choosers s c l (b l r)) + 1)
+              ≡ set (back (1 + record-size s * length (choosers s c l (b l r))) (record-size s) (growing-bucket s crowd c l (b l r)) (record-bytes r)) 0
+              (length (choosers s c l (b l r)) + 1)
           unfolding growing-bucket
           put-here =
               let one : 1 + record-size s * length (choosers s c l (b l r)) ≡ suc (record-size s * length (choosers s c l (b l r))) = omega arith in
@@ -159,7 +166,8 @@ module _ (s : Card) where
               )
 
           put-among : b l r < s .buckets
-              → back (b l r * bucket-size s) (bucket-size s) (growing-buckets s crowd c l) (growing-bucket s crowd c (more l r) (b l r)) ≡ growing-buckets s crowd c (more l r)
+              → back (b l r * bucket-size s) (bucket-size s) (growing-buckets s crowd c l) (growing-bucket s crowd c (more l r) (b l r))
+              ≡ growing-buckets s crowd c (more l r)
           unfolding growing-buckets
           put-among h =
               rw (zero-add (b l r)) at
@@ -172,11 +180,11 @@ module _ (s : Card) (crowd : ℕ → Bool) (b at size : ℕ) (area part : List �
   length-opened : length part ≡ size
   length-opened = ap length opened ∙ simp (length-set, length-replicate) (length-lent at size area fits)
 
-  pub open-length : length (back at (at + size - at) area part) ≡ length area
-  open-length = rw (add-sub-cancel-left at size) (length-back at size area part fits length-opened)
+  pub opened-length : length (back at (at + size - at) area part) ≡ length area
+  opened-length = rw (add-sub-cancel-left at size) (length-back at size area part fits length-opened)
 
-  pub open-more : take at area ≡ blank-buckets s crowd b → take (at + size) (back at (at + size - at) area part) ≡ blank-buckets s crowd (b + 1)
-  open-more before =
+  pub opened-more : take at area ≡ blank-buckets s crowd b → take (at + size) (back at (at + size - at) area part) ≡ blank-buckets s crowd (b + 1)
+  opened-more before =
       let blank : part ≡ blank-bucket s crowd b = opened ∙ blank-is s crowd b _ crowded (length-lent at size area fits ∙ is-size) test in
       rw (add-sub-cancel-left at size, take-back at size area part fits length-opened, before, blank) (sym (blank-more s crowd b))
 
@@ -286,13 +294,16 @@ module _ {s : Card} {m n i : ℕ} {work area : List ℕ} (ok : Sound s) (h : Tur
         let fits = fits-at i (omega arith) in
         let one : appended part bytes ≡ growing-bucket s crowd counts (first i ++ (this ∷ [])) here =
         appended-is part bytes (record-size s) (length (choosers s counts (first i) here)) length-bytes part-mark
-        ∙ ap (λ (p : List ℕ). set (back (1 + record-size s * length (choosers s counts (first i) here)) (record-size s) p bytes) 0 (length (choosers s counts (first i) here) + 1)) part-is
-        ∙ ap (λ (p : List ℕ). set (back (1 + record-size s * length (choosers s counts (first i) here)) (record-size s) (growing-bucket s crowd counts (first i) here) p) 0 (length (choosers s counts (first i) here) + 1)) (sym (turn-record h))
+        ∙ ap (λ (p : List ℕ). set (back (1 + record-size s * length (choosers s counts (first i) here)) (record-size s) p bytes) 0
+        (length (choosers s counts (first i) here) + 1)) part-is
+        ∙ ap (λ (p : List ℕ). set (back (1 + record-size s * length (choosers s counts (first i) here)) (record-size s)
+        (growing-bucket s crowd counts (first i) here) p) 0 (length (choosers s counts (first i) here) + 1)) (sym (turn-record h))
         ∙ sym (put-here s crowd counts (first i) fit fits this out free room) in
         ap (back (here * bucket-size s) (bucket-size s) (placed s m work i area)) one
         ∙ put-among s crowd counts (first i) fit fits this out free room below ∙ ap (growing-buckets s crowd counts) (sym next-one)
 
--- ---- the same in the code's numbers: row b of rows of z as it is lent; the chosen bucket's part lies in the area, its mark is low, and the area with one record more
+-- ---- the same in the code's numbers: row b of rows of z as it is lent; the chosen bucket's part lies in the area, its mark is low, and the area with one
+-- record more
 abbrev pub row-lent : ℕ → ℕ → List ℕ → List ℕ
 row-lent b z xs = take (b * z + z - b * z) (drop (b * z) xs)
 

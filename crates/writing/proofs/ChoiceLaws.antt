@@ -18,10 +18,10 @@ use Rattle.placing.proofs.WorkLaws.{counts-are, side-choice, kept-within}
 use Rattle.writing.specs.Laying.{Laying}
 
 -- ---- the choices of n records in an area, whose keys have w bytes
-abbrev pub key-at : ℕ → ℕ → List ℕ → List ℕ
-key-at w i area = take w (drop (i * (w + 4)) area)
+abbrev pub turn-key : ℕ → ℕ → List ℕ → List ℕ
+turn-key w i area = take w (drop (i * (w + 4)) area)
 
-choice-at : (s : Card) (c : ℕ → ℕ) (w n i : ℕ) (area : List ℕ) → i < n → nth (choices-by s c (records w n area)) i ≡ choice-by s c (key-at w i area)
+choice-at : (s : Card) (c : ℕ → ℕ) (w n i : ℕ) (area : List ℕ) → i < n → nth (choices-by s c (records w n area)) i ≡ choice-by s c (turn-key w i area)
 unfolding records entries record-at
 choice-at s c w zero i area h = absurd (omega arith)
 choice-at s c w (suc n) zero area h = rw zero-mul
@@ -38,12 +38,12 @@ module _ {s : Settings} {m n : ℕ} {work kept area : List ℕ} (h : Laying s m 
     pub kept-most : nth kept i ≤ m
     kept-most = kept-within (sound (paper s) (h .ok)) (h .buckets) (h .placed) i
 
-    pub kept-is : i < n → nth kept i ≡ choice-by (card s) (nth (take m work)) (key-at (card s .width) i area)
+    pub kept-is : i < n → nth kept i ≡ choice-by (card s) (nth (take m work)) (turn-key (card s .width) i area)
     kept-is below =
         let l = records (card s .width) n area in
         rw (counts-are (card s) m l work (h .placed .worked))
         (ap (λ (k : List ℕ). nth k i) (h .placed .choices) ∙ choice-at (card s) (true-count (card s) l) _ n i area below)
 
     pub kept-side : i < n → side-by-choice (card s) m (nth (drop m work)) (nth kept i)
-        ≡ belongs-by (card s) (nth (take m work)) (nth (drop m work)) (key-at (card s .width) i area)
+        ≡ belongs-by (card s) (nth (take m work)) (nth (drop m work)) (turn-key (card s .width) i area)
     kept-side below = rw (kept-is below) (side-choice (card s) (sound (paper s) (h .ok)) m (h .buckets) _ _ _)

@@ -21,13 +21,15 @@ pub clipped-none : (top : ℕ) (c : ℕ → ℕ) → [] ≡ clipped-bytes top c 
 unfolding clipped-bytes
 clipped-none top c = refl
 
-pub clipped-more : (top : ℕ) (c : ℕ → ℕ) (i low high : ℕ) (l : List ℕ) → i < length l → take i l ≡ clipped-bytes top c i → low ≡ min (c (2 * i)) top → high ≡ min (c (2 * i + 1)) top
+pub clipped-more : (top : ℕ) (c : ℕ → ℕ) (i low high : ℕ) (l : List ℕ) → i < length l → take i l ≡ clipped-bytes top c i → low ≡ min (c (2 * i)) top
+    → high ≡ min (c (2 * i + 1)) top
     → take (i + 1) (set l i (low + 16 * high)) ≡ clipped-bytes top c (i + 1)
 unfolding clipped-bytes clipped-byte
 clipped-more top c i low high l h e f g =
     let written : take (i + 1) (set l i (low + 16 * high)) ≡ take i l ++ ((low + 16 * high) ∷ []) = rw (add-one i) (take-suc-set l i (low + 16 * high) h) in
     let same : take i l ++ ((low + 16 * high) ∷ []) ≡ clipped-bytes top c i ++ (clipped-byte top c i ∷ []) = rw (e, f, g) in
-    let more : clipped-bytes top c (i + 1) ≡ clipped-bytes top c i ++ (clipped-byte top c i ∷ []) = ap (map (clipped-byte top c)) (upto-more i) ∙ rw map-append in
+    let more : clipped-bytes top c (i + 1) ≡ clipped-bytes top c i ++ (clipped-byte top c i ∷ []) = ap (map (clipped-byte top c)) (upto-more i)
+    ∙ rw map-append in
     written ∙ same ∙ sym more
 
 pub clipped-all : (s : Card) (c : ℕ → ℕ) (top n : ℕ) → top ≡ s .top → n ≡ s .buckets / 2 → clipped-bytes top c n ≡ counter-bytes s c

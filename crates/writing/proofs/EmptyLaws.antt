@@ -58,10 +58,18 @@ module _ (s : Card) where
       }
   unfolding layout layout-by ledger-length true-length clipped-length
   empty-layout =
-      rw (no-places s (s .capacity), map-zeros (true-count s []) no-count 0 (s .buckets), no-clipped (true-count s []) no-count, no-buckets (true-count s []), no-side (true-count s []))
+      rw (
+        no-places s (s .capacity),
+        map-zeros (true-count s []) no-count 0 (s .buckets),
+        no-clipped (true-count s []) no-count,
+        no-buckets
+            (true-count s []),
+        no-side (true-count s []),
+      )
 
   -- areas of their lengths, each all zeros
   pub cleared : (ledger true-counts clipped buckets side : List ℕ)
-      → ledger ≡ zeros (ledger-length s) → true-counts ≡ zeros (true-length s) → clipped ≡ zeros (clipped-length s) → buckets ≡ zeros (buckets-length s) → side ≡ zeros (side-length s)
+      → ledger ≡ zeros (ledger-length s) → true-counts ≡ zeros (true-length s) → clipped ≡ zeros (clipped-length s) → buckets ≡ zeros (buckets-length s)
+      → side ≡ zeros (side-length s)
       → record { ledger = ledger; true-counts = true-counts; clipped-counts = clipped; buckets = buckets; side-store = side } ≡ layout s []
   cleared ledger true-counts clipped buckets side e f g h i = rw (e, f, g, h, i, empty-layout)

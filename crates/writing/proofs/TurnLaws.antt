@@ -1,4 +1,4 @@
--- Parts of an area that are lent: their lengths, the area once they are back, and the same parts in other words.
+-- The turn of one record of an area: its bytes lie inside, and they are the record as it is written.
 use mathlib.Core.Path.{_≡_}
 use mathlib.Core.List.{List}
 use Prim.Native.Nat.{ℕ, _+_, _*_, _≤_, _<_}
@@ -17,19 +17,19 @@ pub record Turn (w n i : ℕ) (area : List ℕ) : Type 0 where
   pub octets : All Byte area
 
 module _ {w n i : ℕ} {area : List ℕ} (h : Turn w n i area) where
-  pub within : i * (w + 4) + (w + 4) ≤ length area
-  within = omega (arith, row-fits i n (w + 4) (h .below))
+  pub turn-within : i * (w + 4) + (w + 4) ≤ length area
+  turn-within = omega (arith, row-fits i n (w + 4) (h .below))
 
   -- and by the code's number of the bytes of a record
-  pub within-by : (size : ℕ) → size ≡ w + 4 → i * size + size ≤ length area
-  within-by size e = rw e within
+  pub turn-inside : (size : ℕ) → size ≡ w + 4 → i * size + size ≤ length area
+  turn-inside size e = rw e turn-within
 
   pub turn-bytes : length (take (w + 4) (drop (i * (w + 4)) area)) ≡ w + 4
-  turn-bytes = length-part (i * (w + 4)) (w + 4) area within
+  turn-bytes = length-part (i * (w + 4)) (w + 4) area turn-within
 
   pub turn-record : record-bytes (record-at w (drop (i * (w + 4)) area)) ≡ take (w + 4) (drop (i * (w + 4)) area)
   turn-record =
-      write-record w (drop (i * (w + 4)) area) (rw length-drop (omega (arith, within))) (all-drop Byte (i * (w + 4)) area (h .octets))
+      write-record w (drop (i * (w + 4)) area) (rw length-drop (omega (arith, turn-within))) (all-drop Byte (i * (w + 4)) area (h .octets))
 
   pub turn-fit : (k : ℕ) → k ≤ n → All (Fit w) (records w k area)
   turn-fit k le = records-fit w k area (omega (arith, mul-le-mul-right (w + 4) le)) (h .octets)

@@ -116,7 +116,7 @@ pub fn write_buckets(
 )
     requires { ⌜ Laying s m (now work) (now kept) (now area) n
         × (length (now buckets) ≡ buckets-length (card s)) ⌝ }
-    ensures { λ _. ⌜ now (buckets .exit) ≡ buckets-bytes (card s) (true-count (card s) (records (card s .width) n (now (area .entry)))) (records (card s .width) n (now (area .entry))) ⌝ }
+    ensures { λ _. ⌜ (let l = records (card s .width) n (now (area .entry)) in now (buckets .exit) ≡ buckets-bytes (card s) (true-count (card s) l) l) ⌝ }
 {
     open_buckets(s, m, work, buckets);
     place_records(s, m, work, kept, buckets, area, n);

@@ -40,10 +40,11 @@ pub fn write_areas(
         × (need ≡ side-need-of (card s) (records (card s .width) n (now area))) × (need ≤ card s .side-places)
         × (length (now «true_counts») ≡ true-length (card s)) × (length (now clipped) ≡ clipped-length (card s))
         × (length (now buckets) ≡ buckets-length (card s)) × (length (now side) ≡ side-length (card s)) ⌝ }
-    ensures { λ _. ⌜ (now («true_counts» .exit) ≡ map (true-count (card s) (records (card s .width) n (now (area .entry)))) (upto 0 (card s .buckets)))
-        × (now (clipped .exit) ≡ counter-bytes (card s) (true-count (card s) (records (card s .width) n (now (area .entry)))))
-        × (now (buckets .exit) ≡ buckets-bytes (card s) (true-count (card s) (records (card s .width) n (now (area .entry)))) (records (card s .width) n (now (area .entry))))
-        × (now (side .exit) ≡ side-bytes (card s) (true-count (card s) (records (card s .width) n (now (area .entry)))) (records (card s .width) n (now (area .entry)))) ⌝ }
+    ensures { λ _. ⌜ (let l = records (card s .width) n (now (area .entry)) in
+        (now («true_counts» .exit) ≡ map (true-count (card s) l) (upto 0 (card s .buckets)))
+        × (now (clipped .exit) ≡ counter-bytes (card s) (true-count (card s) l))
+        × (now (buckets .exit) ≡ buckets-bytes (card s) (true-count (card s) l) l)
+        × (now (side .exit) ≡ side-bytes (card s) (true-count (card s) l) l)) ⌝ }
 {
     copy_counts(true_counts, &work[..m]);
     counts::write_clipped(s.top, clipped, &work[..m]);

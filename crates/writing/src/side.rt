@@ -81,7 +81,7 @@ pub fn write_side(
 )
     requires { ⌜ Laying s m (now work) (now kept) (now area) n
         × (length (now side) ≡ side-length (card s)) × (need ≡ side-need-of (card s) (records (card s .width) n (now area))) × (need ≤ card s .side-places) ⌝ }
-    ensures { λ _. ⌜ now (side .exit) ≡ side-bytes (card s) (true-count (card s) (records (card s .width) n (now (area .entry)))) (records (card s .width) n (now (area .entry))) ⌝ }
+    ensures { λ _. ⌜ (let l = records (card s .width) n (now (area .entry)) in now (side .exit) ≡ side-bytes (card s) (true-count (card s) l) l) ⌝ }
 {
     zero_fill(side);
     if need == 0 {

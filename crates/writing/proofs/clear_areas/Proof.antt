@@ -9,14 +9,17 @@ use Rattle.writing.proofs.clear_areas.Tie as tie
 
 returns : tie.Need-returns
 returns c =
-    let start = c .before .before .before .before .before .before .before .before .before .before .before .before .before .before .before .before .before .before .before .before .before .before .before .before .before in
-    let zero-fill = c .before .before .before .before .before .before .before .before .before .before .before .before .before .before .before .before .before .before .zero-fill in
-    let zero-counts = c .before .before .before .before .before .before .before .before .before .before .before .before .before .before .zero-counts in
-    let zero-fill2 = c .before .before .before .before .before .before .before .before .before .before .zero-fill2 in
-    let zero-fill3 = c .before .before .before .before .before .before .zero-fill3 in
-    let zero-fill4 = c .before .before .zero-fill4 in
-    cleared (card (start .args .s)) (zero-fill .last .0) (zero-counts .last .0) (zero-fill2 .last .0) (zero-fill3 .last .0) (zero-fill4 .last .0)
-    (zero-fill .ensures ∙ ap zeros (start .pre .1)) (zero-counts .ensures ∙ ap zeros (start .pre .2)) (zero-fill2 .ensures ∙ ap zeros (start .pre .3)) (zero-fill3 .ensures ∙ ap zeros (start .pre .4)) (zero-fill4 .ensures ∙ ap zeros (start .pre .5))
+    let side = c .before .before in
+    let buckets = side .before .before .before .before in
+    let clipped = buckets .before .before .before .before in
+    let counts = clipped .before .before .before .before in
+    let ledger = counts .before .before .before .before in
+    let start = ledger .before .before .before .before .before .before .before in
+    let p = start .pre in
+    cleared (card (start .args .s)) (ledger .zero-fill .last .0) (counts .zero-counts .last .0) (clipped .zero-fill2 .last .0)
+    (buckets .zero-fill3 .last .0) (side .zero-fill4 .last .0) (ledger .zero-fill .ensures ∙ ap zeros (p .1))
+    (counts .zero-counts .ensures ∙ ap zeros (p .2)) (clipped .zero-fill2 .ensures ∙ ap zeros (p .3))
+    (buckets .zero-fill3 .ensures ∙ ap zeros (p .4)) (side .zero-fill4 .ensures ∙ ap zeros (p .5))
 
 pub clear-areas-spec : {M : Type 1} → statement M
 clear-areas-spec =

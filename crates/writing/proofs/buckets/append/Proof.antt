@@ -9,18 +9,29 @@ use Rattle.memory.proofs.SliceLaws.{back-is}
 use Rattle.writing.proofs.buckets.append.Statement.{statement}
 use Rattle.writing.proofs.buckets.append.Tie as tie
 
--- the place lies within the part
-place : (c : tie.After-wide) → 1 + length (c .before .before .before .before .args .«record» .now) * c .wide .result + length (c .before .before .before .before .args .«record» .now) ≤ length (c .before .before .before .before .args .part .now)
-place c =
-    let start = c .before .before .before .before in
-    subst (λ (k : ℕ). 1 + length (start .args .«record» .now) * k + length (start .args .«record» .now) ≤ length (start .args .part .now)) (sym (c .wide .ensures .0)) (start .pre .1)
+-- ---- the mark is read
+module _ (c : tie.After-wide) where
+  abbrev start : tie.Start
+  start = c .before .before .before .before
+
+  abbrev part : List ℕ
+  part = start .args .part .now
+
+  abbrev bytes : List ℕ
+  bytes = start .args .«record» .now
+
+  -- the place lies within the part
+  place : 1 + length bytes * c .wide .result + length bytes ≤ length part
+  place = subst (λ (k : ℕ). 1 + length bytes * k + length bytes ≤ length part) (sym (c .wide .ensures .0)) (start .pre .1)
 
 returns : tie.Need-returns
-returns c = let p = c .before .before .before .before .before .before .before .before .args .part .now in
-    let r = c .before .before .before .before .before .before .before .before .args .«record» .now in
-    ap (λ (l : List ℕ). set l 0 (getD p 0 0 + 1))
-    (back-is (1 + length r * c .before .before .before .before .wide .result) (1 + length r * getD p 0 0) (length r) (length r) p p (c .before .before .copy .last .0) r
-    (ap (λ (k : ℕ). 1 + length r * k) (c .before .before .before .before .wide .ensures .0)) refl refl (c .before .before .copy .ensures))
+returns c =
+    let copied = c .before .before in
+    let read = copied .before .before in
+    let z = length (bytes read) in
+    let mark = ap (λ (k : ℕ). 1 + z * k) (read .wide .ensures .0) in
+    ap (λ (l : List ℕ). set l 0 (getD (part read) 0 0 + 1))
+    (back-is (1 + z * read .wide .result) _ z _ (part read) _ (copied .copy .last .0) (bytes read) mark refl refl (copied .copy .ensures))
 
 pub append-spec : {M : Type 1} → statement M
 append-spec =

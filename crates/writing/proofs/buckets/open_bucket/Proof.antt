@@ -6,7 +6,8 @@ use Rattle.writing.proofs.buckets.open_bucket.Tie as tie
 
 returns : tie.Need-returns
 returns c =
-    ⊎-elim (λ w. rw (w .1, c .before .before .before .zero-fill .ensures, w .0 .taken)) (λ w. rw (w .1, c .before .before .before .zero-fill .ensures, w .0 .left)) (c .if1 .came)
+    let zeroed = c .before .before .before .zero-fill .ensures in
+    ⊎-elim (λ w. rw (w .1, zeroed, w .0 .taken)) (λ w. rw (w .1, zeroed, w .0 .left)) (c .if1 .came)
 
 pub open-bucket-spec : {M : Type 1} → statement M
 open-bucket-spec = tie.close (tie.spec (λ c κs. search needs) (λ c. search needs) (λ c. search needs) returns)

@@ -8,91 +8,101 @@ use borrow.Author.Needs.{needs}
 use lib.Dec.{ltb}
 use lib.ListN.{length, take, getD}
 use lib.Seq.{getD-drop, take-all}
-use Rattle.theory.specs.Settings.{Settings, card-of, bucket-size, buckets-length}
+use Rattle.theory.specs.Settings.{Settings, Card, card-of, bucket-size, buckets-length}
 use Rattle.settings.specs.Checked.{paper, card}
 use Rattle.settings.proofs.Laws.{room-is, buckets-length-is, bounds}
 use Rattle.memory.proofs.SliceLaws.{length-lent, row-fits, row-next}
 use Rattle.writing.specs.Buckets.{crowded-by, blank-buckets}
-use Rattle.writing.proofs.BucketLaws.{blank-none, open-length, open-more}
+use Rattle.writing.proofs.BucketLaws.{blank-none, opened-length, opened-more}
 use Rattle.writing.proofs.buckets.open_buckets.Statement.{statement}
 use Rattle.writing.proofs.buckets.open_buckets.Tie as tie
 
+-- the first b parts are blank buckets
+record Opened (s : Card) (m : ℕ) (work : List ℕ) (size long b at : ℕ) (buckets : List ℕ) : Type 0 where
+  most : b ≤ m
+  here : at ≡ b * size
+  same : length buckets ≡ long
+  blank : take at buckets ≡ blank-buckets s (crowded-by s m work) b
+
 abbrev Inv-loop : tie.InvT-loop
-Inv-loop s m work buckets₀ size b₀ at₀ buckets b at =
-    (b ≤ m) × (at ≡ b * size) × (length buckets ≡ length buckets₀) × (take at buckets ≡ blank-buckets (card s) (crowded-by (card s) m work) b)
+Inv-loop s m work buckets₀ size b₀ at₀ buckets b at = Opened (card s) m work size (length buckets₀) b at buckets
 
 abbrev μ-loop : tie.MeasureT-loop
 μ-loop s m work buckets₀ size b₀ at₀ buckets b at = m - b
 
 -- the area is m parts; and the test of the second half of work is the card's
-area-length : (t : Settings) (m size n : ℕ) → m ≡ card-of t .buckets → n ≡ buckets-length (card-of t) → size ≡ bucket-size (card-of t) → n ≡ m * size
-area-length t m size n e f g = f ∙ buckets-length-is t ∙ rw (e, g)
+parts-long : (t : Settings) (m size n : ℕ) → m ≡ card-of t .buckets → n ≡ buckets-length (card-of t) → size ≡ bucket-size (card-of t) → n ≡ m * size
+parts-long t m size n e f g = f ∙ buckets-length-is t ∙ rw (e, g)
 
 crowded-test : (t : Settings) (m b : ℕ) (work : List ℕ) → ltb (t .room) (getD work (m + b) 0) ≡ crowded-by (card-of t) m work b
 crowded-test t m b work = rw (getD-drop m work b 0) (ap (λ (room : ℕ). ltb room (getD work (m + b) 0)) (sym (room-is t)))
 
--- the part of bucket b lies within the area
-within : (c : tie.In-loop Inv-loop μ-loop) → c .before .loop .at + c .before .before .bucket-size .result ≤ length (c .before .loop .buckets)
-within c =
-    let start = c .before .before .before .before .before in
-    let bucket-size = c .before .before .bucket-size in
-    let loop = c .before .loop in
-    omega (
-      arith,
-      row-fits (loop .b) (start .args .m) (bucket-size .result) (omega arith),
-      loop .inv .1,
-      loop .inv .2,
-      area-length (paper (start .args .s)) (start .args .m) (bucket-size .result) (length (start .args .buckets .now)) (start .pre .1) (start .pre .3) (bucket-size .ensures),
-    )
+-- ---- the size of a part is known
+module _ (c : tie.After-bucket-size Inv-loop μ-loop) where
+  abbrev start : tie.Start Inv-loop μ-loop
+  start = c .before .before .before
 
-loop-holds : tie.Need-loop-holds Inv-loop μ-loop
-loop-holds c = let s = card (c .before .before .before .args .s) in
-    (omega arith, sym (zero-mul (c .bucket-size .result)), refl, blank-none s (crowded-by s (c .before .before .before .args .m) (c .before .before .before .args .work .now)))
+  abbrev t : Settings
+  t = paper (start .args .s)
 
-mul-choosers : tie.Need-mul-choosers Inv-loop μ-loop
-mul-choosers c = let h : c .before .before .before .before .before .args .m + c .before .loop .b < length (c .before .before .before .before .before .args .work .now) = omega arith in search needs
+  abbrev m : ℕ
+  m = start .args .m
 
-cast-choosers : tie.Need-cast-choosers Inv-loop μ-loop
-cast-choosers c = omega (arith, c .shared-slice-known2 .given (c .before .before .before .before .before .before .args .m + c .before .before .loop .b))
+  abbrev work : List ℕ
+  work = start .args .work .now
+
+  abbrev size : ℕ
+  size = c .bucket-size .result
+
+  area-length : length (start .args .buckets .now) ≡ m * size
+  area-length = parts-long t m size _ (start .pre .1) (start .pre .3) (c .bucket-size .ensures)
+
+-- ---- in the loop: the part of bucket b lies within the area
+module _ (c : tie.In-loop Inv-loop μ-loop) where
+  abbrev sized : tie.After-bucket-size Inv-loop μ-loop
+  sized = c .before .before
+
+  within : c .before .loop .at + size sized ≤ length (c .before .loop .buckets)
+  within =
+      let loop = c .before .loop in
+      omega (arith, row-fits (loop .b) (m sized) (size sized) (c .loop-test .taken), loop .inv .here, loop .inv .same, area-length sized)
+
+  there : m sized + c .before .loop .b < length (work sized)
+  there = omega arith
 
 open-bucket-requires : tie.Need-open-bucket-requires Inv-loop μ-loop
 open-bucket-requires c κs =
-    let start = c .before .before .before .before .before .before .before .before in
-    let bucket-size = c .before .before .before .before .before .bucket-size in
-    let loop = c .before .before .before .before .loop in
-    let before = c .before .before .before in
-    rw (length-lent (loop .at) (bucket-size .result) (loop .buckets) (within (before)))
-    (omega (arith, bucket-size .ensures, bounds (paper (start .args .s)) (start .pre .0) .bucket-size-least))
+    let at = c .before .before .before in
+    let whole = sized at in
+    rw (length-lent (at .before .loop .at) (size whole) (at .before .loop .buckets) (within at))
+    (omega (arith, whole .bucket-size .ensures, bounds (t whole) (start whole .pre .0) .bucket-size-least))
 
 loop-again : tie.Need-loop-again Inv-loop μ-loop
 loop-again c =
-    let start = c .before .before .before .before .before .before .before .before .before .before .before in
-    let bucket-size = c .before .before .before .before .before .before .before .before .bucket-size in
-    let loop = c .before .before .before .before .before .before .before .loop in
-    let before = c .before .before .before .before .before .before in
-    let open-bucket = c .before .before .open-bucket in
-    let s = card (start .args .s) in
-    let crowd = crowded-by s (start .args .m) (start .args .work .now) in
-    let at = loop .at in
-    let size = bucket-size .result in
-    let part = open-bucket .last .0 in
-    let fits = within (before) in
-    let crowded = ltb (start .args .s .room) (getD (start .args .work .now) (start .args .m + loop .b) 0) in
-    let test = crowded-test (paper (start .args .s)) (start .args .m) (loop .b) (start .args .work .now) in (
-      omega arith,
-      row-next at (loop .b) size (loop .inv .1),
-      open-length s crowd (loop .b) at size (loop .buckets) part crowded (bucket-size .ensures) fits test (open-bucket .ensures) ∙ loop .inv .2,
-      open-more s crowd (loop .b) at size (loop .buckets) part crowded (bucket-size .ensures) fits test (open-bucket .ensures) (loop .inv .3),
-    )
+    let at = c .before .before .before .before .before .before in
+    let whole = sized at in
+    let loop = at .before .loop in
+    let opened = c .before .before .open-bucket in
+    let crowd = crowded-by (card-of (t whole)) (m whole) (work whole) in
+    let test = crowded-test (t whole) (m whole) (loop .b) (work whole) in
+    record {
+      most = omega arith;
+      here = row-next (loop .at) (loop .b) (size whole) (loop .inv .here);
+      same =
+          opened-length _ crowd (loop .b) (loop .at) (size whole) (loop .buckets) (opened .last .0) _ (whole .bucket-size .ensures) (within at) test
+          (opened .ensures) ∙ loop .inv .same;
+      blank =
+          opened-more _ crowd (loop .b) (loop .at) (size whole) (loop .buckets) (opened .last .0) _ (whole .bucket-size .ensures) (within at) test
+          (opened .ensures) (loop .inv .blank);
+    }
 
 returns : tie.Need-returns Inv-loop μ-loop
 returns c =
-    let start = c .before .before .before .before .before in
-    let bucket-size = c .before .before .bucket-size in
+    let whole = c .before .before in
     let loop = c .before .loop in
-    let e : loop .b ≡ start .args .m = omega arith in
-    let all : length (loop .buckets) ≤ loop .at = rw (loop .inv .1, e) (omega (arith, loop .inv .2, area-length (paper (start .args .s)) (start .args .m) (bucket-size .result) (length (start .args .buckets .now)) (start .pre .1) (start .pre .3) (bucket-size .ensures))) in
-    sym (take-all (loop .at) (loop .buckets) all) ∙ loop .inv .3 ∙ rw e
+    let e : loop .b ≡ m whole = omega (arith, loop .inv .most) in
+    let all : length (loop .buckets) ≤ loop .at = rw (loop .inv .here, e) (omega (arith, loop .inv .same, area-length whole)) in
+    sym (take-all (loop .at) (loop .buckets) all) ∙ loop .inv .blank ∙ rw e
 
 pub open-buckets-spec : {M : Type 1} → statement M
 open-buckets-spec =
@@ -101,12 +111,12 @@ open-buckets-spec =
     Inv-loop
     μ-loop
     (λ c κs. c .before .before .pre .0)
-    loop-holds
+    (λ c. record { most = omega arith; here = sym (zero-mul (size c)); same = refl; blank = blank-none _ _ })
     (λ c. omega (arith, within c))
     (λ c. search needs)
-    mul-choosers
+    (λ c. let h = there c in search needs)
     (λ c. search needs)
-    cast-choosers
+    (λ c. let at = c .before in omega (arith, c .shared-slice-known2 .given (m (sized at) + at .before .loop .b)))
     (λ c. search needs)
     (λ c. search needs)
     (λ c. within (c .before))
@@ -114,5 +124,5 @@ open-buckets-spec =
     (λ c. search needs)
     (λ c. search needs)
     loop-again
-    (λ c. c .before .loop .inv .2)
+    (λ c. c .before .loop .inv .same)
     returns)

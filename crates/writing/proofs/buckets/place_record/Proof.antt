@@ -11,8 +11,8 @@ use Rattle.theory.proofs.SettingsLaws.{Sound, sound}
 use Rattle.settings.specs.Checked.{paper, card}
 use Rattle.memory.proofs.SliceLaws.{length-lent, row-fits, bytes-of}
 use Rattle.placing.specs.Worked.{nth, belongs-by}
-use Rattle.writing.proofs.ChoiceLaws.{key-at, kept-length, kept-is, kept-most, kept-side}
-use Rattle.writing.proofs.TurnLaws.{Turn, within-by}
+use Rattle.writing.proofs.ChoiceLaws.{turn-key, kept-length, kept-is, kept-most, kept-side}
+use Rattle.writing.proofs.TurnLaws.{Turn, turn-inside}
 use Rattle.writing.proofs.BucketLaws.{skip-side, ChosenPart, chosen-part}
 use borrow.Author.Needs.{needs}
 use Rattle.writing.proofs.buckets.place_record.Statement.{statement}
@@ -33,7 +33,7 @@ module _ (c : tie.Start) where
   choice = nth (c .args .kept .now) (c .args .i)
 
   abbrev on-side : Bool
-  on-side = belongs-by s (nth (take (c .args .m) work)) (nth (drop (c .args .m) work)) (key-at (s .width) (c .args .i) area)
+  on-side = belongs-by s (nth (take (c .args .m) work)) (nth (drop (c .args .m) work)) (turn-key (s .width) (c .args .i) area)
 
   ok : Sound s
   ok = sound (paper (c .args .s)) (c .pre .0 .ok)
@@ -81,7 +81,7 @@ module _ (c : tie.After-record-size) where
   size-is = c .record-size .ensures
 
   inside : e .args .i * size + size ≤ length (area e)
-  inside = within-by (turn (known asked)) size size-is
+  inside = turn-inside (turn (known asked)) size size-is
 
 -- ---- and its bucket's part in the buckets
 module _ (c : tie.After-bucket-size) where

@@ -13,8 +13,8 @@ use Rattle.theory.specs.Layout.{places}
 use Rattle.memory.proofs.SliceLaws.{lent-is, back-is, bytes-of}
 use Rattle.settings.specs.Checked.{card}
 use Rattle.placing.specs.Worked.{nth, belongs-by, Worked}
-use Rattle.writing.proofs.ChoiceLaws.{key-at, kept-length, kept-most, kept-side}
-use Rattle.writing.proofs.TurnLaws.{Turn, within-by}
+use Rattle.writing.proofs.ChoiceLaws.{turn-key, kept-length, kept-most, kept-side}
+use Rattle.writing.proofs.TurnLaws.{Turn, turn-inside}
 use Rattle.writing.proofs.SideLaws.{not-sent, sent-length, place-within, sent-put}
 use borrow.Author.Needs.{needs}
 use Rattle.writing.proofs.side.side_record.Statement.{statement}
@@ -32,7 +32,7 @@ module _ (c : tie.Start) where
   work = c .args .work .now
 
   abbrev on-side : Bool
-  on-side = belongs-by s (nth (take (c .args .m) work)) (nth (drop (c .args .m) work)) (key-at (s .width) (c .args .i) area)
+  on-side = belongs-by s (nth (take (c .args .m) work)) (nth (drop (c .args .m) work)) (turn-key (s .width) (c .args .i) area)
 
   worked : Worked s (c .args .m) (records (s .width) (c .args .n) area) work
   worked = c .pre .0 .placed .worked
@@ -74,7 +74,7 @@ module _ (c : tie.After-record-size) where
   size-is = c .record-size .ensures
 
   inside : e .args .i * size + size ≤ length (area e)
-  inside = within-by (turn (known asked)) size size-is
+  inside = turn-inside (turn (known asked)) size size-is
 
   yes : on-side e ≡ true
   yes = sym (side-is asked) ∙ not-false (asked .aside .result) (c .before .if1 .left)
