@@ -64,9 +64,9 @@ place-parts-requires c κs =
       ready = e .pre .ready;
       buckets = e .pre .buckets;
       halves = e .pre .halves;
-      before = e .pre .room;
-      middle = none;
-      after = none;
+      first = e .pre .room;
+      second = none;
+      third = none;
       few = omega (arith, e .pre .few);
       places = omega (arith, lent-long e);
     }

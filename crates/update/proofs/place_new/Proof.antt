@@ -97,9 +97,9 @@ place-parts-requires c κs =
       ready = e .pre .ready;
       buckets = e .pre .buckets;
       halves = e .pre .halves;
-      before = first-room (around (sized .before));
-      middle = mid-room _ (sized .brought .result) (sized .brought .ensures .1) (e .args .«record» .now) (e .pre .wide);
-      after = last-room (around (sized .before));
+      first = first-room (around (sized .before));
+      second = mid-room _ (sized .brought .result) (sized .brought .ensures .1) (e .args .«record» .now) (e .pre .wide);
+      third = last-room (around (sized .before));
       few = omega (arith, sized .brought .ensures .1, few .0, e .pre .few);
       places = length-take-le (total sized) (e .args .kept .now) (in-kept sized);
     }
