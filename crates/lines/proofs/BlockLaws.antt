@@ -20,9 +20,11 @@ pub call-bytes : (from i : ℕ) (input : List ℕ) → from ≡ 18 * i → from 
     → take (from + min 18 (length input - from) - from) (drop from input) ≡ take 18 (drop (18 * i) input)
 call-bytes from i input e h =
     rw (add-sub-cancel-left from (min 18 (length input - from)), ← e)
-    (by-test (leb 18 (length input - from)) (λ q. let whole : min 18 (length input - from) ≡ 18 = omega (arith, leb-true 18 (length input - from) q) in rw whole)
+    (by-test (leb 18 (length input - from))
+    (λ q. let whole : min 18 (length input - from) ≡ 18 = omega (arith, leb-true 18 (length input - from) q) in rw whole)
     (λ q. let short : length input - from < 18 = leb-false 18 (length input - from) q in
-    take-all (min 18 (length input - from)) (drop from input) (rw length-drop (omega arith)) ∙ sym (take-all 18 (drop from input) (rw length-drop (omega arith)))))
+    take-all (min 18 (length input - from)) (drop from input) (rw length-drop (omega arith))
+    ∙ sym (take-all 18 (drop from input) (rw length-drop (omega arith)))))
 
 -- k calls of an input from number n on, on areas a, their lines into the buffer empty
 module _ (w n k : ℕ) (input : List ℕ) (a : Areas) (empty : List ℕ) where
@@ -44,7 +46,8 @@ module _ (w n k : ℕ) (input : List ℕ) (a : Areas) (empty : List ℕ) where
   -- the rest is the next call's line, and the rest after it
   rest-on : (i : ℕ) (b : Areas) → i < k
       → rest i b ≡ record {
-        text = print-bytes w (n + i) (take 18 (drop (18 * i) input)) b .text ++ rest (i + 1) (print-bytes w (n + i) (take 18 (drop (18 * i) input)) b .areas) .text;
+        text = print-bytes w (n + i) (take 18 (drop (18 * i) input)) b .text
+            ++ rest (i + 1) (print-bytes w (n + i) (take 18 (drop (18 * i) input)) b .areas) .text;
         areas = rest (i + 1) (print-bytes w (n + i) (take 18 (drop (18 * i) input)) b .areas) .areas;
       }
   unfolding print-lines
@@ -54,7 +57,8 @@ module _ (w n k : ℕ) (input : List ℕ) (a : Areas) (empty : List ℕ) where
       let place : 18 * (i + 1) ≡ 18 * i + 18 = omega arith in
       rw (more, number, place, ← drop-drop 18 (18 * i) input)
 
-  pub ran-on : (i v number : ℕ) (b c : Areas) (to next piece : List ℕ) (at end : ℕ) → i < k → v ≡ w → number ≡ n + i → piece ≡ take 18 (drop (18 * i) input) → Ran i b to at
+  pub ran-on : (i v number : ℕ) (b c : Areas) (to next piece : List ℕ) (at end : ℕ) → i < k → v ≡ w → number ≡ n + i → piece ≡ take 18 (drop (18 * i) input)
+      → Ran i b to at
       → PrintsAfter (print-bytes v number piece b) c to at next end → Ran (i + 1) c next end
   ran-on i v number b c to next piece at end h f g e r q =
       let p : PrintsAfter (print-bytes w (n + i) piece b) c to at next end = rw (← f, ← g) q in

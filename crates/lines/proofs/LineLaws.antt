@@ -31,7 +31,8 @@ use Rattle.lines.specs.Printing.{PrintsAfter}
 use Rattle.text.proofs.TextLaws.{appends-then}
 
 -- another letter
-pub no-call : (letter : ℕ) → letter ≢ 73 → letter ≢ 67 → letter ≢ 68 → letter ≢ 83 → letter ≢ 88 → (key : List ℕ) (class : ℕ) → none ≡ letter-call letter key class
+pub no-call : (letter : ℕ) → letter ≢ 73 → letter ≢ 67 → letter ≢ 68 → letter ≢ 83 → letter ≢ 88 → (key : List ℕ) (class : ℕ)
+    → none ≡ letter-call letter key class
 unfolding letter-call
 no-call x a b c d e key class = rw (ne-eqb x 73 a, ne-eqb x 67 b, ne-eqb x 68 c, ne-eqb x 83 d, ne-eqb x 88 e)
 
@@ -75,7 +76,8 @@ module _ (w : ℕ) (b : List ℕ) (a : Areas) where
   unfolding print-bytes call-in
   shown-left-over n letter x h e f = rw (ne-eqb (length b) 18 h, e, f)
 
-  module _ (long : length b ≡ 18) (asked : Asked) (by-letter : (key : List ℕ) (class : ℕ) → call-asked asked key class ≡ letter-call (getD b 0 0) key class) where
+  module _ (long : length b ≡ 18) (asked : Asked)
+      (by-letter : (key : List ℕ) (class : ℕ) → call-asked asked key class ≡ letter-call (getD b 0 0) key class) where
     call-is : call-in b ≡ call-asked asked (take 13 (drop 1 b)) (of-bytes (take 4 (drop 14 b)))
     unfolding call-in
     call-is = rw (eq-eqb (length b) 18 long) (sym (by-letter (take 13 (drop 1 b)) (of-bytes (take 4 (drop 14 b)))))
@@ -87,7 +89,8 @@ module _ (w : ℕ) (b : List ℕ) (a : Areas) where
     shown-unknown n letter x q e f = rw (call-is, q, e, f)
 
     -- a call
-    pub shown-call : (n : ℕ) (kind : Kind) (class : ℕ) (r : plain.Reply) (after : Areas) (x : plain-lookup.Answer) → asked ≡ Known kind → class ≡ of-bytes (take 4 (drop 14 b))
+    pub shown-call : (n : ℕ) (kind : Kind) (class : ℕ) (r : plain.Reply) (after : Areas) (x : plain-lookup.Answer) → asked ≡ Known kind
+        → class ≡ of-bytes (take 4 (drop 14 b))
         → record { reply = r; state = after } ≡ perform flowrun-settings w (call-of kind (take 13 (drop 1 b)) class) a
         → x ≡ flowrun.printed (call-of kind (take 13 (drop 1 b)) class) r
         → record { text = line-text (record { call = n; letter = getD b 0 0; answer = x }); areas = after } ≡ print-bytes w n b a
@@ -95,7 +98,8 @@ module _ (w : ℕ) (b : List ℕ) (a : Areas) where
     shown-call n kind class r after x q e f g = rw (call-is, q, ← e, ← f, g)
 
 -- a text that is appended, and the areas, are what is printed
-pub prints-after : (x : Printed) (text : List ℕ) (areas : Areas) (before after : List ℕ) (at n : ℕ) → record { text = text; areas = areas } ≡ x → Appends text before at after n
+pub prints-after : (x : Printed) (text : List ℕ) (areas : Areas) (before after : List ℕ) (at n : ℕ) → record { text = text; areas = areas } ≡ x
+    → Appends text before at after n
     → PrintsAfter x areas before at after n
 prints-after x text areas before after at n e f =
     (ap (λ (p : Printed). p .areas) e, subst (λ (t : List ℕ). Appends t before at after n) (ap (λ (p : Printed). p .text) e) f)

@@ -97,7 +97,8 @@ fn printed(kind: Kind, class: u32, reply: Reply) -> Answer
 // A line after the text that ends at a place; where the text ends now.
 fn append_line(to: &mut [u8], at: usize, call: u64, letter: u8, x: Answer) -> usize
     requires { ⌜ at + 128 ≤ length (now to) ⌝ }
-    ensures { λ r. ⌜ Appends (line-text (record { call = call; letter = letter; answer = answer-of x })) (now (to .entry)) at (now (to .exit)) r × (at ≤ r) × (r ≤ at + 128) ⌝ }
+    ensures { λ r. ⌜ Appends (line-text (record { call = call; letter = letter; answer = answer-of x })) (now (to .entry)) at (now (to .exit)) r
+        × (at ≤ r) × (r ≤ at + 128) ⌝ }
 {
     let number = x.number as u64;
     let class = x.class as u64;
@@ -137,7 +138,8 @@ fn show_call(
     side: &mut [u8],
     work: &mut [u16],
 ) -> Shown
-    ensures { λ r. ⌜ ((n : ℕ) → _≡_ {A = Printed} (record { text = line-text (record { call = n; letter = r .letter; answer = answer-of (r .answer) }); areas = exit-areas ledger «true_counts» clipped buckets side })
+    ensures { λ r. ⌜ ((n : ℕ) → _≡_ {A = Printed}
+        (record { text = line-text (record { call = n; letter = r .letter; answer = answer-of (r .answer) }); areas = exit-areas ledger «true_counts» clipped buckets side })
         (print-bytes (length (now (work .entry))) n (now (call .entry)) (entry-areas ledger «true_counts» clipped buckets side))) ⌝ }
 {
     if call.len() != 18 {
@@ -188,7 +190,8 @@ pub fn run_call(
     at: usize,
 ) -> usize
     requires { ⌜ at + 128 ≤ length (now to) ⌝ }
-    ensures { λ r. ⌜ PrintsAfter (print-bytes (length (now (work .entry))) number (now (call .entry)) (entry-areas ledger «true_counts» clipped buckets side))
+    ensures { λ r. ⌜ PrintsAfter
+        (print-bytes (length (now (work .entry))) number (now (call .entry)) (entry-areas ledger «true_counts» clipped buckets side))
         (exit-areas ledger «true_counts» clipped buckets side)
         (now (to .entry)) at (now (to .exit)) r × (at ≤ r) × (r ≤ at + 128) ⌝ }
 {
@@ -223,7 +226,9 @@ pub fn run_calls(
     to: &mut [u8],
 ) -> usize
     requires { ⌜ (128 * call-count (now input) ≤ length (now to)) × (first + length (now input) < 9223372036854775808) ⌝ }
-    ensures { λ r. ⌜ Prints (print-lines (length (now (work .entry))) first (call-count (now (input .entry))) (now (input .entry)) (entry-areas ledger «true_counts» clipped buckets side))
+    ensures { λ r. ⌜ Prints
+        (print-lines (length (now (work .entry))) first (call-count (now (input .entry))) (now (input .entry))
+        (entry-areas ledger «true_counts» clipped buckets side))
         (exit-areas ledger «true_counts» clipped buckets side)
         (now (to .entry)) (now (to .exit)) r × Counts r (now (to .exit)) ⌝ }
 {

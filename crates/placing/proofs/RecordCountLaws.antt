@@ -3,16 +3,16 @@
 use mathlib.Core.Path.{_≡_, refl, sym, _∙_}
 use mathlib.Core.Bool.{Bool, cond, not, _&&_}
 use mathlib.Core.List.{List, [], _∷_, _++_, map-append}
-use Prim.Native.Nat.{ℕ, _+_, _-_, _*_, _<_, _≤_}
-use native.Mathlib.Nat.{add-zero, add-sub-cancel-left, suc-mul, mul-le-mul-right}
+use Prim.Native.Nat.{ℕ, _+_, _*_, _<_, _≤_}
+use native.Mathlib.Nat.{add-zero}
 use native.Mathlib.Numerals.{add-one}
 use native.Mathlib.Omega.{arith}
 use lib.Dec.{eqb}
-use lib.ListN.{length, take, drop, set, length-drop}
-use lib.Seq.{length-take-le, take-suc-set, take-all}
+use lib.ListN.{length, take, drop, set}
+use lib.Seq.{take-suc-set, take-all}
 use Rattle.theory.specs.Lists.{filter, has}
 use Rattle.theory.specs.Records.{Record, entries, record-at, records}
-use Rattle.theory.specs.Settings.{Card, record-size}
+use Rattle.theory.specs.Settings.{Card}
 use Rattle.theory.specs.Placing.{true-count, all-top, chosen, chooses, choosers}
 use Rattle.theory.proofs.ListLaws.{filter-len}
 use Rattle.theory.proofs.GrowingLaws.{count-append, count-end, records-more}

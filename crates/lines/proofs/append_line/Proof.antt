@@ -7,17 +7,24 @@ use Rattle.lines.proofs.append_line.Tie as tie
 
 returns : tie.Need-returns
 returns c =
-    let start = c .before .before .before .before .before .before .before .before .before .before .before .before .before .before .before .before .before .before .before .before .before .before .before .before .before .before .before .before .before in
-    let append-decimal = c .before .before .before .before .before .before .before .before .before .before .before .before .before .before .before .before .before .before .before .before .before .before .append-decimal in
-    let append-letter = c .before .before .before .before .before .before .before .before .before .before .before .before .before .before .before .before .before .before .append-letter in
-    let append-decimal2 = c .before .before .before .before .before .before .before .before .before .before .before .before .before .before .append-decimal2 in
-    let append-decimal3 = c .before .before .before .before .before .before .before .before .before .before .append-decimal3 in
-    let append-decimal4 = c .before .before .before .before .before .before .append-decimal4 in
-    let append-decimal5 = c .before .before .append-decimal5 in (
-      line-after (start .args .call) (start .args .letter) (start .args .x .number) (start .args .x .class) (start .args .x .«buckets_read») (start .args .x .«records_compared») _ _ _ _ _ _ _ _ _ _ _ _ _ _
-          (append-decimal .ensures .0) (append-letter .ensures .0) (append-decimal2 .ensures .0) (append-decimal3 .ensures .0) (append-decimal4 .ensures .0) (append-decimal5 .ensures .0),
-      omega (arith, append-decimal .ensures .1, append-letter .ensures .1, append-decimal2 .ensures .1, append-decimal3 .ensures .1, append-decimal4 .ensures .1, append-decimal5 .ensures .1),
-      omega (arith, append-decimal .ensures .2, append-letter .ensures .2, append-decimal2 .ensures .2, append-decimal3 .ensures .2, append-decimal4 .ensures .2, append-decimal5 .ensures .2),
+    let sixth = c .before .before in
+    let fifth = sixth .before .before .before .before in
+    let fourth = fifth .before .before .before .before in
+    let third = fourth .before .before .before .before in
+    let second = third .before .before .before .before in
+    let first = second .before .before .before .before in
+    let args = first .before .before .before .before .before .before .before .args in
+    let e₁ = first .append-decimal .ensures in
+    let e₂ = second .append-letter .ensures in
+    let e₃ = third .append-decimal2 .ensures in
+    let e₄ = fourth .append-decimal3 .ensures in
+    let e₅ = fifth .append-decimal4 .ensures in
+    let e₆ = sixth .append-decimal5 .ensures in
+    let x = args .x in (
+      line-after (args .call) (args .letter) (x .number) (x .class) (x .«buckets_read») (x .«records_compared») _ _ _ _ _ _ _ _ _ _ _ _ _ _
+          (e₁ .0) (e₂ .0) (e₃ .0) (e₄ .0) (e₅ .0) (e₆ .0),
+      omega (arith, e₁ .1, e₂ .1, e₃ .1, e₄ .1, e₅ .1, e₆ .1),
+      omega (arith, e₁ .2, e₂ .2, e₃ .2, e₄ .2, e₅ .2, e₆ .2),
     )
 
 pub append-line-spec : {M : Type 1} → statement M

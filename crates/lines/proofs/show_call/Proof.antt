@@ -1,4 +1,6 @@
--- `lines::show_call` meets its contract.
+-- `lines::show_call` meets its contract: bytes left over, another letter, or a call, as `print-bytes` has them.
+use mathlib.Core.List.{List}
+use Prim.Native.Nat.{ℕ}
 use lib.ListN.{length, take, drop}
 use Rattle.theory.specs.Flowrun.{flowrun-settings}
 use Rattle.lines.proofs.LineLaws.{shown-left-over, shown-unknown, shown-call}
@@ -6,28 +8,46 @@ use borrow.Author.Needs.{needs}
 use Rattle.lines.proofs.show_call.Statement.{statement}
 use Rattle.lines.proofs.show_call.Tie as tie
 
+-- ---- at entry
+module _ (c : tie.Start) where
+  abbrev call : List ℕ
+  call = c .args .call .now
+
+  abbrev work-length : ℕ
+  work-length = length (c .args .work .now)
+
+-- ---- the letter of 18 bytes is read
+module _ (c : tie.After-read-letter) where
+  abbrev whole : tie.Else1
+  whole = c .before .before
+
+  abbrev start : tie.Start
+  start = whole .before .before .before .before .before .before .before .before
+
 returns : tie.Need-returns
 returns c =
-    let start = c .before .before .before .before .before .before .before .before .before in
-    λ n. shown-left-over (length (start .args .work .now)) (start .args .call .now) _ n _ _ (c .before .if1 .taken) (c .show-unknown .ensures .0) (c .show-unknown .ensures .1)
+    let e = c .before .before .before .before .before .before .before .before .before in
+    let shown = c .show-unknown .ensures in
+    λ n. shown-left-over (work-length e) (call e) _ n _ _ (c .before .if1 .taken) (shown .0) (shown .1)
 
 returns-2 : tie.Need-returns-2
 returns-2 c =
-    let start = c .before .before .before .before .before .before .before .before .before .before .before .before .before in
-    let if1 = c .before .before .before .before .before .if1 in
-    let read-letter = c .before .before .before .read-letter in
-    λ n. shown-unknown (length (start .args .work .now)) (start .args .call .now) _ (if1 .left) (read-letter .result) (read-letter .ensures) n _ _ (c .before .enum-told .given .1) (c .show-unknown2 .ensures .0) (c .show-unknown2 .ensures .1)
+    let read = c .before .before .before in
+    let e = start read in
+    let shown = c .show-unknown2 .ensures in
+    let told = c .before .enum-told .given .1 in
+    λ n. shown-unknown (work-length e) (call e) _ (whole read .if1 .left) _ (read .read-letter .ensures) n _ _ told (shown .0) (shown .1)
 
 returns-3 : tie.Need-returns-3
 unfolding flowrun-settings
 returns-3 c =
-    let start = c .before .before .before .before .before .before .before .before .before .before .before .before .before .before .before .before .before .before .before .before .before .before .before .before .before .before .before .before .before .before .before .before .before .before .before in
-    let if1 = c .before .before .before .before .before .before .before .before .before .before .before .before .before .before .before .before .before .before .before .before .before .before .before .before .before .before .before .if1 in
-    let read-letter = c .before .before .before .before .before .before .before .before .before .before .before .before .before .before .before .before .before .before .before .before .before .before .before .before .before .read-letter in
-    let asked = c .before .before .before .before .before .before .before .before .before .before .before .before .before .before .before .before .before .before .before .before .before .before .before .asked in
-    let class-at = c .before .before .before .before .before .before .before .before .before .before .before .before .before .before .before .before .before .before .before .before .before .class-at in
-    let perform = c .before .before .before .before .before .before .before .before .before .before .before .before .before .perform in
-    λ n. shown-call (length (start .args .work .now)) (start .args .call .now) _ (if1 .left) (read-letter .result) (read-letter .ensures) n _ _ _ _ _ (asked .given .1) (class-at .ensures) (perform .ensures) (c .printed .ensures (take 13 (drop 1 (start .args .call .now))))
+    let performed = c .before .before .before .before .before .before .before .before .before .before .before .before .before in
+    let class = performed .before .before .before .before .before .before .before .before in
+    let known = class .before .before in
+    let read = known .before .before in
+    let e = start read in
+    λ n. shown-call (work-length e) (call e) _ (whole read .if1 .left) _ (read .read-letter .ensures) n _ _ _ _ _ (known .asked .given .1)
+    (class .class-at .ensures) (performed .perform .ensures) (c .printed .ensures (take 13 (drop 1 (call e))))
 
 pub show-call-spec : {M : Type 1} → statement M
 show-call-spec =
