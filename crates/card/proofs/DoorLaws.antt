@@ -121,7 +121,8 @@ module _ (t : Settings) (key hashes numbers : List ℕ) where
     unfolding key-buckets-of
     key-buckets-3 five wrong = rw (e, eq-eqb (length hashes) 4 four, eq-eqb (length numbers) 5 five, ne-eqb (length key) 13 wrong)
 
-    pub key-buckets-0 : length numbers ≡ 5 → length key ≡ 13 → kept 0 (first-hashes (2 ^ t .p) (H key)) (counted (numbers-of (2 ^ t .p) (t .k) (H key))) ≡ key-buckets-of t key hashes numbers
+    pub key-buckets-0 : length numbers ≡ 5 → length key ≡ 13
+        → kept 0 (first-hashes (2 ^ t .p) (H key)) (counted (numbers-of (2 ^ t .p) (t .k) (H key))) ≡ key-buckets-of t key hashes numbers
     unfolding key-buckets-of card-of
     key-buckets-0 five long = rw (e, eq-eqb (length hashes) 4 four, eq-eqb (length numbers) 5 five, eq-eqb (length key) 13 long)
 

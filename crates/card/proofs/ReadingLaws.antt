@@ -62,26 +62,28 @@ module _ (x : Answer) (lies : RecordPlace) (place : List ℕ) where
       place-there ok = rw (ne-eqb (x .number) 1 not-1, eq-eqb (length place) 2 two, ok)
 
 -- ---- tally
-module _ (t : Settings) (ledger clipped buckets side totals : List ℕ) (x : Totals)
-    (e : record { reply = totalled x; state = read-areas ledger clipped buckets side } ≡ perform t 0 tally (read-areas ledger clipped buckets side)) where
-  is : totals-in (perform t 0 tally (read-areas ledger clipped buckets side) .reply) ≡ x
-  is = ap (λ (s : Step Areas). totals-in (s .reply)) (sym e)
+pub record Tallied (t : Settings) (ledger clipped buckets side : List ℕ) (x : Totals) : Type 0 where
+  pub is : record { reply = totalled x; state = read-areas ledger clipped buckets side } ≡ perform t 0 tally (read-areas ledger clipped buckets side)
+
+module _ {t : Settings} {ledger clipped buckets side : List ℕ} {x : Totals} (call : Tallied t ledger clipped buckets side x) (totals : List ℕ) where
+  totals-are : totals-in (perform t 0 tally (read-areas ledger clipped buckets side) .reply) ≡ x
+  totals-are = ap (λ (s : Step Areas). totals-in (s .reply)) (sym (call .is))
 
   pub tallied-1 : x .number ≡ 1 → record { number = 1; area = totals } ≡ tally-of t ledger clipped buckets side totals
   unfolding tally-of
-  tallied-1 q = rw (is, eq-eqb (x .number) 1 q)
+  tallied-1 q = rw (totals-are, eq-eqb (x .number) 1 q)
 
   module _ (not-1 : x .number ≡ 1 → ⊥) where
     pub tallied-2 : (length totals ≡ 4 → ⊥) → record { number = 2; area = totals } ≡ tally-of t ledger clipped buckets side totals
     unfolding tally-of
-    tallied-2 q = rw (is, ne-eqb (x .number) 1 not-1, ne-eqb (length totals) 4 q)
+    tallied-2 q = rw (totals-are, ne-eqb (x .number) 1 not-1, ne-eqb (length totals) 4 q)
 
     module _ (four : length totals ≡ 4) where
       pub tallied-refused : (x .number ≡ 0 → ⊥) → record { number = x .number; area = totals } ≡ tally-of t ledger clipped buckets side totals
       unfolding tally-of
-      tallied-refused q = rw (is, ne-eqb (x .number) 1 not-1, eq-eqb (length totals) 4 four, ne-eqb (x .number) 0 q)
+      tallied-refused q = rw (totals-are, ne-eqb (x .number) 1 not-1, eq-eqb (length totals) 4 four, ne-eqb (x .number) 0 q)
 
       pub tallied : x .number ≡ 0 → (after : List ℕ) → after ≡ x .in-buckets ∷ x .in-side ∷ x .marked-255 ∷ x .fill ∷ []
           → record { number = 0; area = after } ≡ tally-of t ledger clipped buckets side totals
       unfolding tally-of
-      tallied q after w = rw (is, ne-eqb (x .number) 1 not-1, eq-eqb (length totals) 4 four, eq-eqb (x .number) 0 q, w)
+      tallied q after w = rw (totals-are, ne-eqb (x .number) 1 not-1, eq-eqb (length totals) 4 four, eq-eqb (x .number) 0 q, w)

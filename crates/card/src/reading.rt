@@ -29,7 +29,8 @@ pub extern "C" fn flow_search(
     side: &[u8],
     key: &[u8],
 ) -> u64
-    ensures { λ r. ⌜ r ≡ search-of (settings-of p k room top capacity «side_places») (now (clipped .entry)) (now (buckets .entry)) (now (side .entry)) (now (key .entry)) ⌝ }
+    ensures { λ r. ⌜ r ≡ search-of (settings-of p k room top capacity «side_places»)
+        (now (clipped .entry)) (now (buckets .entry)) (now (side .entry)) (now (key .entry)) ⌝ }
 {
     let given = Given {
         p,
@@ -72,7 +73,8 @@ pub extern "C" fn flow_search_lent(
     driver_number(lookup::searching::search_with_table(table, given, clipped, buckets, side, key))
 }
 
-// Many keys at once, with a table that the driver keeps: 1; 2; 3 if `keys` is not of as many keys as there are answers; else each answer is the number of its key.
+// Many keys at once, with a table that the driver keeps: 1; 2; 3 if `keys` is not of as many keys as there are answers; else each answer is
+// the number of its key.
 #[no_mangle]
 pub extern "C" fn flow_search_burst(
     table: &[u64],
@@ -183,7 +185,8 @@ pub extern "C" fn flow_tally(
     totals: &mut [u32],
 ) -> u32
     ensures { λ r. ⌜ _≡_ {A = Filled} (record { number = r; area = now (totals .exit) })
-        (tally-of (settings-of p k room top capacity «side_places») (now (ledger .entry)) (now (clipped .entry)) (now (buckets .entry)) (now (side .entry)) (now (totals .entry))) ⌝ }
+        (tally-of (settings-of p k room top capacity «side_places»)
+        (now (ledger .entry)) (now (clipped .entry)) (now (buckets .entry)) (now (side .entry)) (now (totals .entry))) ⌝ }
 {
     let given = Given {
         p,

@@ -45,7 +45,9 @@ module _ (call letter number class read compared : ℕ) where
       → Appends (decimal class ++ (32 ∷ [])) a₃ n₃ a₄ n₄
       → Appends (decimal read ++ (32 ∷ [])) a₄ n₄ a₅ n₅
       → Appends (decimal compared ++ (10 ∷ [])) a₅ n₅ a₆ n₆
-      → Appends (line-text (record { call = call; letter = letter; answer = record { number = number; class = class; buckets-read = read; records-compared = compared } })) a₀ n₀ a₆ n₆
+      → Appends
+      (line-text (record { call = call; letter = letter; answer = record { number = number; class = class; buckets-read = read; records-compared = compared } }))
+      a₀ n₀ a₆ n₆
   unfolding line-text
   line-after a₀ a₁ a₂ a₃ a₄ a₅ a₆ n₀ n₁ n₂ n₃ n₄ n₅ n₆ f₁ f₂ f₃ f₄ f₅ f₆ =
       appends-then (decimal call ++ (32 ∷ [])) _ a₀ a₁ a₆ n₀ n₁ n₆ f₁

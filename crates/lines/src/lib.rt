@@ -139,7 +139,10 @@ fn show_call(
     work: &mut [u16],
 ) -> Shown
     ensures { λ r. ⌜ ((n : ℕ) → _≡_ {A = Printed}
-        (record { text = line-text (record { call = n; letter = r .letter; answer = answer-of (r .answer) }); areas = exit-areas ledger «true_counts» clipped buckets side })
+        (record {
+          text = line-text (record { call = n; letter = r .letter; answer = answer-of (r .answer) });
+          areas = exit-areas ledger «true_counts» clipped buckets side;
+        })
         (print-bytes (length (now (work .entry))) n (now (call .entry)) (entry-areas ledger «true_counts» clipped buckets side))) ⌝ }
 {
     if call.len() != 18 {

@@ -8,7 +8,10 @@ returns : tie.Need-returns
 returns c = hash-table-2 (c .before .before .args .table .now) (c .if1 .taken)
 
 returns-2 : tie.Need-returns-2
-returns-2 c = rw (c .before .before .fill-table .ensures) (hash-table-0 (c .before .before .before .before .before .before .args .table .now) (c .before .before .before .before .if1 .left))
+returns-2 c =
+    let filled = c .before .before in
+    let tested = filled .before .before in
+    rw (filled .fill-table .ensures) (hash-table-0 (tested .before .before .args .table .now) (tested .if1 .left))
 
 pub flow-hash-table-spec : {M : Type 1} → statement M
 flow-hash-table-spec = tie.close (tie.spec returns (λ c κs. search needs) (λ c. search needs) returns-2)

@@ -1,81 +1,90 @@
 -- `flow_key_buckets` meets its contract: each outcome is what the definition gives after the same tests.
 use mathlib.Core.Path.{_≡_, ap, _∙_}
 use mathlib.Core.Bool.{true}
+use mathlib.Core.List.{List}
+use Prim.Native.Nat.{ℕ}
 use native.Mathlib.Omega.{arith}
-use Rattle.theory.specs.Settings.{Settings, allowed}
+use Rattle.theory.specs.Settings as plain
+use Rattle.theory.specs.Settings.{settings-of, allowed}
 use Rattle.theory.proofs.SettingsLaws.{Ranges, ranges}
+use Rattle.settings.specs.declared.Settings.{Settings}
 use Rattle.settings.specs.Checked.{paper}
 use Rattle.settings.proofs.Laws.{refused-arm, allowed-arm}
-use Rattle.card.proofs.DoorLaws.{
-  key-buckets-1,
-  key-buckets-2,
-  key-buckets-2-numbers,
-  key-buckets-3,
-  key-buckets-written,
-}
+use Rattle.card.proofs.DoorLaws.{key-buckets-1, key-buckets-2, key-buckets-2-numbers, key-buckets-3, key-buckets-written}
 use borrow.Author.Needs.{needs}
 use Rattle.card.proofs.flow_key_buckets.Statement.{statement}
 use Rattle.card.proofs.flow_key_buckets.Tie as tie
 
--- the settings that the caller gave
-abbrev asked : tie.Start → Settings
-asked c = record { p = c .args .p; k = c .args .k; room = c .args .room; top = c .args .top; capacity = c .args .capacity; side-places = c .args .side-places }
+-- ---- at entry
+module _ (c : tie.Start) where
+  abbrev asked : plain.Settings
+  asked = settings-of (c .args .p) (c .args .k) (c .args .room) (c .args .top) (c .args .capacity) (c .args .side-places)
 
--- past their test they are allowed, and the code goes on with them
-told : (c : tie.After-known-told) → (allowed (asked (c .before .before .before .before .before .before .before)) ≡ true) × (paper (c .before .checked .given .0 .0) ≡ asked (c .before .before .before .before .before .before .before))
-told c =
-    let before = c .before .before .before .before .before .before .before in
-    let new = c .before .before .before .new in
-    let checked = c .before .checked in
-    allowed-arm (asked (before)) (new .result) (new .ensures) (checked .given .0 .0) (checked .given .1)
+  abbrev key : List ℕ
+  key = c .args .key .now
 
--- so what the settings' methods and limits require holds
-told-code : (c : tie.After-known-told) → allowed (paper (c .before .checked .given .0 .0)) ≡ true
-told-code c = ap allowed (told c .1) ∙ told c .0
+  abbrev hashes : List ℕ
+  hashes = c .args .hashes .now
 
-limits : (c : tie.After-known-told) → Ranges (paper (c .before .checked .given .0 .0))
-limits c = ranges (paper (c .before .checked .given .0 .0)) (told-code c)
+  abbrev numbers : List ℕ
+  numbers = c .args .numbers .now
+
+-- ---- past their test the settings are allowed, and the code goes on with them
+module _ (c : tie.After-known-told) where
+  abbrev start : tie.Start
+  start = c .before .before .before .before .before .before .before
+
+  abbrev s : Settings
+  s = c .before .checked .given .0 .0
+
+  told : (allowed (asked start) ≡ true) × (paper s ≡ asked start)
+  told = let new = c .before .before .before .new in allowed-arm (asked start) (new .result) (new .ensures) s (c .before .checked .given .1)
+
+  limits : Ranges (paper s)
+  limits = ranges (paper s) (ap allowed (told .1) ∙ told .0)
 
 returns : tie.Need-returns
 returns c =
-    let start = c .before .before .before .before .before .before in
-    key-buckets-1 (asked start) (start .args .key .now) (start .args .hashes .now) (start .args .numbers .now)
-    (refused-arm (asked start) (c .before .before .new .result) (c .before .before .new .ensures) (c .enum-told .given .1))
+    let new = c .before .before in
+    let e = new .before .before .before .before in
+    key-buckets-1 (asked e) (key e) (hashes e) (numbers e) (refused-arm (asked e) (new .new .result) (new .new .ensures) (c .enum-told .given .1))
 
 returns-2 : tie.Need-returns-2
 returns-2 c =
-    let start = c .before .before .before .before .before .before .before .before in
-    key-buckets-2 (asked start) (start .args .key .now) (start .args .hashes .now) (start .args .numbers .now) (told (c .before) .0) (c .if1 .taken)
+    let known = c .before in
+    let e = start known in
+    key-buckets-2 (asked e) (key e) (hashes e) (numbers e) (told known .0) (c .if1 .taken)
 
 returns-3 : tie.Need-returns-3
 returns-3 c =
-    let start = c .before .before .before .before .before .before .before .before .before in
-    key-buckets-2-numbers (asked start) (start .args .key .now) (start .args .hashes .now) (start .args .numbers .now) (told (c .before .before) .0) (c .before .if1 .left) (c .if2 .taken)
+    let known = c .before .before in
+    let e = start known in
+    key-buckets-2-numbers (asked e) (key e) (hashes e) (numbers e) (told known .0) (c .before .if1 .left) (c .if2 .taken)
 
 returns-4 : tie.Need-returns-4
 returns-4 c =
-    let start = c .before .before .before .before .before .before .before .before .before .before in
-    key-buckets-3 (asked start) (start .args .key .now) (start .args .hashes .now) (start .args .numbers .now) (told (c .before .before .before) .0) (c .before .before .if1 .left) (c .before .if2 .left) (c .if3 .taken)
+    let known = c .before .before .before in
+    let e = start known in
+    key-buckets-3 (asked e) (key e) (hashes e) (numbers e) (told known .0) (c .before .before .if1 .left) (c .before .if2 .left) (c .if3 .taken)
 
 write-hashes-requires : tie.Need-write-hashes-requires
-write-hashes-requires c κs = (limits (c .before .before .before .before .before) .p-high, c .before .before .before .before .if1 .left)
+write-hashes-requires c κs = let tested = c .before .before .before .before in (limits (tested .before) .p-high, tested .if1 .left)
 
 numbers-of-requires : tie.Need-numbers-of-requires
 numbers-of-requires c κs = let here = limits (c .before .before .before .before .before .before .before .before) in (omega arith, omega arith)
 
 returns-5 : tie.Need-returns-5
 returns-5 c =
-    let before = c .before .before .before .before .before .before .before .before .before .before .before .before .before .before .before .before .before .before .before .before in
-    let h-rows = c .before .before .before .before .before .before .before .before .before .h-rows in
-    let write-hashes = c .before .before .before .before .before .before .before .write-hashes in
-    let numbers-of = c .before .before .before .before .numbers-of in
-    let write-numbers = c .before .before .write-numbers in
-    let start = before in
-    let told-here = told (c .before .before .before .before .before .before .before .before .before .before .before .before .before) in
-    let at-test = c .before .before .before .before .before .before .before .before .before .before in
-    key-buckets-written (asked start) (start .args .key .now) (start .args .hashes .now) (start .args .numbers .now) (told-here .0) (at-test .before .before .if1 .left) (at-test .before .before .before .before .checked .given .0 .0)
-    (h-rows .result) (numbers-of .result) (told-here .1) (at-test .before .if2 .left) (at-test .if3 .left) (h-rows .ensures)
-    (write-hashes .ensures) (numbers-of .ensures) (write-numbers .ensures)
+    let wrote = c .before .before in
+    let found = wrote .before .before in
+    let hashed = found .before .before .before in
+    let rows = hashed .before .before in
+    let tested = rows .before in
+    let known = tested .before .before .before in
+    let e = start known in
+    key-buckets-written (asked e) (key e) (hashes e) (numbers e) (told known .0) (tested .before .before .if1 .left) (s known) (rows .h-rows .result)
+    (found .numbers-of .result) (told known .1) (tested .before .if2 .left) (tested .if3 .left) (rows .h-rows .ensures) (hashed .write-hashes .ensures)
+    (found .numbers-of .ensures) (wrote .write-numbers .ensures)
 
 pub flow-key-buckets-spec : {M : Type 1} → statement M
 flow-key-buckets-spec =

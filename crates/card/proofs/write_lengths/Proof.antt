@@ -10,14 +10,16 @@ use Rattle.card.proofs.write_lengths.Tie as tie
 returns : tie.Need-returns
 unfolding lengths-of
 returns c =
-    let start = c .before .before .before .before .before .before .before in
-    let ledger-length = c .before .before .before .before .before .ledger-length in
-    let true-length = c .before .before .before .before .true-length in
-    let clipped-length = c .before .before .before .clipped-length in
-    let buckets-length = c .before .before .buckets-length in
-    let side-length = c .before .side-length in
-    rw (← ledger-length .ensures, ← true-length .ensures, ← clipped-length .ensures, ← buckets-length .ensures, ← side-length .ensures, ← c .work-length .ensures)
-    (six-stored (start .args .lengths .now) (ledger-length .result) (true-length .result) (clipped-length .result) (buckets-length .result) (side-length .result) (c .work-length .result) (start .pre .1))
+    let side = c .before in
+    let buckets = side .before in
+    let clipped = buckets .before in
+    let counts = clipped .before in
+    let ledger = counts .before in
+    let start = ledger .before .before in
+    rw (← ledger .ledger-length .ensures, ← counts .true-length .ensures, ← clipped .clipped-length .ensures)
+    (rw (← buckets .buckets-length .ensures, ← side .side-length .ensures, ← c .work-length .ensures)
+    (six-stored (start .args .lengths .now) (ledger .ledger-length .result) (counts .true-length .result) (clipped .clipped-length .result)
+    (buckets .buckets-length .result) (side .side-length .result) (c .work-length .result) (start .pre .1)))
 
 pub write-lengths-spec : {M : Type 1} → statement M
 write-lengths-spec =

@@ -12,9 +12,10 @@ use Rattle.card.proofs.write_numbers.Tie as tie
 returns : tie.Need-returns
 returns c =
     let start = c .before .before in
-    let at = start .args .found .at in
-    let stored = five-stored (start .args .numbers .now) (start .args .found .count) (getD at 0 0) (getD at 1 0) (getD at 2 0) (getD at 3 0) (c .before .before .pre .1) in
-    stored ∙ ap (λ (l : List ℕ). start .args .found .count ∷ l) (four-read at (search needs))
+    let found = start .args .found in
+    let at = found .at in
+    five-stored (start .args .numbers .now) (found .count) (getD at 0 0) (getD at 1 0) (getD at 2 0) (getD at 3 0) (start .pre .1)
+    ∙ ap (λ (l : List ℕ). found .count ∷ l) (four-read at (search needs))
 
 pub write-numbers-spec : {M : Type 1} → statement M
 write-numbers-spec =

@@ -11,9 +11,11 @@ use Rattle.flowrun.proofs.run_block.Tie as tie
 run-calls-requires : tie.Need-run-calls-requires
 unfolding call-count
 run-calls-requires c κs =
-    let start = c .before .before .before .before .before .before .before .before .before .before .before .before .before .before .before .before .before .before in
-    let read-full = c .before .before .before .before .before .before .before .before .before .before .read-full in
-    let large-buffer = c .before .before .before .before .before .before .before .before .large-buffer in
+    let made = c .before .before .before .before .before .before .before .before in
+    let read = made .before .before in
+    let start = read .before .before .before .before .before .before .before .before in
+    let large-buffer = made .large-buffer in
+    let read-full = read .read-full in
     let few : length (take (read-full .result) (read-full .last .1 .0)) ≤ 9216 =
     let same : length (read-full .last .1 .0) ≡ 9216 = search needs in
     omega (arith, same, read-full .ensures .0, read-full .ensures .1) in

@@ -32,11 +32,11 @@ areas-of ledger true-counts clipped buckets side =
     record { ledger = ledger; true-counts = true-counts; clipped-counts = clipped; buckets = buckets; side-store = side }
 
 abbrev Inv-loop : tie.InvT-loop
-Inv-loop first input ledger₀ trues₀ clipped₀ buckets₀ side₀ work₀ to₀ length count i₀ number₀ from₀ at₀ ledger trues clipped buckets side work to i number from at =
-    Running first count input (areas-of ledger₀ trues₀ clipped₀ buckets₀ side₀) work₀ to₀ (areas-of ledger trues clipped buckets side) work to i number from at
+Inv-loop first input ledger₀ trues₀ clipped₀ buckets₀ side₀ work₀ to₀ length count i₀ n₀ from₀ at₀ ledger trues clipped buckets side work to i n from at =
+    Running first count input (areas-of ledger₀ trues₀ clipped₀ buckets₀ side₀) work₀ to₀ (areas-of ledger trues clipped buckets side) work to i n from at
 
 abbrev μ-loop : tie.MeasureT-loop
-μ-loop first input ledger₀ trues₀ clipped₀ buckets₀ side₀ work₀ to₀ length count i₀ number₀ from₀ at₀ ledger trues clipped buckets side work to i number from at =
+μ-loop first input ledger₀ trues₀ clipped₀ buckets₀ side₀ work₀ to₀ length count i₀ n₀ from₀ at₀ ledger trues clipped buckets side work to i n from at =
     count - i
 
 -- ---- the end of call i is known
@@ -80,8 +80,9 @@ run-call-requires c κs =
 
 loop-again : tie.Need-loop-again Inv-loop μ-loop
 loop-again c =
-    let ran = c .before .before .before .before .before .before .before .before .before .before .before .before .before .before .run-call in
-    let ended = c .before .before .before .before .before .before .before .before .before .before .before .before .before .before .before .before .before .before .before .before .before .before .before in
+    let ran-at = c .before .before .before .before .before .before .before .before .before .before .before .before .before .before in
+    let ran = ran-at .run-call in
+    let ended = ran-at .before .before .before .before .before .before .before .before .before in
     let so-far = loop ended .loop .inv in
     record {
       most = omega arith;
