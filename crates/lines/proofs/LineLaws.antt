@@ -37,6 +37,9 @@ unfolding letter-call
 no-call x a b c d e key class = rw (ne-eqb x 73 a, ne-eqb x 67 b, ne-eqb x 68 c, ne-eqb x 83 d, ne-eqb x 88 e)
 
 -- the six fields of a line, each after the text before it
+abbrev answer-with : ℕ → ℕ → ℕ → ℕ → plain-lookup.Answer
+answer-with number class read compared = record { number = number; class = class; buckets-read = read; records-compared = compared }
+
 module _ (call letter number class read compared : ℕ) where
   pub line-after : (a₀ a₁ a₂ a₃ a₄ a₅ a₆ : List ℕ) (n₀ n₁ n₂ n₃ n₄ n₅ n₆ : ℕ)
       → Appends (decimal call ++ (32 ∷ [])) a₀ n₀ a₁ n₁
@@ -45,9 +48,7 @@ module _ (call letter number class read compared : ℕ) where
       → Appends (decimal class ++ (32 ∷ [])) a₃ n₃ a₄ n₄
       → Appends (decimal read ++ (32 ∷ [])) a₄ n₄ a₅ n₅
       → Appends (decimal compared ++ (10 ∷ [])) a₅ n₅ a₆ n₆
-      → Appends
-      (line-text (record { call = call; letter = letter; answer = record { number = number; class = class; buckets-read = read; records-compared = compared } }))
-      a₀ n₀ a₆ n₆
+      → Appends (line-text (record { call = call; letter = letter; answer = answer-with number class read compared })) a₀ n₀ a₆ n₆
   unfolding line-text
   line-after a₀ a₁ a₂ a₃ a₄ a₅ a₆ n₀ n₁ n₂ n₃ n₄ n₅ n₆ f₁ f₂ f₃ f₄ f₅ f₆ =
       appends-then (decimal call ++ (32 ∷ [])) _ a₀ a₁ a₆ n₀ n₁ n₆ f₁
