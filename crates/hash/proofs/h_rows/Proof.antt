@@ -8,30 +8,11 @@ use borrow.Author.Needs.{needs}
 use Rattle.hash.proofs.h_rows.Statement.{statement}
 use Rattle.hash.proofs.h_rows.Tie as tie
 
-shared-slice-read-byte-rows-9 : tie.Need-shared-slice-read-byte-rows-9
-shared-slice-read-byte-rows-9 c =
+-- ---- eight bytes are done
+abbrev start : tie.After-shared-slice-known10 → tie.Start
+start c =
     let half = c .before .before .before .before .before .before .before .before .before in
-    omega (arith, half .before .before .before .before .before .before .before .before .before .pre)
-
-shared-slice-read-byte-rows-10 : tie.Need-shared-slice-read-byte-rows-10
-shared-slice-read-byte-rows-10 c =
-    let half = c .before .before .before .before .before .before .before .before .before .before in
-    omega (arith, half .before .before .before .before .before .before .before .before .before .before .pre)
-
-shared-slice-read-byte-rows-11 : tie.Need-shared-slice-read-byte-rows-11
-shared-slice-read-byte-rows-11 c =
-    let half = c .before .before .before .before .before .before .before .before .before .before .before in
-    omega (arith, half .before .before .before .before .before .before .before .before .before .before .before .pre)
-
-shared-slice-read-byte-rows-12 : tie.Need-shared-slice-read-byte-rows-12
-shared-slice-read-byte-rows-12 c =
-    let half = c .before .before .before .before .before .before .before .before .before .before .before .before in
-    omega (arith, half .before .before .before .before .before .before .before .before .before .before .before .before .pre)
-
-shared-slice-read-byte-rows-13 : tie.Need-shared-slice-read-byte-rows-13
-shared-slice-read-byte-rows-13 c =
-    let half = c .before .before .before .before .before .before .before .before .before .before .before .before .before in
-    omega (arith, half .before .before .before .before .before .before .before .before .before .before .before .before .before .pre)
+    half .before .before .before .before .before .before .before .before .before
 
 returns : tie.Need-returns
 unfolding rows H
@@ -84,14 +65,14 @@ h-rows-spec =
     (λ c κs. tt)
     (λ c. search needs)
     (λ c κs. tt)
-    shared-slice-read-byte-rows-9
+    (λ c. omega (arith, start c .pre))
     (λ c κs. tt)
-    shared-slice-read-byte-rows-10
+    (λ c. omega (arith, start (c .before .before) .pre))
     (λ c κs. tt)
-    shared-slice-read-byte-rows-11
+    (λ c. omega (arith, start (c .before .before .before .before) .pre))
     (λ c κs. tt)
-    shared-slice-read-byte-rows-12
+    (λ c. omega (arith, start (c .before .before .before .before .before .before) .pre))
     (λ c κs. tt)
-    shared-slice-read-byte-rows-13
+    (λ c. omega (arith, start (c .before .before .before .before .before .before .before .before) .pre))
     (λ c κs. tt)
     returns)
