@@ -1,6 +1,7 @@
 // The settings of document 01 as a type by value: their limits, the checking constructor, and the lengths of the areas.
 ghost use mathlib.Core.Path.{_≡_};
 ghost use mathlib.Core.Bool.{true};
+ghost use Prim.Native.Nat.{_+_, _*_, _≤_};
 ghost use Rattle.theory.specs.Settings.{allowed, record-size, bucket-size, ledger-length, true-length, clipped-length, buckets-length, side-length};
 ghost use Rattle.theory.specs.Settings.{work-length};
 ghost use Rattle.settings.specs.Checked.{paper, given-of, checked-of, card};
@@ -135,12 +136,20 @@ impl Settings {
         Settings::KEY_WIDTH + Settings::CLASS_WIDTH
     }
 
+    // So many bytes, then places for so many records.
+    fn with_records(self, bytes: usize, count: usize) -> usize
+        requires { ⌜ (bytes ≤ 2) × (count ≤ 4096) ⌝ }
+        ensures { λ r. ⌜ r ≡ bytes + record-size (card self) * count ⌝ }
+    {
+        bytes + self.record_size() * count
+    }
+
     // "one bucket of 1 + 17 × B bytes, a mark, then record places"
     pub fn bucket_size(self) -> usize
         requires { ⌜ allowed (paper self) ≡ true ⌝ }
         ensures { λ r. ⌜ r ≡ bucket-size (card self) ⌝ }
     {
-        1 + self.record_size() * self.room
+        self.with_records(1, self.room)
     }
 
     // "2 + 17 × N bytes"
@@ -148,7 +157,7 @@ impl Settings {
         requires { ⌜ allowed (paper self) ≡ true ⌝ }
         ensures { λ r. ⌜ r ≡ ledger-length (card self) ⌝ }
     {
-        2 + self.record_size() * self.capacity
+        self.with_records(2, self.capacity)
     }
 
     // "m 16-bit numbers"
@@ -180,7 +189,7 @@ impl Settings {
         requires { ⌜ allowed (paper self) ≡ true ⌝ }
         ensures { λ r. ⌜ r ≡ side-length (card self) ⌝ }
     {
-        2 + self.record_size() * self.side_places
+        self.with_records(2, self.side_places)
     }
 
     // "2 × m 16-bit numbers"
