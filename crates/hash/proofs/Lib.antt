@@ -1,6 +1,5 @@
 pub mod Constants
 pub mod Xor
-pub mod Bounds
 pub mod RowLaws
 pub mod Doubling
 pub mod DigitLaws

@@ -1,6 +1,6 @@
 -- Laws of bucket numbers: repeats dropped, none lost.
 use mathlib.Core.Path.{_≡_, refl, sym, ap, _∙_}
-use mathlib.Core.Bool.{Bool, true, false, not, _&&_, _||_, true≢false}
+use mathlib.Core.Bool.{Bool, true, false, not, _&&_, true≢false}
 use mathlib.Core.List.{List, [], _∷_}
 use Prim.Native.Nat.{ℕ}
 use lib.Dec.{eqb}
@@ -26,14 +26,6 @@ fresh-distinct seen [] = refl
 fresh-distinct seen (x ∷ xs) =
     by-test (has x seen) (λ e. rw e (fresh-distinct seen xs))
     (λ e. rw (e, fresh-new x (x ∷ seen) xs (rw (eq-eqb x x refl))) (fresh-distinct (x ∷ seen) xs))
-
--- each number is kept, or was seen
-pub fresh-has : (b : ℕ) (seen l : List ℕ) → (has b seen || has b (fresh seen l)) ≡ (has b seen || has b l)
-fresh-has b seen [] = refl
-fresh-has b seen (x ∷ xs) =
-    by-test (has x seen)
-    (λ e. rw e (by-test (eqb b x) (λ q. rw (q, ap (λ (y : ℕ). has y seen) (eqb-true b x q) ∙ e)) (λ q. rw q (fresh-has b seen xs))))
-    (λ e. rw e (by-test (eqb b x) (λ q. rw q) (λ q. rw q (rw q at (fresh-has b (x ∷ seen) xs)))))
 
 -- what holds of each number holds of each that is kept
 pub fresh-all : (P : ℕ → Type 0) (seen l : List ℕ) → All P l → All P (fresh seen l)

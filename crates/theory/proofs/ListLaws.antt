@@ -140,10 +140,6 @@ module _ {A : Type 0} where
   any-none p [] e = tt
   any-none p (x ∷ xs) e = by-test (p x) (λ q. absurd (true≢false (rw q at e))) (λ q. (q, any-none p xs (rw q at e)))
 
-  pub all-true : (p : A → Bool) (l : List A) → All (λ x. p x ≡ true) l → all p l ≡ true
-  all-true p [] h = refl
-  all-true p (x ∷ xs) h = rw (h .0) (all-true p xs (h .1))
-
   pub all-each : (p : A → Bool) (l : List A) → all p l ≡ true → All (λ x. p x ≡ true) l
   all-each p [] e = tt
   all-each p (x ∷ xs) e = (and-left (p x) (all p xs) e, all-each p xs (and-right (p x) (all p xs) e))
