@@ -15,8 +15,8 @@ use Rattle.theory.proofs.ListLaws.{by-test}
 use Rattle.theory.proofs.ByteLaws.{Fit, read-records}
 use Rattle.memory.proofs.SliceLaws.{tail-is}
 use Rattle.placing.specs.Worked.{parts}
-use Rattle.update.specs.declared.Edit.{Edit}
-use Rattle.update.specs.declared.Edit.the-variants.{Insert, Replace, Remove}
+use Rattle.update.specs.declared.editing.Edit.{Edit}
+use Rattle.update.specs.declared.editing.Edit.the-variants.{Insert, Replace, Remove}
 use Rattle.update.specs.Editing.{edit-call, edited, brings, leaves-out, by-list, Fits}
 
 -- ---- records of a part

@@ -6,6 +6,7 @@ use lib.ListN.{length, take}
 use lib.Seq.{length-take-le}
 use Rattle.theory.specs.Settings.{Settings, card-of}
 use Rattle.theory.specs.Layout.{Areas}
+use Rattle.theory.specs.CallAreas.{areas-now}
 use Rattle.theory.proofs.SettingsLaws.{ranges}
 use Rattle.settings.specs.Checked.{paper}
 use Rattle.settings.proofs.Laws.{record-most, capacity-is}
@@ -22,14 +23,7 @@ module _ (c : tie.Start) where
   t = paper (c .args .s)
 
   abbrev areas : Areas
-  areas =
-      record {
-        ledger = c .args .ledger .now;
-        true-counts = c .args .true-counts .now;
-        clipped-counts = c .args .clipped .now;
-        buckets = c .args .buckets .now;
-        side-store = c .args .side .now;
-      }
+  areas = areas-now (c .args .ledger) (c .args .true-counts) (c .args .clipped) (c .args .buckets) (c .args .side)
 
 -- ---- the key has the right width, and the size of a record is known
 module _ (c : tie.After-record-size) where
@@ -57,7 +51,7 @@ module _ (c : tie.After-record-of) where
   m = sized .before .buckets .result
 
   halves : length (e .args .work .now) ≡ m + m
-  halves = double (card-of (t e)) (e .args .work .now) m (sized .before .buckets .ensures) (e .pre .1)
+  halves = double (card-of (t e)) (e .args .work .now) m (sized .before .buckets .ensures) (e .pre .words)
 
   in-buffer : length (take (sized .record-size .result) (c .record-of .result)) ≡ sized .record-size .result
   in-buffer = length-take-le (sized .record-size .result) (c .record-of .result) (omega (arith, c .record-of .ensures .1, small sized))
@@ -81,11 +75,11 @@ judge-requires c κs =
     let opened = c .before .before .before .before in
     let e = e opened in
     record {
-      ready = e .pre .0;
+      ready = e .pre .ready;
       buckets = sized opened .before .buckets .ensures;
       halves = halves opened;
-      choices = omega (arith, ranges (t e) (e .pre .0 .ok) .capacity-high, capacity-is (t e));
-      whole = e .pre .2 .ledger;
+      choices = omega (arith, ranges (t e) (e .pre .ready .ok) .capacity-high, capacity-is (t e));
+      whole = e .pre .sized .ledger;
       wide = wide (sized opened);
       written = opened .record-of .ensures .0;
     }
@@ -104,12 +98,12 @@ write-new-requires c κs =
     let opened = opened good in
     let e = e opened in
     record {
-      ok = e .pre .0 .ok;
+      ok = e .pre .ready .ok;
       buckets = sized opened .before .buckets .ensures;
       halves = good .before .before .before .before .judge .kept .1 .1 .1 .0 ∙ halves opened;
       wide = wide (sized opened);
       written = opened .record-of .ensures .0;
-      sized = e .pre .2;
+      sized = e .pre .sized;
       planned = planned good;
     }
 
@@ -120,7 +114,7 @@ returns-3 c =
     let judge = good .before .before .before .before .judge in
     let e = e (opened good) in
     updated-made (card-of (t e)) (e .args .edit) (e .args .key .now) (e .args .class) (areas e) (wide (sized (opened good)))
-    (sym (judge .ensures .0) ∙ good .if2 .left) (planned good .valid) _ (write .write-new .ensures)
+    (sym (judge .ensures .0) ∙ good .if2 .left) (planned good .valid) (write .write-new .ensures)
 
 pub update-checked-spec : {M : Type 1} → statement M
 update-checked-spec =

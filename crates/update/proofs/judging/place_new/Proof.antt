@@ -1,4 +1,4 @@
--- `update::place_new` meets its contract: the list that the edit would make is what its three areas hold.
+-- `update::judging::place_new` meets its contract: the list that the edit would make is what its three areas hold.
 use mathlib.Core.Path.{_≡_, sym, ap, _∙_}
 use mathlib.Core.List.{List, _++_}
 use Prim.Native.Nat.{ℕ, _+_, _-_, _≤_}
@@ -6,18 +6,18 @@ use native.Mathlib.Omega.{arith}
 use lib.ListN.{length, take, drop}
 use lib.Seq.{length-take-le}
 use Rattle.theory.specs.Settings.{Card}
-use Rattle.theory.specs.Records.{Record, records, record-bytes}
+use Rattle.theory.specs.Records.{Record, record-bytes}
 use Rattle.theory.proofs.SettingsLaws.{sound}
 use Rattle.theory.proofs.ByteLaws.{Fit}
 use Rattle.memory.proofs.SliceLaws.{front-length, front-take}
 use Rattle.settings.specs.Checked.{paper, card}
 use Rattle.placing.specs.Worked.{Placed}
 use Rattle.placing.proofs.WorkLaws.{kept-within}
-use Rattle.update.specs.Editing.{edited, brings, leaves-out}
+use Rattle.update.specs.Editing.{edited-at, brings, leaves-out}
 use Rattle.update.proofs.EditKindLaws.{size-is, within, Around, from-within, after-within, first-room, mid-room, last-room, new-list, total-is}
 use borrow.Author.Needs.{needs}
-use Rattle.update.proofs.place_new.Statement.{statement}
-use Rattle.update.proofs.place_new.Tie as tie
+use Rattle.update.proofs.judging.place_new.Statement.{statement}
+use Rattle.update.proofs.judging.place_new.Tie as tie
 
 -- ---- the sizes are known
 module _ (c : tie.After-record-size) where
@@ -30,7 +30,7 @@ module _ (c : tie.After-record-size) where
   abbrev left : ℕ
   left = c .before .left-out .result
 
-  around : Around (s .width) (start .args .edit) (start .args .at) (start .args .n) (start .args .ledger .now) left (c .record-size .result)
+  around : Around (s .width) (start .args .edit) (start .args .at) (start .args .count) (start .args .ledger .now) left (c .record-size .result)
   around =
       record {
         fits = start .pre .place;
@@ -45,9 +45,9 @@ module _ (c : tie.After-brought) where
   e = start (c .before)
 
   abbrev total : ℕ
-  total = e .args .at + c .brought .result + (e .args .n - (e .args .at + left (c .before)))
+  total = e .args .at + c .brought .result + (e .args .count - (e .args .at + left (c .before)))
 
-  counted : total ≡ e .args .n - leaves-out (e .args .edit) + brings (e .args .edit)
+  counted : total ≡ e .args .count - leaves-out (e .args .edit) + brings (e .args .edit)
   counted = total-is (around (c .before)) (c .brought .result) (c .brought .ensures .0)
 
   in-kept : total ≤ length (e .args .kept .now)
@@ -81,8 +81,7 @@ module _ (c : tie.After-place-parts) where
   kept-first = front-take (total sized) (at .args .kept .now) choices (in-kept sized) choices-long
 
   placed : (x : Record) → record-bytes x ≡ at .args .«record» .now → Fit (s (sized .before) .width) x
-      → Placed (s (sized .before)) (at .args .m)
-      (edited (at .args .edit) (at .args .at) x (records (s (sized .before) .width) (at .args .n) (drop 2 (at .args .ledger .now)))) work choices
+      → Placed (s (sized .before)) (at .args .m) (edited-at (at .args .s) (at .args .edit) (at .args .at) x (at .args .count) (at .args .ledger .now)) work choices
   placed x f g =
       rw (new-list (around (sized .before)) (sized .brought .result) (sized .brought .ensures .0) (at .args .«record» .now) x f g) at
       (c .place-parts .ensures)
@@ -92,7 +91,7 @@ place-parts-requires : tie.Need-place-parts-requires
 place-parts-requires c κs =
     let sized = c .before .before .before .before in
     let e = e sized in
-    let few = within (e .args .edit) (e .args .at) (e .args .n) (e .pre .place) in
+    let few = within (e .args .edit) (e .args .at) (e .args .count) (e .pre .place) in
     record {
       ready = e .pre .ready;
       buckets = e .pre .buckets;
@@ -126,7 +125,7 @@ place-new-spec =
     tie.close
     (tie.spec
     (λ c κs. search needs)
-    (λ c. let e = c .before .before .before .before .before .before in omega (arith, within (e .args .edit) (e .args .at) (e .args .n) (e .pre .place)))
+    (λ c. let e = c .before .before .before .before .before .before in omega (arith, within (e .args .edit) (e .args .at) (e .args .count) (e .pre .place)))
     (λ c κs. search needs)
     (λ c. omega (arith, after-within (around c)))
     (λ c. omega (arith, after-within (around c)))

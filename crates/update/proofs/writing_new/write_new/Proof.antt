@@ -1,7 +1,8 @@
--- `update::write_new` meets its contract: the edited ledger holds the new list, and the writers lay that out.
-use mathlib.Core.Path.{refl, sym, ap, _∙_}
+-- `update::writing_new::write_new` meets its contract: the edited ledger holds the new list, and the writers lay that out.
+use mathlib.Core.Path.{sym, ap, _∙_}
 use mathlib.Core.List.{List}
 use Prim.Native.Nat.{ℕ}
+use native.Mathlib.Omega.{arith}
 use lib.ListN.{length}
 use lib.Seq.{length-take-le}
 use Rattle.theory.specs.Records.{Record}
@@ -12,12 +13,13 @@ use Rattle.settings.specs.Checked.{card}
 use Rattle.ledger.proofs.LedgerLaws.{has-count}
 use Rattle.ledger.proofs.LedgerEditLaws.{records-fit-width}
 use Rattle.memory.proofs.SliceLaws.{bytes-of}
+use Rattle.writing.proofs.LentRecordLaws.{lent-room, laid-out}
 use Rattle.update.specs.Editing.{edited-list}
 use Rattle.update.proofs.EditKindLaws.{size-is}
-use Rattle.update.proofs.WriteLaws.{plan-room, plan-fit, plan-kept, Written, long, lent-records, lent-room, laid-out}
+use Rattle.update.proofs.WriteLaws.{plan-room, plan-fit, plan-kept, Written, long, lent-list}
 use borrow.Author.Needs.{needs}
-use Rattle.update.proofs.write_new.Statement.{statement}
-use Rattle.update.proofs.write_new.Tie as tie
+use Rattle.update.proofs.writing_new.write_new.Statement.{statement}
+use Rattle.update.proofs.writing_new.write_new.Tie as tie
 
 -- ---- at entry
 module _ (c : tie.Start) where
@@ -57,24 +59,25 @@ module _ (c : tie.After-edit-ledger) where
 edit-ledger-requires : tie.Need-edit-ledger-requires
 edit-ledger-requires c κs =
     let e = c .before .before .before .before .before .before .before .before .before .before in
-    let p = e .pre .planned in (
-      record { permitted = e .pre .ok; size = e .pre .sized .ledger; rules = p .valid },
-      p .place,
-      plan-room p,
-      ap length (e .pre .written) ∙ length-record _ _ (new-fits e) ∙ sym (size-is (s e)),
-    )
+    let p = e .pre .planned in
+    record {
+      valid = record { permitted = e .pre .ok; size = e .pre .sized .ledger; rules = p .valid };
+      place = p .place;
+      room = plan-room p;
+      wide = ap length (e .pre .written) ∙ length-record _ _ (new-fits e) ∙ sym (size-is (s e));
+    }
 
 write-areas-requires : tie.Need-write-areas-requires
 write-areas-requires c κs =
     let ledger = c .before .before .before .before .before .before .before .before .before in
     let e = start ledger in
     let p = e .pre .planned in
-    let l = lent-records (written ledger) (e .args .plan .count) (p .count) in (
+    let l = lent-list (written ledger) (e .args .plan .count) (p .count) in (
       record {
         ok = e .pre .ok;
         buckets = e .pre .buckets;
         work-length = e .pre .halves;
-        records-fit = lent-room (written ledger) (e .args .plan .count) (p .count);
+        records-fit = lent-room _ (edited ledger) (long (written ledger)) _ (omega (arith, p .count, p .room));
         placed = rw l (p .placed);
       },
       rw l (p .need),
@@ -87,11 +90,11 @@ write-areas-requires c κs =
 
 returns : tie.Need-returns
 returns c =
-    let w = c .before .before .before .before .before .before .before .before in
-    let ledger = w .before .before .before .before .before .before .before .before .before .before in
-    let count = start ledger .pre .planned .count in
-    let is = w .write-areas .ensures in
-    laid-out (written ledger) (start ledger .args .plan .count) count _ _ _ _ _ refl (is .0) (is .1) (is .2) (is .3)
+    let areas = c .before .before .before .before .before .before .before .before in
+    let ledger = areas .before .before .before .before .before .before .before .before .before .before in
+    let all = lent-list (written ledger) (start ledger .args .plan .count) (start ledger .pre .planned .count) in
+    let is = areas .write-areas .ensures in
+    laid-out (s (start ledger)) all (written ledger .is) (is .0) (is .1) (is .2) (is .3)
 
 pub write-new-spec : {M : Type 1} → statement M
 write-new-spec =

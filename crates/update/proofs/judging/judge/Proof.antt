@@ -1,4 +1,4 @@
--- `update::judge` meets its contract: the ledger's rules, then the spot of the key, then the side need of the list that the edit would make.
+-- `update::judging::judge` meets its contract: the ledger's rules, then the spot of the key, then the side need of the list that the edit would make.
 -- What is known at a place of the code comes first, a section for each place; each need then cites it.
 use mathlib.Core.Path.{_≡_, sym, ap, _∙_}
 use mathlib.Core.Bool.{false}
@@ -24,8 +24,8 @@ use Rattle.update.specs.Editing.{edited, brings, leaves-out}
 use Rattle.update.proofs.PlanLaws.{Found, Accepted, ledger-room, place-fits, place-listed, place-inside, makes, made-length, made-few}
 use Rattle.update.proofs.PlanLaws.{judged-4, judged-by-list, judged-9, judged-0}
 use borrow.Author.Needs.{needs}
-use Rattle.update.proofs.judge.Statement.{statement}
-use Rattle.update.proofs.judge.Tie as tie
+use Rattle.update.proofs.judging.judge.Statement.{statement}
+use Rattle.update.proofs.judging.judge.Tie as tie
 
 -- ---- the ledger is judged
 module _ (c : tie.After-valid) where
