@@ -25,8 +25,8 @@ module _ (c : tie.Start) where
   abbrev kept : List ℕ
   kept = c .args .kept .now
 
-  lent-long : length (take (c .args .n) kept) ≡ c .args .n
-  lent-long = length-take-le (c .args .n) kept (c .pre .choices)
+  lent-long : length (take (c .args .count) kept) ≡ c .args .count
+  lent-long = length-take-le (c .args .count) kept (c .pre .choices)
 
 -- ---- the records are placed
 module _ (c : tie.After-place-parts) where
@@ -41,19 +41,19 @@ module _ (c : tie.After-place-parts) where
 
   -- kept with their choices
   abbrev back : List ℕ
-  back = choices ++ drop (start .args .n) (kept start)
+  back = choices ++ drop (start .args .count) (kept start)
 
-  choices-long : length choices ≡ start .args .n
+  choices-long : length choices ≡ start .args .count
   choices-long = c .place-parts .kept .1 .1 .1 .1 .1 .1 .1 .1 .1 .1 .0 ∙ lent-long start
 
-  back-long : start .args .n ≤ length back
-  back-long = omega (arith, front-length (start .args .n) (kept start) choices (start .pre .choices) choices-long, start .pre .choices)
+  back-long : start .args .count ≤ length back
+  back-long = omega (arith, front-length (start .args .count) (kept start) choices (start .pre .choices) choices-long, start .pre .choices)
 
-  kept-first : take (start .args .n) back ≡ choices
-  kept-first = front-take (start .args .n) (kept start) choices (start .pre .choices) choices-long
+  kept-first : take (start .args .count) back ≡ choices
+  kept-first = front-take (start .args .count) (kept start) choices (start .pre .choices) choices-long
 
-  placed : Placed (s start) (start .args .m) (records (s start .width) (start .args .n) (start .args .area .now)) work (take (start .args .n) back)
-  placed = rw kept-first (rw (one-part (s start .width) (start .args .n) (start .args .area .now)) at (c .place-parts .ensures))
+  placed : Placed (s start) (start .args .m) (records (s start .width) (start .args .count) (start .args .area .now)) work (take (start .args .count) back)
+  placed = rw kept-first (rw (one-part (s start .width) (start .args .count) (start .args .area .now)) at (c .place-parts .ensures))
 
 -- ---- the needs
 place-parts-requires : tie.Need-place-parts-requires
