@@ -55,7 +55,8 @@ module _ (w : ℕ) where
 -- ---- refusals of the list: by whether the key is held and how many flows are, then 9
 pub refusal-is : (t : Settings) (edit : Edit) (k : List ℕ) (x : ℕ) (l : List Record) → key-wrong (card-of t) k ≡ false
     → refusal (card-of t) (edit-call edit k x) l
-    ≡ cond (eqb (by-list t edit (held k l) (length l)) 0) (cond (side-short (card-of t) (next (card-of t) (edit-call edit k x) l)) 9 0) (by-list t edit (held k l) (length l))
+    ≡ cond (eqb (by-list t edit (held k l) (length l)) 0) (cond (side-short (card-of t) (next (card-of t) (edit-call edit k x) l)) 9 0)
+    (by-list t edit (held k l) (length l))
 unfolding refusal card-of
 refusal-is t Insert k x l e =
     rw e (by-test (held k l) (λ h. rw h) (λ h. rw h (by-test (leb (t .capacity) (length l)) (λ c. rw c) (λ c. rw c))))

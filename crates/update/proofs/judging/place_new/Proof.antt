@@ -3,49 +3,51 @@ use mathlib.Core.Path.{_≡_, sym, ap, _∙_}
 use mathlib.Core.List.{List, _++_}
 use Prim.Native.Nat.{ℕ, _+_, _-_, _≤_}
 use native.Mathlib.Omega.{arith}
+use borrow.Author.Needs.{needs}
 use lib.ListN.{length, take, drop}
 use lib.Seq.{length-take-le}
-use Rattle.theory.specs.Settings.{Card}
 use Rattle.theory.specs.Records.{Record, record-bytes}
+use Rattle.theory.specs.Settings.{Card}
 use Rattle.theory.proofs.SettingsLaws.{sound}
 use Rattle.theory.proofs.ByteLaws.{Fit}
-use Rattle.memory.proofs.SliceLaws.{front-length, front-take}
 use Rattle.settings.specs.Checked.{paper, card}
 use Rattle.placing.specs.Worked.{Placed}
 use Rattle.placing.proofs.WorkLaws.{kept-within}
+use Rattle.writing.proofs.LentRecordLaws.{FrontBack, front-back}
 use Rattle.update.specs.Editing.{edited-at, brings, leaves-out}
 use Rattle.update.proofs.EditKindLaws.{size-is, within, Around, from-within, after-within, first-room, mid-room, last-room, new-list, total-is}
-use borrow.Author.Needs.{needs}
 use Rattle.update.proofs.judging.place_new.Statement.{statement}
 use Rattle.update.proofs.judging.place_new.Tie as tie
 
--- ---- the sizes are known
-module _ (c : tie.After-record-size) where
+-- ---- how many records the edit leaves out
+module _ (c : tie.After-left-out) where
   abbrev start : tie.Start
-  start = c .before .before .before .before .before .before .before
+  start = c .before .before .before .before .before .before
 
   abbrev s : Card
   s = card (start .args .s)
 
-  abbrev left : ℕ
-  left = c .before .left-out .result
+  inside : (start .args .at ≤ start .args .count) × (start .args .at + leaves-out (start .args .edit) ≤ start .args .count)
+  inside = within (start .args .edit) (start .args .at) (start .args .count) (start .pre .place)
 
-  around : Around (s .width) (start .args .edit) (start .args .at) (start .args .count) (start .args .ledger .now) left (c .record-size .result)
-  around =
-      record {
-        fits = start .pre .place;
-        room = start .pre .room;
-        left = c .before .left-out .ensures .0;
-        size = c .record-size .ensures ∙ size-is s;
-      }
+-- ---- the size of a record
+around : (c : tie.After-record-size) → Around (s (c .before) .width) (start (c .before) .args .edit) (start (c .before) .args .at)
+    (start (c .before) .args .count) (start (c .before) .args .ledger .now) (c .before .left-out .result) (c .record-size .result)
+around c =
+    let pre = start (c .before) .pre in
+    let size = c .record-size .ensures ∙ size-is (s (c .before)) in
+    record { fits = pre .place; room = pre .room; left = c .before .left-out .ensures .0; size = size }
 
--- ---- and how many records the new list has
+-- ---- how many records it brings, and so the new list has
 module _ (c : tie.After-brought) where
+  abbrev left : tie.After-left-out
+  left = c .before .before
+
   abbrev e : tie.Start
-  e = start (c .before)
+  e = start left
 
   abbrev total : ℕ
-  total = e .args .at + c .brought .result + (e .args .count - (e .args .at + left (c .before)))
+  total = e .args .at + c .brought .result + (e .args .count - (e .args .at + left .left-out .result))
 
   counted : total ≡ e .args .count - leaves-out (e .args .edit) + brings (e .args .edit)
   counted = total-is (around (c .before)) (c .brought .result) (c .brought .ensures .0)
@@ -64,68 +66,60 @@ module _ (c : tie.After-place-parts) where
   abbrev choices : List ℕ
   choices = c .place-parts .last .1 .1 .1 .1 .1 .1 .1 .1 .1 .1 .0
 
-  abbrev work : List ℕ
-  work = c .place-parts .last .1 .1 .1 .0
+  kept-back : FrontBack (total sized) (at .args .kept .now) choices
+  kept-back = front-back (in-kept sized) (c .place-parts .kept .1 .1 .1 .1 .1 .1 .1 .1 .1 .1 .0)
 
-  -- kept with its choices
-  abbrev back : List ℕ
-  back = choices ++ drop (total sized) (at .args .kept .now)
-
-  choices-long : length choices ≡ total sized
-  choices-long = c .place-parts .kept .1 .1 .1 .1 .1 .1 .1 .1 .1 .1 .0 ∙ length-take-le (total sized) (at .args .kept .now) (in-kept sized)
-
-  back-long : total sized ≤ length back
-  back-long = omega (arith, front-length (total sized) (at .args .kept .now) choices (in-kept sized) choices-long, in-kept sized)
-
-  kept-first : take (total sized) back ≡ choices
-  kept-first = front-take (total sized) (at .args .kept .now) choices (in-kept sized) choices-long
-
-  placed : (x : Record) → record-bytes x ≡ at .args .«record» .now → Fit (s (sized .before) .width) x
-      → Placed (s (sized .before)) (at .args .m) (edited-at (at .args .s) (at .args .edit) (at .args .at) x (at .args .count) (at .args .ledger .now)) work choices
+  placed : (x : Record) → record-bytes x ≡ at .args .«record» .now → Fit (s (left sized) .width) x
+      → Placed (s (left sized)) (at .args .m) (edited-at (at .args .s) (at .args .edit) (at .args .at) x (at .args .count) (at .args .ledger .now))
+      (c .place-parts .last .1 .1 .1 .0) choices
   placed x f g =
       rw (new-list (around (sized .before)) (sized .brought .result) (sized .brought .ensures .0) (at .args .«record» .now) x f g) at
       (c .place-parts .ensures)
+
+-- and its choices are lent on
+abbrev placing : tie.After-side-need-arg → tie.After-place-parts
+placing c = c .before .before .before .before .before
 
 -- ---- the needs
 place-parts-requires : tie.Need-place-parts-requires
 place-parts-requires c κs =
     let sized = c .before .before .before .before in
-    let e = e sized in
-    let few = within (e .args .edit) (e .args .at) (e .args .count) (e .pre .place) in
+    let pre = e sized .pre in
     record {
-      ready = e .pre .ready;
-      buckets = e .pre .buckets;
-      halves = e .pre .halves;
+      ready = pre .ready;
+      buckets = pre .buckets;
+      halves = pre .halves;
       before = first-room (around (sized .before));
-      middle = mid-room _ (sized .brought .result) (sized .brought .ensures .1) (e .args .«record» .now) (e .pre .wide);
+      middle = mid-room _ (sized .brought .result) (sized .brought .ensures .1) (e sized .args .«record» .now) (pre .wide);
       after = last-room (around (sized .before));
-      few = omega (arith, sized .brought .ensures .1, few .0, e .pre .few);
-      places = length-take-le (total sized) (e .args .kept .now) (in-kept sized);
+      few = omega (arith, sized .brought .ensures .1, inside (left sized) .0, pre .few);
+      places = length-take-le (total sized) (e sized .args .kept .now) (in-kept sized);
     }
 
 side-need-requires : tie.Need-side-need-requires
 side-need-requires c κs =
-    let place = c .before .before .before .before .before .before in
+    let place = placing (c .before) in
     let pre = at place .pre in
     let right = sound (paper (at place .args .s)) (pre .ready .ok) in (
       pre .ready .ok,
       pre .buckets,
       place .place-parts .kept .1 .1 .1 .0 ∙ pre .halves,
-      λ i. rw (kept-first place) (kept-within right (pre .buckets) (place .place-parts .ensures) i),
+      λ i. rw (kept-back place .first) (kept-within right (pre .buckets) (place .place-parts .ensures) i),
     )
 
 returns : tie.Need-returns
 returns c =
-    let place = c .before .before .before .before .before .before .before in
-    let first = ap (λ (j : ℕ). take j (back place)) (sym (counted (sized place))) ∙ kept-first place in
-    λ x f g. (c .side-need .ensures _ (rw (kept-first place) (placed place x f g)), rw first (placed place x f g))
+    let place = placing (c .before .before) in
+    let back = choices place ++ drop (total (sized place)) (at place .args .kept .now) in
+    let first = ap (λ (j : ℕ). take j back) (sym (counted (sized place))) ∙ kept-back place .first in
+    λ x f g. (c .side-need .ensures _ (rw (kept-back place .first) (placed place x f g)), rw first (placed place x f g))
 
 pub place-new-spec : {M : Type 1} → statement M
 place-new-spec =
     tie.close
     (tie.spec
     (λ c κs. search needs)
-    (λ c. let e = c .before .before .before .before .before .before in omega (arith, within (e .args .edit) (e .args .at) (e .args .count) (e .pre .place)))
+    (λ c. omega (arith, inside c))
     (λ c κs. search needs)
     (λ c. omega (arith, after-within (around c)))
     (λ c. omega (arith, after-within (around c)))
@@ -140,10 +134,10 @@ place-new-spec =
     (λ c. after-within (around (c .before .before .before)))
     (λ c. search needs)
     (λ c. in-kept (c .before .before .before))
-    (λ c. sym (length-take-le (total (c .before .before .before .before)) _ (in-kept (c .before .before .before .before))))
+    (λ c. let sized = c .before .before .before .before in sym (length-take-le (total sized) _ (in-kept sized)))
     place-parts-requires
-    (λ c. back-long (c .before .before .before .before .before))
-    (λ c. let place = c .before .before .before .before .before .before in sym (ap length (kept-first place) ∙ choices-long place))
+    (λ c. kept-back (placing c) .room)
+    (λ c. let place = placing (c .before) in sym (ap length (kept-back place .first) ∙ kept-back place .long))
     side-need-requires
     (λ c. search needs)
     (λ c. search needs)
