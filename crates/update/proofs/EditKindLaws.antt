@@ -111,6 +111,4 @@ module _ {w : ℕ} {edit : Edit} {at n : ℕ} {a : List ℕ} {lo z : ℕ} (p : A
   total-is k ek = omega (arith, ek, p .left, within edit at n (p .fits))
 
 pub mid-room : (w k : ℕ) → k ≤ 1 → (rec : List ℕ) → length rec ≡ w + 4 → k * (w + 4) ≤ length rec
-mid-room w zero h rec e = rw zero-mul (omega arith)
-mid-room w (suc zero) h rec e = omega (arith, e)
-mid-room w (suc (suc k)) h rec e = absurd (omega arith)
+mid-room w k h rec e = omega (arith, mul-le-mul-right {m = k} {n = 1} (w + 4) h, e)

@@ -7,7 +7,7 @@ use native.Mathlib.Omega.{arith}
 use borrow.Author.Tests.{eq-eqb, ne-eqb}
 use lib.ListN.{length, take, drop, length-map, length-take}
 use Rattle.theory.specs.Records.{Record, records}
-use Rattle.theory.specs.Settings.{Card, ledger-length, work-length}
+use Rattle.theory.specs.Settings.{Card, ledger-length}
 use Rattle.theory.specs.Layout.{Areas, counted-places, layout}
 use Rattle.theory.proofs.ListLaws.{by-test, All, all-take, all-drop}
 use Rattle.theory.proofs.ByteLaws.{Fit}
@@ -72,11 +72,6 @@ module _ {s : Settings} {m : ℕ} {edit : Edit} {k : List ℕ} {x : ℕ} {ledger
   plan-kept =
       let taken : length (take (plan .count) kept) ≡ plan .count = ap length (p .placed .choices) ∙ rw length-map (sym (p .count)) in
       omega (arith, taken, length-take (plan .count) kept)
-
--- the work area has room for two numbers a bucket
-pub double : (c : Card) (work : List ℕ) (m : ℕ) → m ≡ c .buckets → length work ≡ work-length c → length work ≡ m + m
-unfolding work-length
-double c work m e size = omega (arith, e, size)
 
 -- ---- the call: 3, what judging refuses, or the layout of the new list
 module _ (c : Card) (edit : Edit) (k : List ℕ) (x : ℕ) (a : Areas) where

@@ -1,5 +1,4 @@
 -- `update::update` meets its contract: 1, 2, then the call on areas of their lengths with a table made once.
-use mathlib.Core.List.{List}
 use Prim.Native.Nat.{ℕ}
 use borrow.Author.Needs.{needs}
 use borrow.Author.Tests.{not-true, not-false}
@@ -16,41 +15,38 @@ use Rattle.update.proofs.PerformLaws.{performs-1, performs-2, performs-
 use Rattle.update.proofs.update.Statement.{statement}
 use Rattle.update.proofs.update.Tie as tie
 
--- ---- at entry
-module _ (c : tie.Start) where
-  abbrev t : plain.Settings
-  t = given-of (c .args .given)
+-- ---- the settings are judged
+module _ (c : tie.After-new) where
+  abbrev start : tie.Start
+  start = c .before .before .before .before .before .before .before .before
 
-  abbrev key : List ℕ
-  key = c .args .key .now
+  abbrev t : plain.Settings
+  t = given-of (start .args .given)
 
   abbrev words : ℕ
-  words = length (c .args .work .now)
+  words = length (start .args .work .now)
 
   abbrev areas : Areas
-  areas = areas-now (c .args .ledger) (c .args .true-counts) (c .args .clipped) (c .args .buckets) (c .args .side)
+  areas = areas-now (start .args .ledger) (start .args .true-counts) (start .args .clipped) (start .args .buckets) (start .args .side)
 
--- ---- the settings are judged, and allowed
-abbrev entry : tie.After-new → tie.Start
-entry c = c .before .before .before .before .before .before .before .before
-
+-- ---- they are allowed
 module _ (c : tie.After-known-told) where
-  abbrev start : tie.Start
-  start = entry (c .before .before .before)
+  abbrev new : tie.After-new
+  new = c .before .before .before
 
   abbrev s : Settings
   s = c .before .checked .given .0 .0
 
-  allowed-as : Permitted (t start) s
-  allowed-as = permitted (t start) (c .before .before .before .new .ensures) (c .before .checked .given .1)
+  allowed-as : Permitted (t new) s
+  allowed-as = permitted (t new) (new .new .ensures) (c .before .checked .given .1)
 
 -- ---- the lengths are judged
 module _ (c : tie.After-lengths-right) where
   abbrev known : tie.After-known-told
   known = c .before .before
 
-  abbrev e : tie.Start
-  e = start known
+  abbrev e : tie.After-new
+  e = new known
 
   tested : Tested (t e) (s known) (words e) (c .before .work-length .result) (areas e) (c .lengths-right .result)
   tested = record { settings = allowed-as known; words = c .before .work-length .ensures; areas = c .lengths-right .ensures }
@@ -58,15 +54,15 @@ module _ (c : tie.After-lengths-right) where
 -- ---- the needs
 returns : tie.Need-returns
 returns c =
-    let new = c .before .before in
-    let e = entry new in
-    let refused = refused-arm (t e) (new .new .result) (new .new .ensures) (c .enum-told .given .1) in
-    performs-1 (e .args .edit) (key e) (e .args .class) (t e) (words e) (areas e) refused
+    let e = c .before .before in
+    let asked = start e .args in
+    let refused = refused-arm (t e) (e .new .result) (e .new .ensures) (c .enum-told .given .1) in
+    performs-1 (asked .edit) (asked .key .now) (asked .class) (t e) (words e) (areas e) refused
 
 returns-2 : tie.Need-returns-2
 returns-2 c =
-    let e = e (c .before) in
-    performs-2 (e .args .edit) (key e) (e .args .class) (tested (c .before)) (not-true _ (c .if1 .taken))
+    let asked = start (e (c .before)) .args in
+    performs-2 (asked .edit) (asked .key .now) (asked .class) (tested (c .before)) (not-true _ (c .if1 .taken))
 
 update-checked-requires : tie.Need-update-checked-requires
 update-checked-requires c κs =
@@ -83,8 +79,9 @@ returns-3 : tie.Need-returns-3
 returns-3 c =
     let called = c .before .before .before .before .before .before .before .before .before .before .before .before in
     let right = called .before .before .before .before .before .before .before .before .before in
-    let e = e (right .before) in
-    performs-on (e .args .edit) (key e) (e .args .class) (tested (right .before)) (not-false _ (right .if1 .left)) (called .update-checked .ensures)
+    let asked = start (e (right .before)) .args in
+    let passed = not-false _ (right .if1 .left) in
+    performs-on (asked .edit) (asked .key .now) (asked .class) (tested (right .before)) passed (called .update-checked .ensures)
 
 pub update-spec : {M : Type 1} → statement M
 update-spec =

@@ -10,10 +10,10 @@ use Rattle.theory.specs.Layout.{Areas}
 use Rattle.theory.specs.CallAreas.{areas-now}
 use Rattle.theory.proofs.SettingsLaws.{ranges}
 use Rattle.settings.specs.Checked.{paper}
-use Rattle.settings.proofs.Laws.{record-most, capacity-is}
+use Rattle.settings.proofs.Laws.{record-most, capacity-is, work-length-is}
 use Rattle.update.specs.Editing.{Planned}
 use Rattle.update.proofs.EditKindLaws.{size-is}
-use Rattle.update.proofs.WriteLaws.{double, updated-3, updated-refused, updated-made}
+use Rattle.update.proofs.WriteLaws.{updated-3, updated-refused, updated-made}
 use Rattle.update.proofs.update_checked.Statement.{statement}
 use Rattle.update.proofs.update_checked.Tie as tie
 
@@ -46,7 +46,7 @@ module _ (c : tie.After-record-size) where
   small = omega (arith, c .record-size .ensures, record-most (t asked))
 
   halves : length (e .args .work .now) ≡ m + m
-  halves = double (card-of (t asked)) (e .args .work .now) m (c .before .buckets .ensures) (e .pre .words)
+  halves = omega (arith, e .pre .words, c .before .buckets .ensures, work-length-is (t asked))
 
 -- ---- its record is written at the start of a buffer
 module _ (c : tie.After-record-of) where
