@@ -2,7 +2,7 @@
 use lookup::searching::Answer;
 use settings::Given;
 use tally::Totals;
-use update::Edit;
+use update::editing::Edit;
 ghost use mathlib.Core.Path.{_≡_};
 ghost use lib.ListN.{length};
 ghost use Rattle.settings.specs.Checked.{given-of};

@@ -1,6 +1,6 @@
 // The doors that write: clear, add, change and remove. Each answers the number of the call, and writes every area or none.
 use settings::Given;
-use update::Edit;
+use update::editing::Edit;
 ghost use mathlib.Core.Path.{_≡_};
 ghost use lib.ListN.{length};
 ghost use Rattle.theory.specs.Ledger as calls;

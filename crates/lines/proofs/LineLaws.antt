@@ -19,7 +19,7 @@ use Rattle.tally.specs.declared.Totals.{Totals}
 use Rattle.lookup.specs.Answers.{answer-of}
 use Rattle.calls.specs.declared.Kind.{Kind}
 use Rattle.calls.specs.declared.Kind.the-variants.{Clear, Update, Search, Tally}
-use Rattle.update.specs.declared.Edit.the-variants.{Insert, Replace, Remove}
+use Rattle.update.specs.declared.editing.Edit.the-variants.{Insert, Replace, Remove}
 use Rattle.calls.specs.declared.Reply.{Reply}
 use Rattle.calls.specs.declared.Reply.the-variants.{Answered, Totalled}
 use Rattle.calls.specs.Data.{call-of, reply-of}

@@ -5,7 +5,7 @@ use lookup::searching::Answer;
 use settings::Given;
 use text::append_decimal;
 use text::append_letter;
-use update::Edit;
+use update::editing::Edit;
 ghost use mathlib.Core.Path.{_≡_};
 ghost use mathlib.Core.List.{List};
 ghost use Prim.Native.Nat.{ℕ, _+_, _-_, _*_, _≤_, _<_, min};

@@ -19,20 +19,32 @@ pub const SECOND_COUNT_AT: usize = 2 + 2 * SETTINGS;
 
 pub const HEAD: usize = SECOND_COUNT_AT + 2;
 
-// The side need of the n records that an area starts with, their work area and their choices.
+// The side need of the first `count` records of an area, their work area and their choices.
 fn place_area(
     s: Settings,
-    t: &[u64],
+    table: &[u64],
     m: usize,
     work: &mut [u16],
     kept: &mut [u16],
     area: &[u8],
-    n: usize,
+    count: usize,
 ) -> usize
-    requires { ⌜ PlacingArea s (now t) m (now work) (now kept) (now area) n ⌝ }
-    ensures { λ r. ⌜ (r ≡ side-need-of (card s) (records (card s .width) n (now (area .entry))))
-        × Placed (card s) m (records (card s .width) n (now (area .entry))) (now (work .exit)) (take n (now (kept .exit))) ⌝ }
+    requires { ⌜ PlacingArea s (now table) m (now work) (now kept) (now area) count ⌝ }
+    ensures { λ r. ⌜ (r ≡ side-need-of (card s) (records (card s .width) count (now (area .entry))))
+        × Placed (card s) m (records (card s .width) count (now (area .entry))) (now (work .exit)) (take count (now (kept .exit))) ⌝ }
 {
-    placing::place_parts(s, t, m, work, area, n, area, 0, area, 0, &mut kept[..n]);
-    placing::side_need(s, m, work, &kept[..n])
+    placing::place_parts(
+        s,
+        table,
+        m,
+        work,
+        area,
+        count,
+        area,
+        0,
+        area,
+        0,
+        &mut kept[..count],
+    );
+    placing::side_need(s, m, work, &kept[..count])
 }

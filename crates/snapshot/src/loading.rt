@@ -13,21 +13,14 @@ use settings::Settings;
 use settings::lengths::Lengths;
 use settings::lengths::lengths_right;
 ghost use mathlib.Core.Path.{_≡_};
-ghost use mathlib.Core.Bool.{true, false};
-ghost use Prim.Native.Nat.{_+_, _*_, _≤_};
 ghost use lib.ListN.{length};
-ghost use Rattle.theory.specs.Settings.{allowed, record-size, ledger-length, work-length};
 ghost use Rattle.theory.specs.Records.{records};
-ghost use Rattle.theory.specs.Ledger.{side-need-of};
 ghost use Rattle.theory.specs.Layout.{Areas, counted-places, layout};
 ghost use Rattle.theory.specs.Snapshot as plain;
-ghost use Rattle.theory.specs.Snapshot.{file-settings, head-wrong, not-loaded};
-ghost use Rattle.theory.proofs.CallLaws.{Sized};
+ghost use Rattle.theory.specs.Snapshot.{not-loaded};
 ghost use Rattle.theory.specs.CallAreas.{areas-now, entry-areas, exit-areas};
-ghost use Rattle.settings.specs.Checked.{paper, card};
-ghost use Rattle.placing.specs.Ready.{Ready};
-ghost use Rattle.writing.specs.Laying.{Laying};
-ghost use Rattle.snapshot.specs.Files.{loaded-of};
+ghost use Rattle.settings.specs.Checked.{card};
+ghost use Rattle.snapshot.specs.Files.{loaded-of, Filling, WritingList, Loading};
 
 // The answer, and the settings handed back: zeros when refused.
 pub struct Loaded {
@@ -51,19 +44,18 @@ fn not_loaded(number: u32) -> Loaded
     }
 }
 
-// The ledger area of n records that fill an area.
-fn write_ledger(s: Settings, ledger: &mut [u8], area: &[u8], n: usize)
-    requires { ⌜ (allowed (paper s) ≡ true) × (length (now ledger) ≡ ledger-length (card s)) × (n ≤ card s .capacity)
-        × (length (now area) ≡ record-size (card s) * n) ⌝ }
-    ensures { λ _. ⌜ now (ledger .exit) ≡ counted-places (card s) (card s .capacity) (records (card s .width) n (now (area .entry))) ⌝ }
+// The ledger area of `count` records that fill an area.
+fn write_ledger(s: Settings, ledger: &mut [u8], area: &[u8], count: usize)
+    requires { ⌜ Filling s (now ledger) (now area) count ⌝ }
+    ensures { λ _. ⌜ now (ledger .exit) ≡ counted-places (card s) (card s .capacity) (records (card s .width) count (now (area .entry))) ⌝ }
 {
-    let end = 2 + s.record_size() * n;
-    write_number(ledger, n);
+    let end = 2 + s.record_size() * count;
+    write_number(ledger, count);
     copy(&mut ledger[2..end], area);
     zero_fill(&mut ledger[end..]);
 }
 
-// The layout of n records that fill an area, in every area.
+// The layout of `count` records that fill an area, in every area.
 fn write_list(
     s: Settings,
     m: usize,
@@ -75,16 +67,14 @@ fn write_list(
     work: &[u16],
     kept: &[u16],
     area: &[u8],
-    n: usize,
+    count: usize,
     need: usize,
 )
-    requires { ⌜ Laying s m (now work) (now kept) (now area) n × (n ≤ card s .capacity) × (length (now area) ≡ record-size (card s) * n)
-        × (need ≡ side-need-of (card s) (records (card s .width) n (now area))) × (need ≤ card s .side-places)
-        × Sized (card s) (areas-now ledger «true_counts» clipped buckets side) ⌝ }
+    requires { ⌜ WritingList s m (areas-now ledger «true_counts» clipped buckets side) (now work) (now kept) (now area) count need ⌝ }
     ensures { λ _. ⌜ _≡_ {A = Areas} (exit-areas ledger «true_counts» clipped buckets side)
-        (layout (card s) (records (card s .width) n (now (area .entry)))) ⌝ }
+        (layout (card s) (records (card s .width) count (now (area .entry)))) ⌝ }
 {
-    write_ledger(s, ledger, area, n);
+    write_ledger(s, ledger, area, count);
     writing::write_areas(
         s,
         m,
@@ -95,7 +85,7 @@ fn write_list(
         buckets,
         side,
         area,
-        n,
+        count,
         need,
     );
 }
@@ -103,7 +93,7 @@ fn write_list(
 // With a file's allowed settings and areas of their lengths: 8, 12, 13, 9; else the layout is written.
 fn load_checked(
     s: Settings,
-    t: &[u64],
+    table: &[u64],
     file: &[u8],
     ledger: &mut [u8],
     true_counts: &mut [u16],
@@ -112,8 +102,7 @@ fn load_checked(
     side: &mut [u8],
     work: &mut [u16],
 ) -> Loaded
-    requires { ⌜ Ready s (now t) × (head-wrong (now file) ≡ false) × (paper s ≡ file-settings (now file)) × (length (now work) ≡ work-length (card s))
-        × Sized (card s) (areas-now ledger «true_counts» clipped buckets side) ⌝ }
+    requires { ⌜ Loading s (now table) (now file) (now work) (areas-now ledger «true_counts» clipped buckets side) ⌝ }
     ensures { λ r. ⌜ loaded-of r (exit-areas ledger «true_counts» clipped buckets side)
         ≡ plain.load (now (file .entry)) (length (now (work .entry)))
         (entry-areas ledger «true_counts» clipped buckets side) ⌝ }
@@ -122,11 +111,11 @@ fn load_checked(
     if number != 0 {
         return not_loaded(number);
     }
-    let n = count_at(&file[crate::SECOND_COUNT_AT..]);
+    let count = count_at(&file[crate::SECOND_COUNT_AT..]);
     let m = s.buckets();
     let area = &file[crate::HEAD..];
     let mut kept = [0u16; Settings::CAPACITY_MOST as usize];
-    let need = place_area(s, t, m, work, &mut kept[..], area, n);
+    let need = place_area(s, table, m, work, &mut kept[..], area, count);
     if s.side_places < need {
         return not_loaded(9);
     }
@@ -139,9 +128,9 @@ fn load_checked(
         buckets,
         side,
         work,
-        &kept[..n],
+        &kept[..count],
         area,
-        n,
+        count,
         need,
     );
     Loaded {

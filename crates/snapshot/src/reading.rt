@@ -66,14 +66,14 @@ pub fn refusal_by_file(s: Settings, file: &[u8]) -> u32
     requires { ⌜ (allowed (paper s) ≡ true) × (head-size ≤ length (now file)) ⌝ }
     ensures { λ r. ⌜ r ≡ by-file (paper s) (now (file .entry)) ⌝ }
 {
-    let n = count_at(&file[crate::SECOND_COUNT_AT..]);
-    if s.capacity < n {
+    let count = count_at(&file[crate::SECOND_COUNT_AT..]);
+    if s.capacity < count {
         return 8;
     }
-    if file.len() != crate::HEAD + s.record_size() * n {
+    if file.len() != crate::HEAD + s.record_size() * count {
         return 12;
     }
-    if !keys_rise(&file[crate::HEAD..], n, s.width()) {
+    if !keys_rise(&file[crate::HEAD..], count, s.width()) {
         return 13;
     }
     0

@@ -7,32 +7,29 @@ use settings::Checked;
 use settings::Given;
 use settings::Settings;
 ghost use mathlib.Core.Path.{_≡_};
-ghost use mathlib.Core.Bool.{true};
 ghost use Prim.Native.Nat.{_+_, _*_, _≤_, _<_};
 ghost use lib.ListN.{length};
 ghost use Rattle.theory.specs.Lists.{flat};
-ghost use Rattle.theory.specs.Settings.{allowed, record-size, ledger-length, work-length};
-ghost use Rattle.theory.specs.Records.{to-bytes, count-of};
+ghost use Rattle.theory.specs.Settings.{record-size};
+ghost use Rattle.theory.specs.Records.{to-bytes};
 ghost use Rattle.theory.specs.Calls.{ledger-records};
 ghost use Rattle.theory.specs.Snapshot as plain;
 ghost use Rattle.theory.specs.Snapshot.{head-size, Saved, snapshot};
 ghost use Rattle.theory.proofs.SnapshotLaws.{head};
 ghost use Rattle.settings.specs.Checked.{paper, given-of, card};
-ghost use Rattle.ledger.specs.Edits.{ValidLedger};
-ghost use Rattle.placing.specs.Ready.{Ready};
-ghost use Rattle.snapshot.specs.Files.{put-at};
+ghost use Rattle.snapshot.specs.Files.{put-at, WritingHead, CountedLedger, Saving};
 
-fn put_number(to: &mut [u8], at: usize, n: usize)
-    requires { ⌜ (at + 2 ≤ length (now to)) × (n < 65536) ⌝ }
-    ensures { λ _. ⌜ now (to .exit) ≡ put-at at n (now (to .entry)) ⌝ }
+fn put_number(to: &mut [u8], at: usize, number: usize)
+    requires { ⌜ (at + 2 ≤ length (now to)) × (number < 65536) ⌝ }
+    ensures { λ _. ⌜ now (to .exit) ≡ put-at at number (now (to .entry)) ⌝ }
 {
-    write_number(&mut to[at..], n);
+    write_number(&mut to[at..], number);
 }
 
 // "6 settings of two bytes in the order above", after their count; then the count of the records.
-fn write_head(s: Settings, to: &mut [u8], n: usize)
-    requires { ⌜ (allowed (paper s) ≡ true) × (length (now to) ≡ head-size) × (n < 65536) ⌝ }
-    ensures { λ _. ⌜ now (to .exit) ≡ flat (to-bytes 2) (head (paper s) n) ⌝ }
+fn write_head(s: Settings, to: &mut [u8], count: usize)
+    requires { ⌜ WritingHead s (now to) count ⌝ }
+    ensures { λ _. ⌜ now (to .exit) ≡ flat (to-bytes 2) (head (paper s) count) ⌝ }
 {
     put_number(to, 0, crate::SETTINGS);
     put_number(to, 2, s.p);
@@ -41,39 +38,45 @@ fn write_head(s: Settings, to: &mut [u8], n: usize)
     put_number(to, 8, s.top);
     put_number(to, 10, s.capacity);
     put_number(to, 12, s.side_places);
-    put_number(to, crate::SECOND_COUNT_AT, n);
+    put_number(to, crate::SECOND_COUNT_AT, count);
 }
 
-// The snapshot of the n records of a ledger.
-fn write_snapshot(s: Settings, target: &mut [u8], ledger: &[u8], n: usize)
-    requires { ⌜ ValidLedger s (now ledger) × (n ≡ count-of (now ledger)) × (length (now target) ≡ head-size + record-size (card s) * n) ⌝ }
+// The snapshot of the `count` records of a ledger.
+fn write_snapshot(s: Settings, target: &mut [u8], ledger: &[u8], count: usize)
+    requires { ⌜ CountedLedger s (now ledger) count × (length (now target) ≡ head-size + record-size (card s) * count) ⌝ }
     ensures { λ _. ⌜ now (target .exit) ≡ snapshot (paper s) (ledger-records (card s) (now (ledger .entry))) ⌝ }
 {
-    write_head(s, &mut target[..crate::HEAD], n);
-    let end = 2 + s.record_size() * n;
+    write_head(s, &mut target[..crate::HEAD], count);
+    let end = 2 + s.record_size() * count;
     copy(&mut target[crate::HEAD..], &ledger[2..end]);
 }
 
 // On allowed settings and areas of their lengths: 4, 9, 12; else the snapshot is written.
-fn save_checked(s: Settings, t: &[u64], ledger: &[u8], work: &mut [u16], target: &mut [u8]) -> u32
-    requires { ⌜ Ready s (now t) × (length (now work) ≡ work-length (card s)) × (length (now ledger) ≡ ledger-length (card s)) ⌝ }
+fn save_checked(
+    s: Settings,
+    table: &[u64],
+    ledger: &[u8],
+    work: &mut [u16],
+    target: &mut [u8],
+) -> u32
+    requires { ⌜ Saving s (now table) (now work) (now ledger) ⌝ }
     ensures { λ r. ⌜ _≡_ {A = Saved} (record { number = r; target = now (target .exit) })
         (plain.save (paper s) (now (ledger .entry)) (length (now (work .entry))) (now (target .entry))) ⌝ }
 {
     if !ledger::valid(s, ledger) {
         return 4;
     }
-    let n = count_at(ledger);
+    let count = count_at(ledger);
     let m = s.buckets();
     let mut kept = [0u16; Settings::CAPACITY_MOST as usize];
-    let need = place_area(s, t, m, work, &mut kept[..], &ledger[2..], n);
+    let need = place_area(s, table, m, work, &mut kept[..], &ledger[2..], count);
     if s.side_places < need {
         return 9;
     }
-    if target.len() != crate::HEAD + s.record_size() * n {
+    if target.len() != crate::HEAD + s.record_size() * count {
         return 12;
     }
-    write_snapshot(s, target, ledger, n);
+    write_snapshot(s, target, ledger, count);
     0
 }
 

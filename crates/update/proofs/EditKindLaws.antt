@@ -15,8 +15,8 @@ use Rattle.theory.proofs.ListLaws.{by-test}
 use Rattle.theory.proofs.ByteLaws.{Fit, read-records}
 use Rattle.memory.proofs.SliceLaws.{tail-is}
 use Rattle.placing.specs.Worked.{parts}
-use Rattle.update.specs.declared.Edit.{Edit}
-use Rattle.update.specs.declared.Edit.the-variants.{Insert, Replace, Remove}
+use Rattle.update.specs.declared.editing.Edit.{Edit}
+use Rattle.update.specs.declared.editing.Edit.the-variants.{Insert, Replace, Remove}
 use Rattle.update.specs.Editing.{edit-call, edited, brings, leaves-out, by-list, Fits}
 
 -- ---- records of a part
@@ -55,7 +55,8 @@ module _ (w : ℕ) where
 -- ---- refusals of the list: by whether the key is held and how many flows are, then 9
 pub refusal-is : (t : Settings) (edit : Edit) (k : List ℕ) (x : ℕ) (l : List Record) → key-wrong (card-of t) k ≡ false
     → refusal (card-of t) (edit-call edit k x) l
-    ≡ cond (eqb (by-list t edit (held k l) (length l)) 0) (cond (side-short (card-of t) (next (card-of t) (edit-call edit k x) l)) 9 0) (by-list t edit (held k l) (length l))
+    ≡ cond (eqb (by-list t edit (held k l) (length l)) 0) (cond (side-short (card-of t) (next (card-of t) (edit-call edit k x) l)) 9 0)
+    (by-list t edit (held k l) (length l))
 unfolding refusal card-of
 refusal-is t Insert k x l e =
     rw e (by-test (held k l) (λ h. rw h) (λ h. rw h (by-test (leb (t .capacity) (length l)) (λ c. rw c) (λ c. rw c))))
@@ -110,6 +111,4 @@ module _ {w : ℕ} {edit : Edit} {at n : ℕ} {a : List ℕ} {lo z : ℕ} (p : A
   total-is k ek = omega (arith, ek, p .left, within edit at n (p .fits))
 
 pub mid-room : (w k : ℕ) → k ≤ 1 → (rec : List ℕ) → length rec ≡ w + 4 → k * (w + 4) ≤ length rec
-mid-room w zero h rec e = rw zero-mul (omega arith)
-mid-room w (suc zero) h rec e = omega (arith, e)
-mid-room w (suc (suc k)) h rec e = absurd (omega arith)
+mid-room w k h rec e = omega (arith, mul-le-mul-right {m = k} {n = 1} (w + 4) h, e)

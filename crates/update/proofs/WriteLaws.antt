@@ -1,44 +1,34 @@
 -- Laws of writing the new list: what stands in the edited ledger is that list, and the five areas are its layout.
 use mathlib.Core.Path.{_≡_, sym, ap, _∙_}
 use mathlib.Core.Bool.{false}
-use mathlib.Core.List.{List, [], _∷_, _++_, map}
-use Prim.Native.Nat.{ℕ, zero, suc, _+_, _-_, _*_, _≤_}
+use mathlib.Core.List.{List, [], _∷_, _++_}
+use Prim.Native.Nat.{ℕ, _+_, _-_, _≤_}
 use native.Mathlib.Omega.{arith}
 use borrow.Author.Tests.{eq-eqb, ne-eqb}
-use lib.ListN.{length, take, drop, length-map, length-take, length-drop}
-use lib.Seq.{take-all}
-use Rattle.theory.specs.Lists.{upto}
+use lib.ListN.{length, take, drop, length-map, length-take}
 use Rattle.theory.specs.Records.{Record, records}
-use Rattle.theory.specs.Settings.{Card, ledger-length, work-length}
-use Rattle.theory.specs.Placing.{true-count}
-use Rattle.theory.specs.Layout.{Areas, places, counted-places, counter-bytes, buckets-bytes, side-bytes, layout, layout-by}
-use Rattle.theory.proofs.ListLaws.{by-test, All, all-drop}
+use Rattle.theory.specs.Settings.{Card, ledger-length}
+use Rattle.theory.specs.Layout.{Areas, counted-places, layout}
+use Rattle.theory.proofs.ListLaws.{by-test, All, all-take, all-drop}
 use Rattle.theory.proofs.ByteLaws.{Fit}
 use Rattle.theory.proofs.LayoutLaws.{read-places, after-count, length-counted}
-use Rattle.ledger.proofs.LedgerLaws.{has-count, records-room}
-use Rattle.memory.proofs.SliceLaws.{tail-is}
-use Rattle.update.specs.declared.Edit.{Edit}
-use Rattle.update.specs.declared.Edit.the-variants.{Insert, Replace, Remove}
-use Rattle.update.specs.declared.Plan.{Plan}
+use Rattle.writing.proofs.LentRecordLaws.{lent-records}
+use Rattle.update.specs.declared.editing.Edit.{Edit}
+use Rattle.update.specs.declared.editing.Edit.the-variants.{Insert, Replace, Remove}
+use Rattle.update.specs.declared.judging.Plan.{Plan}
 use Rattle.update.specs.Editing.{edit-call, edited, brings, leaves-out, judged-number, edited-list, Planned}
 use Rattle.settings.specs.declared.Settings.{Settings}
 use Rattle.settings.specs.Checked.{card}
-use Rattle.theory.specs.Lookup.{bare}
-use Rattle.theory.specs.Ledger.{key-wrong, next, refusal, answered}
+use Rattle.theory.specs.Ledger.{key-wrong, next, refusal}
 use Rattle.theory.specs.Calls.{ledger-records, ledger-invalid, update}
+use Rattle.theory.specs.CallAreas.{replied}
 use Rattle.update.proofs.EditKindLaws.{within}
 use Rattle.update.proofs.PlanLaws.{length-edited}
 
 -- ---- what holds of each record of a list and of the call's holds of each that an edit makes
-module _ {A : Type 0} (P : A → Type 0) where
-  all-append : (l m : List A) → All P l → All P m → All P (l ++ m)
-  all-append [] m a b = b
-  all-append (x ∷ xs) m a b = (a .0, all-append xs m (a .1) b)
-
-  all-take : (n : ℕ) (l : List A) → All P l → All P (take n l)
-  all-take zero l a = tt
-  all-take (suc n) [] a = tt
-  all-take (suc n) (x ∷ xs) a = (a .0, all-take n xs (a .1))
+all-append : {A : Type 0} (P : A → Type 0) (l m : List A) → All P l → All P m → All P (l ++ m)
+all-append P [] m a b = b
+all-append P (x ∷ xs) m a b = (a .0, all-append P xs m (a .1) b)
 
 pub all-edited : (P : Record → Type 0) (edit : Edit) (at : ℕ) (x : Record) (l : List Record) → P x → All P l → All P (edited edit at x l)
 all-edited P Insert at x l p a = all-append P (take at l) (x ∷ drop at l) (all-take P at l a) (p, all-drop P at l a)
@@ -56,26 +46,8 @@ module _ {c : Card} {l : List Record} {a : List ℕ} (w : Written c l a) where
   unfolding ledger-length
   long = rw (w .is) (length-counted c (c .capacity) l (w .fit) (w .few))
 
-  lent : take (length a - 2) (drop 2 a) ≡ places c (c .capacity) l
-  lent = take-all (length a - 2) (drop 2 a) (rw length-drop (omega arith)) ∙ rw (w .is, after-count c (c .capacity) l)
-
-  pub lent-records : (n : ℕ) → n ≡ length l → records (c .width) n (take (length a - 2) (drop 2 a)) ≡ l
-  lent-records n e = rw (lent, e) (read-places c (c .capacity) l (w .fit))
-
-  pub lent-room : (n : ℕ) → n ≡ length l → n * (c .width + 4) ≤ length (take (length a - 2) (drop 2 a))
-  lent-room n e = rw (tail-is 2 a (has-count c a long)) (records-room c a long n (omega (arith, w .few, e)))
-
-  -- ---- the five areas are the layout
-  pub laid-out : (n : ℕ) → n ≡ length l → (area trues clipped buckets side : List ℕ) → area ≡ take (length a - 2) (drop 2 a)
-      → trues ≡ map (true-count c (records (c .width) n area)) (upto 0 (c .buckets))
-      → clipped ≡ counter-bytes c (true-count c (records (c .width) n area))
-      → buckets ≡ buckets-bytes c (true-count c (records (c .width) n area)) (records (c .width) n area)
-      → side ≡ side-bytes c (true-count c (records (c .width) n area)) (records (c .width) n area)
-      → record { ledger = a; true-counts = trues; clipped-counts = clipped; buckets = buckets; side-store = side } ≡ layout c l
-  unfolding layout layout-by
-  laid-out n e area trues clipped buckets side ea et ec eb es =
-      let all : records (c .width) n area ≡ l = ap (records (c .width) n) ea ∙ lent-records n e in
-      rw (et, ec, eb, es, all, w .is)
+  pub lent-list : (n : ℕ) → n ≡ length l → records (c .width) n (take (length a - 2) (drop 2 a)) ≡ l
+  lent-list n e = lent-records c a long n ∙ rw (w .is, after-count c (c .capacity) l, e) (read-places c (c .capacity) l (w .fit))
 
 -- ---- what a plan says of the list that it makes
 module _ {s : Settings} {m : ℕ} {edit : Edit} {k : List ℕ} {x : ℕ} {ledger work kept : List ℕ} {plan : Plan}
@@ -101,20 +73,15 @@ module _ {s : Settings} {m : ℕ} {edit : Edit} {k : List ℕ} {x : ℕ} {ledger
       let taken : length (take (plan .count) kept) ≡ plan .count = ap length (p .placed .choices) ∙ rw length-map (sym (p .count)) in
       omega (arith, taken, length-take (plan .count) kept)
 
--- the work area has room for two numbers a bucket
-pub double : (c : Card) (work : List ℕ) (m : ℕ) → m ≡ c .buckets → length work ≡ work-length c → length work ≡ m + m
-unfolding work-length
-double c work m e size = omega (arith, e, size)
-
 -- ---- the call: 3, what judging refuses, or the layout of the new list
 module _ (c : Card) (edit : Edit) (k : List ℕ) (x : ℕ) (a : Areas) where
-  pub updated-3 : (length k ≡ c .width → ⊥) → record { reply = answered (bare 3); state = a } ≡ update c k (edit-call edit k x) a
+  pub updated-3 : (length k ≡ c .width → ⊥) → replied 3 a ≡ update c k (edit-call edit k x) a
   unfolding update key-wrong
   updated-3 n = rw (ne-eqb (length k) (c .width) n)
 
   module _ (wide : length k ≡ c .width) where
     pub updated-refused : (n : ℕ) → n ≡ judged-number c (edit-call edit k x) (a .ledger) → (n ≡ 0 → ⊥)
-        → record { reply = answered (bare n); state = a } ≡ update c k (edit-call edit k x) a
+        → replied n a ≡ update c k (edit-call edit k x) a
     unfolding update key-wrong judged-number
     updated-refused n e some =
         by-test (ledger-invalid c (a .ledger))
@@ -122,9 +89,9 @@ module _ (c : Card) (edit : Edit) (k : List ℕ) (x : ℕ) (a : Areas) where
         (λ i. let q : n ≡ refusal c (edit-call edit k x) (ledger-records c (a .ledger)) = rw i at e in
         rw (eq-eqb (length k) (c .width) wide, i, ← q, ne-eqb n 0 some))
 
-    pub updated-made : judged-number c (edit-call edit k x) (a .ledger) ≡ 0 → ledger-invalid c (a .ledger) ≡ false → (b : Areas)
-        → b ≡ layout c (next c (edit-call edit k x) (ledger-records c (a .ledger))) → record { reply = answered (bare 0); state = b } ≡ update c k (edit-call edit k x) a
+    pub updated-made : judged-number c (edit-call edit k x) (a .ledger) ≡ 0 → ledger-invalid c (a .ledger) ≡ false → {b : Areas}
+        → b ≡ layout c (next c (edit-call edit k x) (ledger-records c (a .ledger))) → replied 0 b ≡ update c k (edit-call edit k x) a
     unfolding update key-wrong judged-number
-    updated-made e i b is =
+    updated-made e i is =
         let q : refusal c (edit-call edit k x) (ledger-records c (a .ledger)) ≡ 0 = rw i at e in
         rw (eq-eqb (length k) (c .width) wide, i, eq-eqb (refusal c (edit-call edit k x) (ledger-records c (a .ledger))) 0 q, is)

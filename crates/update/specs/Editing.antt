@@ -4,22 +4,22 @@ use mathlib.Core.Bool.{Bool, true, false, cond, not}
 use mathlib.Core.List.{List}
 use Prim.Native.Nat.{ℕ, _+_, _-_, _*_, _≤_, _<_}
 use lib.Dec.{leb}
-use lib.ListN.{length, take}
+use lib.ListN.{length, take, drop}
 use Rattle.theory.specs.Settings as plain
-use Rattle.theory.specs.Settings.{Card, allowed, ledger-length}
-use Rattle.theory.specs.Records.{class-width, Record, record-bytes}
+use Rattle.theory.specs.Settings.{Card, allowed, record-size, ledger-length, work-length}
+use Rattle.theory.specs.Records.{class-width, Record, records, record-bytes}
 use Rattle.theory.specs.Layout.{Areas}
 use Rattle.theory.specs.Ledger.{Call, add, change, remove, refusal, next, side-need-of}
 use Rattle.theory.specs.Calls.{ledger-records, ledger-invalid}
 use Rattle.theory.proofs.CallLaws.{Sized}
 use Rattle.settings.specs.declared.Settings.{Settings}
 use Rattle.settings.specs.Checked.{paper, card}
-use Rattle.ledger.specs.Edits.{inserted-at, removed-at, replaced-at}
+use Rattle.ledger.specs.Edits.{ValidLedger, inserted-at, removed-at, replaced-at}
 use Rattle.placing.specs.Ready.{Ready}
 use Rattle.placing.specs.Worked.{Placed}
-use Rattle.update.specs.declared.Edit.{Edit}
-use Rattle.update.specs.declared.Edit.the-variants.{Insert, Replace, Remove}
-use Rattle.update.specs.declared.Plan.{Plan}
+use Rattle.update.specs.declared.editing.Edit.{Edit}
+use Rattle.update.specs.declared.editing.Edit.the-variants.{Insert, Replace, Remove}
+use Rattle.update.specs.declared.judging.Plan.{Plan}
 
 -- ---- the call that an edit is
 abbrev pub edit-call : Edit → List ℕ → ℕ → Call
@@ -64,9 +64,13 @@ judged-number s c ledger = cond (ledger-invalid s ledger) 4 (refusal s c (ledger
 abbrev pub edited-list : Settings → Edit → List ℕ → ℕ → List ℕ → List Record
 edited-list s edit k x ledger = next (card s) (edit-call edit k x) (ledger-records (card s) ledger)
 
+-- what an edit makes, at a place, of the first n records of a ledger area
+abbrev pub edited-at : Settings → Edit → ℕ → Record → ℕ → List ℕ → List Record
+edited-at s edit at x n ledger = edited edit at x (records (card s .width) n (drop 2 ledger))
+
 -- what placing the new list asks, of n records in a ledger area: a place of the edit among them, and room in work and kept
-pub record PlacingNew (s : Settings) (t : List ℕ) (m : ℕ) (work kept ledger : List ℕ) (n : ℕ) (edit : Edit) (at : ℕ) (bytes : List ℕ) : Type 0 where
-  pub ready : Ready s t
+pub record PlacingNew (s : Settings) (table : List ℕ) (m : ℕ) (work kept ledger : List ℕ) (n : ℕ) (edit : Edit) (at : ℕ) (bytes : List ℕ) : Type 0 where
+  pub ready : Ready s table
   pub buckets : m ≡ card s .buckets
   pub halves : length work ≡ m + m
   pub choices : n - leaves-out edit + brings edit ≤ length kept
@@ -76,8 +80,8 @@ pub record PlacingNew (s : Settings) (t : List ℕ) (m : ℕ) (work kept ledger 
   pub wide : length bytes ≡ card s .width + class-width
 
 -- what judging asks: settings and a table that are ready, work, kept and ledger long enough, and the record of a key of the right width
-pub record Judging (s : Settings) (t : List ℕ) (m : ℕ) (work kept ledger k : List ℕ) (x : ℕ) (bytes : List ℕ) : Type 0 where
-  pub ready : Ready s t
+pub record Judging (s : Settings) (table : List ℕ) (m : ℕ) (work kept ledger k : List ℕ) (x : ℕ) (bytes : List ℕ) : Type 0 where
+  pub ready : Ready s table
   pub buckets : m ≡ card s .buckets
   pub halves : length work ≡ m + m
   pub choices : card s .capacity ≤ length kept
@@ -96,6 +100,13 @@ pub record Planned (s : Settings) (m : ℕ) (edit : Edit) (k : List ℕ) (x : �
   pub need : r .need ≡ side-need-of (card s) (edited-list s edit k x ledger)
   pub enough : r .need ≤ card s .side-places
 
+-- what editing the ledger area asks: its rules, the place of the edit in its list, room for the new list, and the size of the record
+pub record EditingLedger (s : Settings) (edit : Edit) (ledger : List ℕ) (at : ℕ) (bytes : List ℕ) : Type 0 where
+  pub valid : ValidLedger s ledger
+  pub place : Fits edit at (length (ledger-records (card s) ledger))
+  pub room : length (ledger-records (card s) ledger) + brings edit ≤ card s .capacity + leaves-out edit
+  pub wide : length bytes ≡ record-size (card s)
+
 -- what writing it asks: areas of their lengths, the record of a key of the right width, and the plan
 pub record Making (s : Settings) (m : ℕ) (edit : Edit) (k : List ℕ) (x : ℕ) (bytes : List ℕ) (areas : Areas) (work kept : List ℕ) (r : Plan) : Type 0 where
   pub ok : allowed (paper s) ≡ true
@@ -105,3 +116,9 @@ pub record Making (s : Settings) (m : ℕ) (edit : Edit) (k : List ℕ) (x : ℕ
   pub written : bytes ≡ record-bytes (record { key = k; class = x })
   pub sized : Sized (card s) areas
   pub planned : Planned s m edit k x (areas .ledger) work kept r
+
+-- what an edit asks once its settings and lengths are judged
+pub record Updating (s : Settings) (table work : List ℕ) (areas : Areas) : Type 0 where
+  pub ready : Ready s table
+  pub words : length work ≡ work-length (card s)
+  pub sized : Sized (card s) areas

@@ -1,54 +1,65 @@
 -- `update::clear` meets its contract: 1, 2, or the layout of the empty list.
 use mathlib.Core.Path.{sym, _∙_}
-use borrow.Author.Tests.{not-true, not-false}
-use Rattle.settings.specs.Checked.{given-of, card}
-use Rattle.settings.proofs.Laws.{allowed-arm, refused-arm, allowed-settings}
-use Rattle.settings.proofs.LengthLaws.{sized-by}
-use Rattle.update.proofs.PerformLaws.{clears-1, clears-2, clears}
 use borrow.Author.Needs.{needs}
+use borrow.Author.Tests.{not-true, not-false}
+use Rattle.theory.specs.Settings as plain
+use Rattle.theory.specs.Layout.{Areas}
 use Rattle.theory.specs.CallAreas.{areas-now}
+use Rattle.settings.specs.declared.Settings.{Settings}
+use Rattle.settings.specs.Checked.{given-of, card}
+use Rattle.settings.proofs.Laws.{refused-arm}
+use Rattle.settings.proofs.LengthLaws.{sized-by}
+use Rattle.writing.proofs.JudgedLaws.{Permitted, permitted, permits}
+use Rattle.update.proofs.PerformLaws.{clears-1, clears-2, clears}
 use Rattle.update.proofs.clear.Statement.{statement}
 use Rattle.update.proofs.clear.Tie as tie
 
+-- ---- the settings are judged
+module _ (c : tie.After-new) where
+  abbrev start : tie.Start
+  start = c .before .before .before .before .before .before
+
+  abbrev t : plain.Settings
+  t = given-of (start .args .given)
+
+  abbrev areas : Areas
+  areas = areas-now (start .args .ledger) (start .args .true-counts) (start .args .clipped) (start .args .buckets) (start .args .side)
+
+-- ---- they are allowed
+module _ (c : tie.After-known-told) where
+  abbrev new : tie.After-new
+  new = c .before .before .before
+
+  abbrev s : Settings
+  s = c .before .checked .given .0 .0
+
+  allowed-as : Permitted (t new) s
+  allowed-as = permitted (t new) (new .new .ensures) (c .before .checked .given .1)
+
+-- ---- the needs
 returns : tie.Need-returns
 returns c =
-    let start = c .before .before .before .before .before .before .before .before in
-    let new = c .before .before .new in
-    clears-1 (given-of (start .args .given)) (areas-now (start .args .ledger) (start .args .true-counts) (start .args .clipped) (start .args .buckets) (start .args .side)) (refused-arm (given-of (start .args .given)) (new .result) (new .ensures) (c .enum-told .given .1))
-
-lengths-right-requires : tie.Need-lengths-right-requires
-lengths-right-requires c κs =
-    let start = c .before .before .before .before .before .before .before .before .before in
-    let new = c .before .before .before .new in
-    let checked = c .before .checked in
-    allowed-settings (given-of (start .args .given)) (new .result) (new .ensures) (checked .given .0 .0) (checked .given .1)
+    let new = c .before .before in
+    clears-1 (t new) (areas new) (refused-arm (t new) (new .new .result) (new .new .ensures) (c .enum-told .given .1))
 
 returns-2 : tie.Need-returns-2
 returns-2 c =
-    let start = c .before .before .before .before .before .before .before .before .before .before .before in
-    let new = c .before .before .before .before .before .new in
-    let checked = c .before .before .before .checked in
-    let arm = allowed-arm (given-of (start .args .given)) (new .result) (new .ensures) (checked .given .0 .0) (checked .given .1) in clears-2 (given-of (start .args .given)) (areas-now (start .args .ledger) (start .args .true-counts) (start .args .clipped) (start .args .buckets) (start .args .side)) (arm .0) (checked .given .0 .0) (arm .1) (sym (c .before .lengths-right .ensures) ∙ not-true _ (c .if1 .taken))
+    let known = c .before .before in
+    clears-2 (allowed-as known) (areas (new known)) (c .before .lengths-right .ensures) (not-true _ (c .if1 .taken))
 
 clear-areas-requires : tie.Need-clear-areas-requires
 clear-areas-requires c κs =
-    let start = c .before .before .before .before .before .before .before .before .before .before .before .before .before .before .before .before in
-    let new = c .before .before .before .before .before .before .before .before .before .before .new in
-    let checked = c .before .before .before .before .before .before .before .before .checked in
-    let lengths-right = c .before .before .before .before .before .before .lengths-right in
-    let if1 = c .before .before .before .before .before .if1 in
-    let z = sized-by (card (checked .given .0 .0)) (areas-now (start .args .ledger) (start .args .true-counts) (start .args .clipped) (start .args .buckets) (start .args .side)) (sym (lengths-right .ensures) ∙ not-false _ (if1 .left)) in
-    (allowed-settings (given-of (start .args .given)) (new .result) (new .ensures) (checked .given .0 .0) (checked .given .1), z .ledger, z .true-counts, z .clipped-counts, z .buckets, z .side-store)
+    let right = c .before .before .before .before .before in
+    let known = right .before .before in
+    let z = sized-by (card (s known)) (areas (new known)) (sym (right .before .lengths-right .ensures) ∙ not-false _ (right .if1 .left)) in
+    (permits (allowed-as known), z .ledger, z .true-counts, z .clipped-counts, z .buckets, z .side-store)
 
 returns-3 : tie.Need-returns-3
 returns-3 c =
-    let start = c .before .before .before .before .before .before .before .before .before .before .before .before .before .before .before .before .before .before .before .before .before .before .before .before .before .before .before in
-    let new = c .before .before .before .before .before .before .before .before .before .before .before .before .before .before .before .before .before .before .before .before .before .new in
-    let checked = c .before .before .before .before .before .before .before .before .before .before .before .before .before .before .before .before .before .before .before .checked in
-    let lengths-right = c .before .before .before .before .before .before .before .before .before .before .before .before .before .before .before .before .before .lengths-right in
-    let if1 = c .before .before .before .before .before .before .before .before .before .before .before .before .before .before .before .before .if1 in
-    let clear-areas = c .before .before .before .before .before .before .before .before .before .before .clear-areas in
-    let arm = allowed-arm (given-of (start .args .given)) (new .result) (new .ensures) (checked .given .0 .0) (checked .given .1) in clears (given-of (start .args .given)) (areas-now (start .args .ledger) (start .args .true-counts) (start .args .clipped) (start .args .buckets) (start .args .side)) (arm .0) (checked .given .0 .0) (arm .1) (sym (lengths-right .ensures) ∙ not-false _ (if1 .left)) _ (clear-areas .ensures)
+    let cleared = c .before .before .before .before .before .before .before .before .before .before in
+    let right = cleared .before .before .before .before .before .before in
+    let known = right .before .before in
+    clears (allowed-as known) (areas (new known)) (right .before .lengths-right .ensures) (not-false _ (right .if1 .left)) (cleared .clear-areas .ensures)
 
 pub clear-spec : {M : Type 1} → statement M
 clear-spec =
@@ -58,7 +69,7 @@ clear-spec =
     (λ c. search needs)
     (λ c. search needs)
     returns
-    lengths-right-requires
+    (λ c κs. permits (allowed-as c))
     returns-2
     clear-areas-requires
     (λ c. search needs)

@@ -2,147 +2,157 @@
 use mathlib.Core.Path.{_≡_, sym, ap, _∙_}
 use Prim.Native.Nat.{ℕ, _+_, _≤_}
 use native.Mathlib.Omega.{arith}
+use borrow.Author.Needs.{needs}
 use lib.ListN.{length, take}
 use lib.Seq.{length-take-le}
 use Rattle.theory.specs.Settings.{Settings, card-of}
 use Rattle.theory.specs.Layout.{Areas}
+use Rattle.theory.specs.CallAreas.{areas-now}
 use Rattle.theory.proofs.SettingsLaws.{ranges}
 use Rattle.settings.specs.Checked.{paper}
-use Rattle.settings.proofs.Laws.{record-most, capacity-is}
+use Rattle.settings.proofs.Laws.{record-most, capacity-is, work-length-is}
 use Rattle.update.specs.Editing.{Planned}
 use Rattle.update.proofs.EditKindLaws.{size-is}
-use Rattle.update.proofs.WriteLaws.{double, updated-3, updated-refused, updated-made}
-use borrow.Author.Needs.{needs}
+use Rattle.update.proofs.WriteLaws.{updated-3, updated-refused, updated-made}
 use Rattle.update.proofs.update_checked.Statement.{statement}
 use Rattle.update.proofs.update_checked.Tie as tie
 
--- ---- at entry
-module _ (c : tie.Start) where
+-- ---- the key's width is judged
+module _ (c : tie.After-width) where
+  abbrev start : tie.Start
+  start = c .before .before .before .before .before .before .before .before .before
+
   abbrev t : Settings
-  t = paper (c .args .s)
+  t = paper (start .args .s)
 
   abbrev areas : Areas
-  areas =
-      record {
-        ledger = c .args .ledger .now;
-        true-counts = c .args .true-counts .now;
-        clipped-counts = c .args .clipped .now;
-        buckets = c .args .buckets .now;
-        side-store = c .args .side .now;
-      }
+  areas = areas-now (start .args .ledger) (start .args .true-counts) (start .args .clipped) (start .args .buckets) (start .args .side)
 
--- ---- the key has the right width, and the size of a record is known
+-- ---- it is right, and the size of a record is known
 module _ (c : tie.After-record-size) where
-  abbrev start : tie.Start
-  start = c .before .before .before .before .before .before .before .before .before .before .before .before
-
-  wide : length (start .args .key .now) ≡ card-of (t start) .width
-  wide = c .before .before .if1 .left ∙ c .before .before .before .width .ensures
-
-  size : c .record-size .result ≡ card-of (t start) .width + 4
-  size = c .record-size .ensures ∙ size-is (card-of (t start))
-
-  small : c .record-size .result ≤ 64
-  small = omega (arith, c .record-size .ensures, record-most (t start))
-
--- ---- its record is written
-module _ (c : tie.After-record-of) where
-  abbrev sized : tie.After-record-size
-  sized = c .before
+  abbrev asked : tie.After-width
+  asked = c .before .before .before
 
   abbrev e : tie.Start
-  e = start sized
+  e = start asked
 
   abbrev m : ℕ
-  m = sized .before .buckets .result
+  m = c .before .buckets .result
+
+  wide : length (e .args .key .now) ≡ card-of (t asked) .width
+  wide = c .before .before .if1 .left ∙ asked .width .ensures
+
+  small : c .record-size .result ≤ 64
+  small = omega (arith, c .record-size .ensures, record-most (t asked))
 
   halves : length (e .args .work .now) ≡ m + m
-  halves = double (card-of (t e)) (e .args .work .now) m (sized .before .buckets .ensures) (e .pre .1)
+  halves = omega (arith, e .pre .words, c .before .buckets .ensures, work-length-is (t asked))
 
-  in-buffer : length (take (sized .record-size .result) (c .record-of .result)) ≡ sized .record-size .result
-  in-buffer = length-take-le (sized .record-size .result) (c .record-of .result) (omega (arith, c .record-of .ensures .1, small sized))
+-- ---- its record is written at the start of a buffer
+module _ (c : tie.After-record-of) where
+  in-64 : c .before .record-size .result ≤ length (c .record-of .result)
+  in-64 = omega (arith, c .record-of .ensures .1, small (c .before))
 
--- ---- the call is judged, and refused nothing
-module _ (c : tie.Else2) where
+  in-buffer : length (take (c .before .record-size .result) (c .record-of .result)) ≡ c .before .record-size .result
+  in-buffer = length-take-le (c .before .record-size .result) (c .record-of .result) in-64
+
+-- ---- the call is judged
+module _ (c : tie.After-judge) where
   abbrev opened : tie.After-record-of
-  opened = c .before .before .before .before .before .before .before .before .before
+  opened = c .before .before .before .before .before
 
-  planned : Planned (e opened .args .s) (m opened) (e opened .args .edit) (e opened .args .key .now) (e opened .args .class) (e opened .args .ledger .now)
-      (c .before .before .before .before .judge .last .1 .1 .1 .0) (c .before .before .before .before .judge .last .1 .1 .1 .1 .0)
-      (c .before .before .before .before .judge .result)
-  planned = c .before .before .before .before .judge .ensures .1 (c .if2 .left)
+  abbrev sized : tie.After-record-size
+  sized = opened .before
+
+-- ---- and refused nothing
+module _ (c : tie.Else2) where
+  abbrev judged : tie.After-judge
+  judged = c .before .before .before .before
+
+  abbrev here : tie.Start
+  here = e (sized judged)
+
+  planned : Planned (here .args .s) (m (sized judged)) (here .args .edit) (here .args .key .now) (here .args .class) (here .args .ledger .now)
+      (judged .judge .last .1 .1 .1 .0) (judged .judge .last .1 .1 .1 .1 .0) (judged .judge .result)
+  planned = judged .judge .ensures .1 (c .if2 .left)
+
+-- ---- all is lent on
+abbrev good : tie.After-kept3 → tie.Else2
+good c = c .before .before .before .before .before .before .before
 
 -- ---- the needs
+returns : tie.Need-returns
+returns c =
+    let e = start (c .before) in
+    updated-3 (card-of (t (c .before))) (e .args .edit) (e .args .key .now) (e .args .class) (areas (c .before))
+    (λ w. c .if1 .taken (w ∙ sym (c .before .width .ensures)))
+
 record-of-requires : tie.Need-record-of-requires
-record-of-requires c κs = (size c ∙ ap (λ (w : ℕ). w + 4) (sym (wide c)), small c)
+record-of-requires c κs = (c .record-size .ensures ∙ size-is (card-of (t (asked c))) ∙ ap (λ (w : ℕ). w + 4) (sym (wide c)), small c)
 
 judge-requires : tie.Need-judge-requires
 judge-requires c κs =
     let opened = c .before .before .before .before in
-    let e = e opened in
+    let pre = e (opened .before) .pre in
+    let t = t (asked (opened .before)) in
     record {
-      ready = e .pre .0;
-      buckets = sized opened .before .buckets .ensures;
-      halves = halves opened;
-      choices = omega (arith, ranges (t e) (e .pre .0 .ok) .capacity-high, capacity-is (t e));
-      whole = e .pre .2 .ledger;
-      wide = wide (sized opened);
+      ready = pre .ready;
+      buckets = opened .before .before .buckets .ensures;
+      halves = halves (opened .before);
+      choices = omega (arith, ranges t (pre .ready .ok) .capacity-high, capacity-is t);
+      whole = pre .sized .ledger;
+      wide = wide (opened .before);
       written = opened .record-of .ensures .0;
     }
 
 returns-2 : tie.Need-returns-2
 returns-2 c =
     let judge = c .before .before .before .before in
-    let opened = judge .before .before .before .before .before in
-    let e = e opened in
-    updated-refused (card-of (t e)) (e .args .edit) (e .args .key .now) (e .args .class) (areas e) (wide (sized opened)) (judge .judge .result .number)
-    (judge .judge .ensures .0) (c .if2 .taken)
+    let at = sized judge in
+    updated-refused (card-of (t (asked at))) (e at .args .edit) (e at .args .key .now) (e at .args .class) (areas (asked at)) (wide at)
+    (judge .judge .result .number) (judge .judge .ensures .0) (c .if2 .taken)
 
 write-new-requires : tie.Need-write-new-requires
 write-new-requires c κs =
-    let good = c .before .before .before .before .before .before .before .before in
-    let opened = opened good in
-    let e = e opened in
+    let good = good (c .before) in
+    let judge = judged good in
     record {
-      ok = e .pre .0 .ok;
-      buckets = sized opened .before .buckets .ensures;
-      halves = good .before .before .before .before .judge .kept .1 .1 .1 .0 ∙ halves opened;
-      wide = wide (sized opened);
-      written = opened .record-of .ensures .0;
-      sized = e .pre .2;
+      ok = here good .pre .ready .ok;
+      buckets = sized judge .before .buckets .ensures;
+      halves = judge .judge .kept .1 .1 .1 .0 ∙ halves (sized judge);
+      wide = wide (sized judge);
+      written = opened judge .record-of .ensures .0;
+      sized = here good .pre .sized;
       planned = planned good;
     }
 
 returns-3 : tie.Need-returns-3
 returns-3 c =
     let write = c .before .before .before .before .before .before .before .before .before .before in
-    let good = write .before .before .before .before .before .before .before .before .before in
-    let judge = good .before .before .before .before .judge in
-    let e = e (opened good) in
-    updated-made (card-of (t e)) (e .args .edit) (e .args .key .now) (e .args .class) (areas e) (wide (sized (opened good)))
-    (sym (judge .ensures .0) ∙ good .if2 .left) (planned good .valid) _ (write .write-new .ensures)
+    let good = good (write .before .before) in
+    let at = sized (judged good) in
+    updated-made (card-of (t (asked at))) (e at .args .edit) (e at .args .key .now) (e at .args .class) (areas (asked at)) (wide at)
+    (sym (judged good .judge .ensures .0) ∙ good .if2 .left) (planned good .valid) (write .write-new .ensures)
 
 pub update-checked-spec : {M : Type 1} → statement M
 update-checked-spec =
     tie.close
     (tie.spec
     (λ c κs. search needs)
-    (λ c. let e = c .before .before .before .before .before .before .before .before .before .before in
-    updated-3 (card-of (t e)) (e .args .edit) (e .args .key .now) (e .args .class) (areas e) (λ w. c .if1 .taken (w ∙ sym (c .before .width .ensures))))
+    returns
     (λ c κs. search needs)
     (λ c κs. search needs)
     record-of-requires
     (λ c. search needs)
-    (λ c. let opened = c .before .before .before in omega (arith, opened .record-of .ensures .1, small (sized opened)))
+    (λ c. in-64 (c .before .before .before))
     (λ c. sym (in-buffer (c .before .before .before .before)))
     judge-requires
     (λ c. search needs)
     (λ c. search needs)
     returns-2
     (λ c. search needs)
-    (λ c. let opened = opened (c .before .before .before .before .before .before .before) in
-    omega (arith, opened .record-of .ensures .1, small (sized opened)))
-    (λ c. sym (in-buffer (opened (c .before .before .before .before .before .before .before .before))))
+    (λ c. in-64 (opened (judged (good c))))
+    (λ c. sym (in-buffer (opened (judged (good (c .before))))))
     write-new-requires
     (λ c. search needs)
     (λ c. search needs)

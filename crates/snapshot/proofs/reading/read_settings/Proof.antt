@@ -1,20 +1,21 @@
 -- `snapshot::reading::read_settings` meets its contract, field by field.
 use mathlib.Core.Path.{_∙_}
-use Rattle.snapshot.proofs.FileLaws.{settings-read}
 use borrow.Author.Needs.{needs}
+use Rattle.snapshot.proofs.FileLaws.{settings-read}
 use Rattle.snapshot.proofs.reading.read_settings.Statement.{statement}
 use Rattle.snapshot.proofs.reading.read_settings.Tie as tie
 
 returns : tie.Need-returns
 returns c =
-    let start = c .before .before .before .before .before .before .before .before in
-    let setting = c .before .before .before .before .before .before .setting in
-    let setting2 = c .before .before .before .before .before .setting2 in
-    let setting3 = c .before .before .before .before .setting3 in
-    let setting4 = c .before .before .before .setting4 in
-    let setting5 = c .before .before .setting5 in
-    let setting6 = c .before .setting6 in
-    (c .new .ensures) ∙ settings-read (start .args .file .now) (setting .result) (setting2 .result) (setting3 .result) (setting4 .result) (setting5 .result) (setting6 .result) (setting .ensures) (setting2 .ensures) (setting3 .ensures) (setting4 .ensures) (setting5 .ensures) (setting6 .ensures)
+    let side-places = c .before in
+    let capacity = side-places .before in
+    let top = capacity .before in
+    let room = top .before in
+    let k = room .before in
+    let p = k .before in
+    c .new .ensures
+    ∙ settings-read (p .before .before .args .file .now) (p .setting .ensures) (k .setting2 .ensures) (room .setting3 .ensures) (top .setting4 .ensures)
+    (capacity .setting5 .ensures) (side-places .setting6 .ensures)
 
 pub read-settings-spec : {M : Type 1} → statement M
 read-settings-spec =

@@ -1,68 +1,62 @@
 -- `snapshot::reading::refusal_by_file` meets its contract: each refusal is the definition's.
+use mathlib.Core.Path.{_≡_, sym, _∙_}
+use mathlib.Core.Bool.{Bool, true, false, cond, not}
+use mathlib.Core.List.{List}
+use Prim.Native.Nat.{ℕ, _*_, _≤_}
 use native.Mathlib.Omega.{arith}
-use borrow.Author.Tests.{not-true, not-false}
-use Rattle.settings.specs.Checked.{paper}
-use Rattle.snapshot.proofs.FileLaws.{few-bytes, count-lent, file-8, file-12, lent-fits, file-13, file-0}
 use borrow.Author.Needs.{needs}
+use borrow.Author.Tests.{not-true, not-false}
+use Rattle.theory.specs.Settings.{Settings}
+use Rattle.theory.specs.Snapshot.{file-count}
+use Rattle.settings.specs.Checked.{paper}
+use Rattle.snapshot.specs.Files.{by-file}
+use Rattle.snapshot.proofs.FileLaws.{few-bytes, count-lent, file-8, file-12, FullFile, lent-fits, file-13-0}
 use Rattle.snapshot.proofs.reading.refusal_by_file.Statement.{statement}
 use Rattle.snapshot.proofs.reading.refusal_by_file.Tie as tie
 
-returns : tie.Need-returns
-returns c =
-    let start = c .before .before .before .before .before in
-    let count-at = c .before .before .count-at in
-    file-8 (start .args .file .now) (paper (start .args .s)) (count-at .result) (count-lent (start .args .file .now) (start .pre .1) (count-at .result) (count-at .ensures .0)) (c .if1 .taken)
+-- ---- the records are counted
+module _ (c : tie.After-count-at) where
+  abbrev start : tie.Start
+  start = c .before .before .before
 
-mul-if2 : tie.Need-mul-if2
-mul-if2 c =
-    let start = c .before .before .before .before .before .before in
-    let count-at = c .before .before .before .count-at in
-    omega (arith, few-bytes (paper (start .args .s)) (start .pre .0) (c .record-size .result) (count-at .result) (c .record-size .ensures) (c .before .if1 .left))
+  abbrev t : Settings
+  t = paper (start .args .s)
 
-add-if2 : tie.Need-add-if2
-add-if2 c =
-    let start = c .before .before .before .before .before .before in
-    let count-at = c .before .before .before .count-at in
-    omega (arith, few-bytes (paper (start .args .s)) (start .pre .0) (c .record-size .result) (count-at .result) (c .record-size .ensures) (c .before .if1 .left))
+  abbrev file : List ℕ
+  file = start .args .file .now
 
+  count-is : c .count-at .result ≡ file-count file
+  count-is = count-lent file (start .pre .1) (c .count-at .ensures .0)
+
+-- ---- they are within the capacity, and the size of one is known
+module _ (c : tie.After-record-size) where
+  abbrev counted : tie.After-count-at
+  counted = c .before .before .before
+
+  small : c .record-size .result * counted .count-at .result ≤ 69632
+  small = few-bytes (t counted) (start counted .pre .0) _ _ (c .record-size .ensures) (c .before .if1 .left)
+
+-- ---- the file has their length
+module _ (c : tie.Else2) where
+  abbrev here : tie.After-count-at
+  here = counted (c .before)
+
+  full : FullFile (t here) (file here) (here .count-at .result) (c .before .record-size .result)
+  full = record { count = count-is here; few = c .before .before .if1 .left; sized = c .before .record-size .ensures; long = c .if2 .left }
+
+-- ---- whether their keys rise
+module _ (c : tie.After-keys-rise) where
+  abbrev right : tie.Else2
+  right = c .before .before .before
+
+  judged : (b : Bool) → c .keys-rise .result ≡ b → cond (not b) 13 0 ≡ by-file (t (here right)) (file (here right))
+  judged b e = file-13-0 (full right) (c .before .width .ensures) (sym e ∙ c .keys-rise .ensures)
+
+-- ---- the needs
 returns-2 : tie.Need-returns-2
 returns-2 c =
-    let start = c .before .before .before .before .before .before .before in
-    let count-at = c .before .before .before .before .count-at in
-    let if1 = c .before .before .if1 in
-    let record-size = c .before .record-size in
-    file-12 (start .args .file .now) (paper (start .args .s)) (count-at .result) (count-lent (start .args .file .now) (start .pre .1) (count-at .result) (count-at .ensures .0)) (if1 .left) (record-size .result) (record-size .ensures) (c .if2 .taken)
-
-keys-rise-requires : tie.Need-keys-rise-requires
-keys-rise-requires c κs =
-    let start = c .before .before .before .before .before .before .before .before .before in
-    let count-at = c .before .before .before .before .before .before .count-at in
-    let if1 = c .before .before .before .before .if1 in
-    let record-size = c .before .before .before .record-size in
-    let if2 = c .before .before .if2 in
-    rw (c .width .ensures) (lent-fits (start .args .file .now) (paper (start .args .s)) (count-at .result) (count-lent (start .args .file .now) (start .pre .1) (count-at .result) (count-at .ensures .0)) (if1 .left) (record-size .result) (record-size .ensures) (if2 .left))
-
-returns-3 : tie.Need-returns-3
-returns-3 c =
-    let start = c .before .before .before .before .before .before .before .before .before .before .before in
-    let count-at = c .before .before .before .before .before .before .before .before .count-at in
-    let if1 = c .before .before .before .before .before .before .if1 in
-    let record-size = c .before .before .before .before .before .record-size in
-    let if2 = c .before .before .before .before .if2 in
-    let width = c .before .before .width in
-    let keys-rise = c .before .keys-rise in
-    file-13 (start .args .file .now) (paper (start .args .s)) (count-at .result) (count-lent (start .args .file .now) (start .pre .1) (count-at .result) (count-at .ensures .0)) (if1 .left) (record-size .result) (record-size .ensures) (if2 .left) (width .result) (width .ensures) (keys-rise .result) (keys-rise .ensures) (not-true _ (c .if3 .taken))
-
-returns-4 : tie.Need-returns-4
-returns-4 c =
-    let start = c .before .before .before .before .before .before .before .before .before .before .before in
-    let count-at = c .before .before .before .before .before .before .before .before .count-at in
-    let if1 = c .before .before .before .before .before .before .if1 in
-    let record-size = c .before .before .before .before .before .record-size in
-    let if2 = c .before .before .before .before .if2 in
-    let width = c .before .before .width in
-    let keys-rise = c .before .keys-rise in
-    file-0 (start .args .file .now) (paper (start .args .s)) (count-at .result) (count-lent (start .args .file .now) (start .pre .1) (count-at .result) (count-at .ensures .0)) (if1 .left) (record-size .result) (record-size .ensures) (if2 .left) (width .result) (width .ensures) (keys-rise .result) (keys-rise .ensures) (not-false _ (c .if3 .left))
+    let here = counted (c .before) in
+    file-12 (t here) (file here) (count-is here) (c .before .before .if1 .left) (c .before .record-size .ensures) (c .if2 .taken)
 
 pub refusal-by-file-spec : {M : Type 1} → statement M
 refusal-by-file-spec =
@@ -72,15 +66,15 @@ refusal-by-file-spec =
     (λ c. search needs)
     (λ c. search needs)
     (λ c κs. search needs)
-    returns
+    (λ c. let n = c .before .before in file-8 (t n) (file n) (count-is n) (c .if1 .taken))
     (λ c κs. search needs)
-    mul-if2
-    add-if2
+    (λ c. omega (arith, small c))
+    (λ c. omega (arith, small c))
     returns-2
     (λ c. search needs)
     (λ c. search needs)
     (λ c. search needs)
     (λ c κs. search needs)
-    keys-rise-requires
-    returns-3
-    returns-4)
+    (λ c κs. rw (c .width .ensures) (lent-fits (full (c .before .before))))
+    (λ c. judged (c .before) false (not-true _ (c .if3 .taken)))
+    (λ c. judged (c .before) true (not-false _ (c .if3 .left))))

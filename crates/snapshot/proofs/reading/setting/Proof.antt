@@ -1,15 +1,15 @@
 -- `snapshot::reading::setting` meets its contract: two bytes of a part that runs to the end.
-use native.Mathlib.Omega.{arith}
 use Prim.Native.Nat.{_+_, _*_}
-use Rattle.snapshot.proofs.FileLaws.{number-lent}
+use native.Mathlib.Omega.{arith}
 use borrow.Author.Needs.{needs}
+use Rattle.snapshot.proofs.FileLaws.{number-lent}
 use Rattle.snapshot.proofs.reading.setting.Statement.{statement}
 use Rattle.snapshot.proofs.reading.setting.Tie as tie
 
 returns : tie.Need-returns
 returns c =
     let start = c .before .before .before in
-    number-lent (start .args .file .now) (2 + 2 * (start .args .i)) (omega (arith, start .pre .0, start .pre .1)) (c .count-at .result) (c .count-at .ensures .0)
+    number-lent (start .args .file .now) (2 + 2 * start .args .i) (omega (arith, start .pre .0, start .pre .1)) (c .count-at .ensures .0)
 
 pub setting-spec : {M : Type 1} → statement M
 setting-spec =

@@ -1,4 +1,4 @@
--- `update::judge` meets its contract: the ledger's rules, then the spot of the key, then the side need of the list that the edit would make.
+-- `update::judging::judge` meets its contract: the ledger's rules, then the spot of the key, then the side need of the list that the edit would make.
 -- What is known at a place of the code comes first, a section for each place; each need then cites it.
 use mathlib.Core.Path.{_≡_, sym, ap, _∙_}
 use mathlib.Core.Bool.{false}
@@ -24,8 +24,8 @@ use Rattle.update.specs.Editing.{edited, brings, leaves-out}
 use Rattle.update.proofs.PlanLaws.{Found, Accepted, ledger-room, place-fits, place-listed, place-inside, makes, made-length, made-few}
 use Rattle.update.proofs.PlanLaws.{judged-4, judged-by-list, judged-9, judged-0}
 use borrow.Author.Needs.{needs}
-use Rattle.update.proofs.judge.Statement.{statement}
-use Rattle.update.proofs.judge.Tie as tie
+use Rattle.update.proofs.judging.judge.Statement.{statement}
+use Rattle.update.proofs.judging.judge.Tie as tie
 
 -- ---- the ledger is judged
 module _ (c : tie.After-valid) where
@@ -104,6 +104,9 @@ module _ (c : tie.After-place-new) where
       rw (records-are _ _ _ (counted (spot at) .count-at .ensures .0)) at
       (c .place-new .ensures (new (entry at)) (sym (start (entry at) .pre .written)) (new-fits (entry at)))
 
+abbrev placing : tie.After-struct-known → tie.After-place-new
+placing c = c .before .before .before .before .before
+
 -- ---- the needs
 returns : tie.Need-returns
 returns c =
@@ -150,7 +153,7 @@ place-new-requires c κs =
 
 returns-3 : tie.Need-returns-3
 returns-3 c =
-    let place = c .before .before .before .before .before .before .before in
+    let place = placing (c .before .before) in
     let short = side-places-are (t (entry (at place))) in (
       c .refuse3 .ensures ∙ sym (judged-9 (accepted (at place)) _ (placed place .0) (omega (arith, c .before .if3 .taken, short))),
       λ z. absurd (omega (arith, c .refuse3 .ensures, z)),
@@ -158,7 +161,7 @@ returns-3 c =
 
 returns-4 : tie.Need-returns-4
 returns-4 c =
-    let place = c .before .before .before .before .before .before .before .before in
+    let place = placing (c .before .before .before) in
     let known = accepted (at place) in
     let t = t (entry (at place)) in
     let few = made-few known (omega (arith, n-few (counted (spot (at place))), capacity-is t)) in
@@ -197,8 +200,7 @@ judge-spec =
     (λ c. search needs)
     returns-3
     (λ c κs. search needs)
-    (λ c. let else2 = c .before .before .before .before .before .before .before .before .before .before in
-    omega (arith, place-inside (accepted else2), c .left-out .ensures .0))
+    (λ c. omega (arith, place-inside (accepted (at (placing (c .before .before)))), c .left-out .ensures .0))
     (λ c κs. search needs)
     (λ c. search needs)
     (λ c. search needs)

@@ -1,8 +1,8 @@
--- `update::refusal_by_list` meets its contract: by the edit and the two tests.
+-- `update::editing::refusal_by_list` meets its contract: by the edit and the two tests.
 use borrow.Author.Tests.{le-leb, lt-leb}
 use borrow.Author.Needs.{needs}
-use Rattle.update.proofs.refusal_by_list.Statement.{statement}
-use Rattle.update.proofs.refusal_by_list.Tie as tie
+use Rattle.update.proofs.editing.refusal_by_list.Statement.{statement}
+use Rattle.update.proofs.editing.refusal_by_list.Tie as tie
 
 returns-2 : tie.Need-returns-2
 returns-2 c = rw (c .before .before .before .enum-told .given .1, c .before .before .if1 .left, le-leb _ _ (c .if2 .taken))
