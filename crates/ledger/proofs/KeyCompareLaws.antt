@@ -18,7 +18,7 @@ use Rattle.memory.specs.Words.{low-first}
 use Rattle.memory.proofs.SliceLaws.{length-part}
 use Rattle.memory.proofs.ByteNumberLaws.{low-first-one}
 
-same-self : (l : List ℕ) → same-key l l ≡ true
+pub same-self : (l : List ℕ) → same-key l l ≡ true
 same-self [] = refl
 same-self (x ∷ xs) = rw (eq-eqb x x refl, same-self xs)
 

@@ -1,7 +1,7 @@
 -- `ledger::edits::close_gap` meets its contract: the loop keeps that the bytes up to j have moved down, the law `down-more`.
 use mathlib.Core.Path.{_≡_, refl, _∙_}
 use mathlib.Core.List.{List}
-use Prim.Native.Nat.{ℕ, _≤_, _-_, _+_}
+use Prim.Native.Nat.{ℕ, _≤_, _-_}
 use native.Mathlib.Omega.{arith}
 use lib.ListN.{length, length-set}
 use Rattle.ledger.specs.Edits.{moved-down}
