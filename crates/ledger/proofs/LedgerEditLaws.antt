@@ -186,7 +186,8 @@ module _ {s : Settings} {a : List ℕ} {size n at : ℕ} (p : Place s a size n a
       let fits : size ≤ length after + length (free s size n) = rw length-replicate (omega arith) in
       let fewer : size * (card s .capacity - n) - size ≡ size * (card s .capacity - (n + 1)) = omega arith in
       let left : drop size (free s size n) ≡ free s size (n + 1) = rw (zeros-drop, fewer) in
-      let longer : n + 1 ≡ length (inserted-at at x l) = rw (length-append, length-take-le at l (p .within), length-drop) (omega (arith, count-is, p .within)) in
+      let longer : n + 1 ≡ length (inserted-at at x l) =
+      rw (length-append, length-take-le at l (p .within), length-drop) (omega (arith, count-is, p .within)) in
       let made : back (2 + size * at) size g y ≡ front s a n at ++ (y ++ (after ++ drop size (free s size n))) =
       ap (λ (b : List ℕ). back (2 + size * at) size b y)
       (opened ∙ ap (moved-up size (2 + size * at) (2 + size * n)) (area-is (drop at l) (sym (take-append-drop at l))))

@@ -16,7 +16,7 @@ use Rattle.theory.specs.Records.{Record, count-of, records, same-key, key-below
 use Rattle.theory.specs.Settings.{Card, ledger-length}
 use Rattle.theory.specs.Ledger.{held, replace, without}
 use Rattle.theory.specs.Calls.{ledger-records, ledger-invalid}
-use Rattle.theory.proofs.ListLaws.{by-test, and-left, and-right, All, all-map, all-at, any-false}
+use Rattle.theory.proofs.ListLaws.{and-left, and-right, All, all-map, all-at, any-false}
 use Rattle.theory.proofs.OrderLaws.{key-below-trans, key-below-total, below-first-far}
 use Rattle.theory.proofs.PlacingLaws.{same-key-eq}
 use Rattle.theory.proofs.ByteLaws.{length-records}
@@ -24,7 +24,7 @@ use Rattle.theory.proofs.CallLaws.{valid}
 use Rattle.ledger.specs.declared.spots.Spot.{Spot}
 use Rattle.ledger.specs.Spots.{SpotOf}
 use Rattle.memory.proofs.SliceLaws.{tail-is}
-use Rattle.ledger.proofs.KeyCompareLaws.{same-self}
+use Rattle.ledger.proofs.KeyCompareLaws.{false-by, same-self}
 use Rattle.ledger.proofs.RisingLaws.{none, key-in, key-here}
 use Rattle.ledger.proofs.LedgerLaws.{has-count, records-room, records-are, records-rise}
 
@@ -35,15 +35,15 @@ below-self (x ∷ xs) = rw (le-ltb x x (le-refl x), eq-eqb x x refl, below-self 
 
 -- a key below k is not k, and k is not below it
 below-other : (k r : List ℕ) → key-below r k ≡ true → same-key k r ≡ false
-below-other k r h = by-test (same-key k r) (λ e. absurd (true≢false (sym h ∙ ap (key-below r) (same-key-eq k r e) ∙ below-self r))) (λ e. e)
+below-other k r h = false-by (same-key k r) (λ e. true≢false (sym h ∙ ap (key-below r) (same-key-eq k r e) ∙ below-self r))
 
 below-not-above : (k r : List ℕ) → key-below r k ≡ true → key-below k r ≡ false
-below-not-above k r h = by-test (key-below k r) (λ e. absurd (true≢false (sym (key-below-trans k r k e h) ∙ below-self k))) (λ e. e)
+below-not-above k r h = false-by (key-below k r) (λ e. true≢false (sym (key-below-trans k r k e h) ∙ below-self k))
 
 -- a key that is neither k nor below it is above it
 above-other : (k r : List ℕ) → key-below r k ≡ false → same-key k r ≡ false → key-below k r ≡ true
 above-other k r h n =
-    key-below-total r k h (by-test (same-key r k) (λ e. absurd (true≢false (sym (same-self k) ∙ ap (same-key k) (sym (same-key-eq r k e)) ∙ n))) (λ e. e))
+    key-below-total r k h (false-by (same-key r k) (λ e. true≢false (sym (same-self k) ∙ ap (same-key k) (sym (same-key-eq r k e)) ∙ n)))
 
 -- ---- lists that a test or a function leaves as they are
 module _ {A : Type 0} where
@@ -92,8 +92,7 @@ module _ (k : List ℕ) where
 
   above-all : (x : Record) (xs : List Record) → rising (x ∷ xs) ≡ true → NotBelow k x → All (NotBelow k) xs
   above-all x xs up e =
-      all-map (λ r f. by-test (key-below (r .key) k) (λ q. absurd (true≢false (sym (key-below-trans (x .key) (r .key) k f q) ∙ e))) (λ q. q)) xs
-      (above-first x xs up)
+      all-map (λ r f. false-by (key-below (r .key) k) (λ q. true≢false (sym (key-below-trans (x .key) (r .key) k f q) ∙ e))) xs (above-first x xs up)
 
   above-from : (l : List Record) (i : ℕ) → i < length l → rising l ≡ true → NotBelow k (getD l i none) → All (NotBelow k) (drop i l)
   above-from [] i h up e = absurd (omega arith)
@@ -104,7 +103,7 @@ module _ (k : List ℕ) where
   module _ (y : Record) (ys : List Record) (up : rising (y ∷ ys) ≡ true) (e : NotBelow k y) where
     others : All (λ r. same-key k (r .key) ≡ false) ys
     others =
-        all-map (λ r f. by-test (same-key k (r .key)) (λ q. absurd (true≢false (sym f ∙ ap (key-below (y .key)) (sym (same-key-eq k (r .key) q)) ∙ e))) (λ q. q)) ys
+        all-map (λ r f. false-by (same-key k (r .key)) (λ q. true≢false (sym f ∙ ap (key-below (y .key)) (sym (same-key-eq k (r .key) q)) ∙ e))) ys
         (above-first y ys up)
 
     held-first : held k (y ∷ ys) ≡ same-key k (y .key)
@@ -178,13 +177,16 @@ module _ {a : List ℕ} {n : ℕ} {k : List ℕ} {low high : ℕ} (g : Halving a
   long : length (list a n k) ≡ n
   long = length-records (length k) n a
 
+  listed-key : (i : ℕ) → i < n → getD (list a n k) i none .key ≡ key-in (length k) a i
+  listed-key i h = key-here (length k) n i a h
+
   pub halving-up : (i : ℕ) → i < high → key-below (key-in (length k) a i) k ≡ true → Halving a n k (i + 1) high
   halving-up i h e =
       record {
         order = omega arith;
         within = g .within;
         up = g .up;
-        before = rw add-one (below-up-to k (list a n k) i (omega (arith, g .within, long)) (g .up) (rw (key-here (length k) n i a (omega (arith, g .within))) e));
+        before = rw add-one (below-up-to k (list a n k) i (omega (arith, g .within, long)) (g .up) (rw (listed-key i (omega (arith, g .within))) e));
         after = g .after;
       }
 
@@ -195,7 +197,7 @@ module _ {a : List ℕ} {n : ℕ} {k : List ℕ} {low high : ℕ} (g : Halving a
         within = omega (arith, g .within);
         up = g .up;
         before = g .before;
-        after = above-from k (list a n k) i (omega (arith, g .within, long)) (g .up) (rw (key-here (length k) n i a (omega (arith, g .within))) e);
+        after = above-from k (list a n k) i (omega (arith, g .within, long)) (g .up) (rw (listed-key i (omega (arith, g .within))) e);
       }
 
   -- low and high have met: the place of the key
@@ -211,11 +213,13 @@ module _ {a : List ℕ} {n : ℕ} {k : List ℕ} {low high : ℕ} (g : Halving a
 
     pub found-here : low < n → (t : Bool) → t ≡ same-key k (key-in (length k) a low) → SpotOf (list a n k) k (record { held = t; at = low })
     found-here l t e =
-        let here : drop low (list a n k) ≡ getD (list a n k) low none ∷ drop (suc low) (list a n k) = drop-cons (list a n k) low none (omega (arith, long)) in
-        let up : rising (getD (list a n k) low none ∷ drop (suc low) (list a n k)) ≡ true = rw here at (rising-drop low (list a n k) (g .up)) in
-        let first : All (NotBelow k) (getD (list a n k) low none ∷ drop (suc low) (list a n k)) = rw here at cut in
+        let y : Record = getD (list a n k) low none in
+        let ys : List Record = drop (suc low) (list a n k) in
+        let here : drop low (list a n k) ≡ y ∷ ys = drop-cons (list a n k) low none (omega (arith, long)) in
+        let up : rising (y ∷ ys) ≡ true = rw here at (rising-drop low (list a n k) (g .up)) in
+        let first : All (NotBelow k) (y ∷ ys) = rw here at cut in
         cut-spot k t (list a n k) low (omega (arith, long)) (g .up) (g .before) cut
-        (rw here (e ∙ ap (same-key k) (sym (key-here (length k) n low a l)) ∙ sym (held-first k (getD (list a n k) low none) (drop (suc low) (list a n k)) up (first .0))))
+        (rw here (e ∙ ap (same-key k) (sym (listed-key low l)) ∙ sym (held-first k y ys up (first .0))))
 
 -- ---- a search among the places of a ledger area within the rules, lent from its third byte on, where n is its count
 module _ (c : Card) (a : List ℕ) (whole : length a ≡ ledger-length c) (rules : ledger-invalid c a ≡ false) (n : ℕ) (count : n ≡ count-of a) (k : List ℕ)
