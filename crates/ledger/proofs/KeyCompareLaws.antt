@@ -1,9 +1,9 @@
 -- What the loops over bytes ask: each test of two keys, or of the bytes of a part, from one place on, by the byte there and the test from the next;
 -- and of two keys by words of eight bytes.
-use mathlib.Core.Path.{_≡_, refl, sym, ap, _∙_}
+use mathlib.Core.Path.{_≡_, refl, sym, ap, ap₂, _∙_}
 use mathlib.Core.Bool.{Bool, true, false, _&&_, _||_, true≢false}
 use mathlib.Core.List.{List, [], _∷_, _++_}
-use Prim.Native.Nat.{ℕ, zero, suc, _+_, _≤_, _<_}
+use Prim.Native.Nat.{ℕ, _+_, _≤_, _<_}
 use native.Mathlib.Numerals.{add-one}
 use native.Mathlib.Omega.{arith}
 use lib.Dec.{eqb, ltb}
@@ -11,14 +11,19 @@ use borrow.Author.Tests.{eq-eqb, ne-eqb}
 use lib.ListN.{length, take, drop, getD, length-drop, drop-of-length-le, take-append-drop}
 use lib.Seq.{drop-cons, length-take-le, take-add, take-all, take-take}
 use Rattle.theory.specs.Records.{same-key, key-below}
-use Rattle.theory.proofs.ListLaws.{by-test, All, all-drop}
+use Rattle.theory.proofs.ListLaws.{by-test, and-left, and-right, All, all-take, all-drop}
 use Rattle.theory.proofs.ByteLaws.{Byte}
 use Rattle.theory.proofs.PlacingLaws.{same-key-eq}
 use Rattle.memory.specs.Words.{low-first}
 use Rattle.memory.proofs.SliceLaws.{length-part}
 use Rattle.memory.proofs.ByteNumberLaws.{low-first-one}
 
-same-self : (l : List ℕ) → same-key l l ≡ true
+-- a test that does not hold
+pub false-by : (t : Bool) → (t ≡ true → ⊥) → t ≡ false
+false-by true f = absurd (f refl)
+false-by false f = refl
+
+pub same-self : (l : List ℕ) → same-key l l ≡ true
 same-self [] = refl
 same-self (x ∷ xs) = rw (eq-eqb x x refl, same-self xs)
 
@@ -35,26 +40,25 @@ same-by-number a b n ba bb =
     by-test (same-key a b) (λ e. rw e (eq-eqb (low-first a) (low-first b) (ap low-first (same-key-eq a b e))))
     (λ e. rw e (ne-eqb (low-first a) (low-first b) (λ q. true≢false (sym (rw (low-first-one a b n ba bb q) (same-self b)) ∙ e))))
 
-all-take : (n : ℕ) (l : List ℕ) → All Byte l → All Byte (take n l)
-all-take zero l a = tt
-all-take (suc n) [] a = tt
-all-take (suc n) (x ∷ xs) a = (a .0, all-take n xs (a .1))
+-- the eight bytes of a key from a place on
+abbrev pub word : List ℕ → ℕ → List ℕ
+word a i = take 8 (drop i a)
 
--- eight bytes from a place on
 pub same-by-word : (a b : List ℕ) (i : ℕ) → All Byte a → All Byte b → i + 8 ≤ length a → i + 8 ≤ length b
-    → eqb (low-first (take 8 (drop i a))) (low-first (take 8 (drop i b))) ≡ same-key (take 8 (drop i a)) (take 8 (drop i b))
+    → eqb (low-first (word a i)) (low-first (word b i)) ≡ same-key (word a i) (word b i)
 same-by-word a b i ba bb ha hb =
-    same-by-number (take 8 (drop i a)) (take 8 (drop i b)) (length-part i 8 a ha ∙ sym (length-part i 8 b hb))
-    (all-take 8 (drop i a) (all-drop Byte i a ba)) (all-take 8 (drop i b) (all-drop Byte i b bb))
+    same-by-number (word a i) (word b i) (length-part i 8 a ha ∙ sym (length-part i 8 b hb))
+    (all-take Byte 8 (drop i a) (all-drop Byte i a ba)) (all-take Byte 8 (drop i b) (all-drop Byte i b bb))
 
 -- ---- two keys of one length, by words of eight bytes and the last eight bytes
 module _ (a b : List ℕ) (n : length a ≡ length b) where
   -- one word more
   pub same-word-more : (i : ℕ) (r : Bool) → i + 8 ≤ length a
-      → (same-key (take 8 (drop i a)) (take 8 (drop i b)) && (same-key (take i a) (take i b) && r)) ≡ (same-key (take (i + 8) a) (take (i + 8) b) && r)
+      → (same-key (word a i) (word b i) && (same-key (take i a) (take i b) && r)) ≡ (same-key (take (i + 8) a) (take (i + 8) b) && r)
   same-word-more i r h =
-      rw (take-add i 8 a, take-add i 8 b, same-parts (take i a) (take i b) (take 8 (drop i a)) (take 8 (drop i b)) (length-take-le i a (omega arith) ∙ sym (length-take-le i b (omega arith))))
-      (swap (same-key (take 8 (drop i a)) (take 8 (drop i b))) (same-key (take i a) (take i b)))
+      let long : length (take i a) ≡ length (take i b) = length-take-le i a (omega arith) ∙ sym (length-take-le i b (omega arith)) in
+      rw (take-add i 8 a, take-add i 8 b, same-parts (take i a) (take i b) (word a i) (word b i) long)
+      (swap (same-key (word a i) (word b i)) (same-key (take i a) (take i b)))
     where
       swap : (p q : Bool) → (p && (q && r)) ≡ ((q && p) && r)
       swap true true = refl
@@ -63,30 +67,21 @@ module _ (a b : List ℕ) (n : length a ≡ length b) where
       swap false false = refl
 
   -- words that reach the last eight bytes, and these
-  pub same-all : (last i : ℕ) → last + 8 ≡ length a → last ≤ i
-      → (same-key (take i a) (take i b) && same-key (take 8 (drop last a)) (take 8 (drop last b))) ≡ same-key a b
-  same-all last i e h = by-test (same-key a b) yes no
-    where
-      end-a : take 8 (drop last a) ≡ drop last a
-      end-a = take-all 8 (drop last a) (rw length-drop (omega arith))
+  module _ (last i : ℕ) (e : last + 8 ≡ length a) (h : last ≤ i) where
+    equal : (same-key (take i a) (take i b) && same-key (word a last) (word b last)) ≡ true → a ≡ b
+    equal q =
+        let front : take i a ≡ take i b = same-key-eq (take i a) (take i b) (and-left _ _ q) in
+        let end : word a last ≡ word b last = same-key-eq (word a last) (word b last) (and-right (same-key (take i a) (take i b)) _ q) in
+        let whole-a : word a last ≡ drop last a = take-all 8 (drop last a) (rw length-drop (omega arith)) in
+        let whole-b : word b last ≡ drop last b = take-all 8 (drop last b) (rw length-drop (omega arith)) in
+        sym (take-append-drop last a)
+        ∙ ap₂ (λ (p q : List ℕ). p ++ q) (sym (take-take last i a h) ∙ ap (take last) front ∙ take-take last i b h) (sym whole-a ∙ end ∙ whole-b)
+        ∙ take-append-drop last b
 
-      end-b : take 8 (drop last b) ≡ drop last b
-      end-b = take-all 8 (drop last b) (rw length-drop (omega arith))
-
-      yes : same-key a b ≡ true → (same-key (take i a) (take i b) && same-key (take 8 (drop last a)) (take 8 (drop last b))) ≡ same-key a b
-      yes q = rw (same-key-eq a b q, same-self (take i b), same-self (take 8 (drop last b)), same-self b)
-
-      equal : same-key (take i a) (take i b) ≡ true → same-key (drop last a) (drop last b) ≡ true → a ≡ b
-      equal p q =
-          let front : take last a ≡ take last b = sym (take-take last i a h) ∙ ap (take last) (same-key-eq (take i a) (take i b) p) ∙ take-take last i b h in
-          sym (take-append-drop last a) ∙ rw (front, same-key-eq (drop last a) (drop last b) q) (take-append-drop last b)
-
-      no : same-key a b ≡ false → (same-key (take i a) (take i b) && same-key (take 8 (drop last a)) (take 8 (drop last b))) ≡ same-key a b
-      no q =
-          rw (q, end-a, end-b)
-          (by-test (same-key (take i a) (take i b))
-          (λ p. rw p (by-test (same-key (drop last a) (drop last b)) (λ s. absurd (true≢false (sym (rw (equal p s) (same-self b)) ∙ q))) (λ s. s)))
-          (λ p. rw p))
+    pub same-all : (same-key (take i a) (take i b) && same-key (word a last) (word b last)) ≡ same-key a b
+    same-all =
+        by-test (same-key a b) (λ q. rw (same-key-eq a b q, same-self (take i b), same-self (word b last), same-self b))
+        (λ q. rw q (false-by (same-key (take i a) (take i b) && same-key (word a last) (word b last)) (λ p. true≢false (sym (rw (equal p) (same-self b)) ∙ q))))
 
 -- ---- two keys from a place on
 module _ (a b : List ℕ) (i : ℕ) where

@@ -1,35 +1,31 @@
 -- The three edits. A ledger area within the rules is the ledger area of its records (`valid-is`): a count, the records before a place, those from it on, zeros.
 -- So what the code moves, fills and counts is the ledger area of the new list.
-use mathlib.Core.Path.{_≡_, refl, sym, ap, _∙_, subst}
+use mathlib.Core.Path.{_≡_, refl, sym, ap, _∙_}
 use mathlib.Core.Bool.{false, not}
 use mathlib.Core.List.{List, [], _∷_, _++_, append-assoc}
-use Prim.Native.Nat.{ℕ, zero, suc, _+_, _-_, _*_, _≤_, _<_}
-use native.Mathlib.Nat.{sub-zero, add-sub-cancel-left, add-sub-of-le, mul-add, mul-suc, mul-sub, mul-comm, mul-le-mul-left}
+use Prim.Native.Nat.{ℕ, suc, _+_, _-_, _*_, _≤_, _<_}
+use native.Mathlib.Nat.{add-sub-cancel-left, mul-suc, mul-sub, mul-comm, mul-le-mul-left}
 use native.Mathlib.Numerals.{add-one}
 use native.Mathlib.Omega.{arith}
 use lib.Dec.{eqb}
 use borrow.Author.Tests.{eqb-true, not-false}
-use lib.ListN.{length, take, drop, getD, length-append, length-drop, take-append-drop, replicate-append-replicate}
-use lib.Seq.{take-at, drop-at, drop-drop, drop-cons, length-take-le}
+use lib.ListN.{length, take, drop, getD, length-append, length-drop, length-replicate, take-append-drop, replicate-append-replicate}
+use lib.Seq.{take-at, drop-at, drop-drop, split-at, length-take-le, take-append-le, take-take}
 use Rattle.theory.specs.Lists.{any, flat}
 use Rattle.theory.specs.Records.{Record, to-bytes, count-of, record-bytes, records}
 use Rattle.theory.specs.Settings.{Card, record-size, ledger-length}
 use Rattle.theory.specs.Layout.{places, counted-places}
 use Rattle.theory.specs.Calls.{ledger-records, ledger-invalid}
-use Rattle.theory.proofs.ListLaws.{or-left, or-right, All, all-map, all-at, all-drop, length-flat}
+use Rattle.theory.proofs.ListLaws.{or-left, or-right, All, all-map, all-at, all-take, all-drop, length-flat}
 use Rattle.theory.proofs.GrowingLaws.{flat-append}
 use Rattle.theory.proofs.ByteLaws.{Byte, Fit, length-to-bytes, to-of-bytes, length-record, length-records, records-fit, write-records}
 use Rattle.theory.proofs.CallLaws.{valid}
-use Rattle.ledger.specs.Edits.{inserted-at, removed-at, replaced-at}
-use Rattle.memory.proofs.SliceLaws.{zeros, back, length-part}
+use Rattle.settings.specs.declared.Settings.{Settings}
+use Rattle.settings.specs.Checked.{card}
+use Rattle.memory.proofs.SliceLaws.{zeros, zeros-drop, back, length-part}
+use Rattle.ledger.specs.Edits.{ValidLedger, list-in, area-of, inserted-at, removed-at, replaced-at, moved-up, moved-down}
+use Rattle.ledger.proofs.RisingLaws.{none}
 use Rattle.ledger.proofs.LedgerLaws.{has-count, room-for, records-room}
-use Rattle.ledger.proofs.ShiftLaws.{open-filled, close-filled}
-
--- ---- lists
-all-take : {A : Type 0} (P : A → Type 0) (n : ℕ) (l : List A) → All P l → All P (take n l)
-all-take P zero l h = tt
-all-take P (suc n) [] h = tt
-all-take P (suc n) (x ∷ xs) h = (h .0, all-take P n xs (h .1))
 
 zeros-of : (l : List ℕ) → any (λ x. not (eqb x 0)) l ≡ false → l ≡ zeros (length l)
 zeros-of [] e = refl
@@ -37,73 +33,42 @@ zeros-of (x ∷ xs) e =
     let first : x ≡ 0 = eqb-true x 0 (not-false (eqb x 0) (or-left _ _ e)) in
     rw first (ap (λ (l : List ℕ). 0 ∷ l) (zeros-of xs (or-right (not (eqb x 0)) _ e)))
 
-zeros-drop : (n m : ℕ) → drop m (zeros n) ≡ zeros (n - m)
-zeros-drop n zero = rw sub-zero
-zeros-drop zero (suc m) = let e : zero - suc m ≡ 0 = omega arith in rw e
-zeros-drop (suc n) (suc m) = let e : suc n - suc m ≡ n - m = omega arith in rw e (zeros-drop n m)
-
--- ---- an area in four parts: head, before the place, after it, zeros
-module _ (a h p q z : List ℕ) (from to : ℕ) (parts : a ≡ h ++ (p ++ (q ++ z))) (start : length h + length p ≡ from) (stop : from + length q ≡ to) where
-  split : a ≡ (h ++ p) ++ (q ++ z)
-  split = parts ∙ sym (append-assoc h p (q ++ z))
-
-  before-is : take from a ≡ h ++ p
-  before-is = rw split (take-at (h ++ p) (q ++ z) from (length-append h p ∙ start))
-
-  after-is : drop from a ≡ q ++ z
-  after-is = rw split (drop-at (h ++ p) (q ++ z) from (length-append h p ∙ start))
-
-  middle-is : take (to - from) (drop from a) ≡ q
-  middle-is = rw after-is (take-at q z (to - from) (omega arith))
-
-  end-is : drop to a ≡ z
-  end-is = subst (λ (n : ℕ). drop n a ≡ z) stop (sym (drop-drop (length q) from a) ∙ ap (drop (length q)) after-is ∙ drop-at q z (length q) refl)
-
+-- ---- an area of a part before a place, and parts from it on
+module _ (p : List ℕ) (from size : ℕ) (start : length p ≡ from) (new : List ℕ) where
   -- a gap opened at the place and filled
-  insert-bytes : (size : ℕ) (g new : List ℕ) → from + size ≤ length a → g ≡ take (from + size) a ++ (take (to - from) (drop from a) ++ drop (to + size) a)
-      → back from size g new ≡ h ++ (p ++ (new ++ (q ++ drop size z)))
-  insert-bytes size g new fits e =
-      open-filled a size g new from to fits e ∙ rw (← drop-drop size to a, before-is, middle-is, end-is) (append-assoc h p (new ++ (q ++ drop size z)))
+  insert-bytes : (q z : List ℕ) (to : ℕ) → from + length q ≡ to → size ≤ length q + length z
+      → back from size (moved-up size from to (p ++ (q ++ z))) new ≡ p ++ (new ++ (q ++ drop size z))
+  insert-bytes q z to stop fits =
+      let a : List ℕ = p ++ (q ++ z) in
+      let kept : length (take (from + size) a) ≡ from + size = length-take-le (from + size) a (rw (length-append, length-append) (omega arith)) in
+      let here : drop from a ≡ q ++ z = drop-at p (q ++ z) from start in
+      let middle : take (to - from) (drop from a) ≡ q = rw here (take-at q z (to - from) (omega arith)) in
+      let end : drop (to + size) a ≡ drop size z =
+      sym (drop-drop size to a) ∙ ap (drop size) (rw (← stop, ← drop-drop (length q) from a, here) (drop-at q z (length q) refl)) in
+      let front : take from (take (from + size) a ++ (q ++ drop size z)) ≡ p =
+      take-append-le from (take (from + size) a) (q ++ drop size z) (omega arith)
+      ∙ take-take from (from + size) a (omega arith) ∙ take-at p (q ++ z) from start in
+      rw (middle, end, front, drop-drop size from, drop-at (take (from + size) a) (q ++ drop size z) (from + size) kept)
 
--- the same with one record at the place
-module _ (a h p r q z : List ℕ) (size from to : ℕ) (parts : a ≡ h ++ (p ++ (r ++ (q ++ z)))) (start : length h + length p ≡ from) (one : length r ≡ size)
-    (stop : from + size + length q ≡ to) where
-  here : from + length r ≡ from + size
-  here = ap (λ (n : ℕ). from + n) one
+  -- with a record at the place: the gap that it leaves closed, and the end filled
+  module _ (r : List ℕ) (one : length r ≡ size) where
+    after : (t : List ℕ) → drop (from + size) (p ++ (r ++ t)) ≡ t
+    after t = rw (← drop-drop size from, drop-at p (r ++ t) from start) (drop-at r t size one)
 
-  beside : a ≡ h ++ ((p ++ r) ++ (q ++ z))
-  beside = parts ∙ ap (λ (l : List ℕ). h ++ l) (sym (append-assoc p r (q ++ z)))
+    remove-bytes : (q z : List ℕ) (to : ℕ) → from + length q ≡ to
+        → back to size (moved-down size from to (p ++ (r ++ (q ++ z)))) new ≡ p ++ (q ++ (new ++ z))
+    remove-bytes q z to stop =
+        let a : List ℕ = p ++ (r ++ (q ++ z)) in
+        let moved : moved-down size from to a ≡ (p ++ q) ++ drop to a =
+        rw (after (q ++ z), take-at p (r ++ (q ++ z)) from start, take-at q z (to - from) (omega arith), append-assoc) in
+        let two : length (p ++ q) ≡ to = rw length-append (omega arith) in
+        let far : to + size ≡ from + size + length q = omega arith in
+        let end : drop size (drop to a) ≡ z =
+        drop-drop size to a ∙ rw (far, ← drop-drop (length q) (from + size) a, after (q ++ z)) (drop-at q z (length q) refl) in
+        rw (moved, take-at (p ++ q) (drop to a) to two, drop-at (p ++ q) (drop to a) to two, end, append-assoc)
 
-  starts : length h + length (p ++ r) ≡ from + size
-  starts = rw length-append (omega arith)
-
-  -- the gap closed, and the end filled
-  remove-bytes : (g new : List ℕ) → to ≤ length a → g ≡ take from a ++ (take (to - size - from) (drop (from + size) a) ++ drop (to - size) a)
-      → back (to - size) size g new ≡ h ++ (p ++ (q ++ (new ++ z)))
-  remove-bytes g new fits e =
-      let last : to - size + size ≡ to = omega arith in
-      let among : to - size - from ≡ to - (from + size) = omega arith in
-      close-filled a size from (to - size) (omega arith) (omega arith) g new e
-      ∙ rw (
-        last,
-        among,
-        before-is a h p r (q ++ z) from (from + size) parts start here,
-        middle-is a h (p ++ r) q z (from + size) to beside starts stop,
-        end-is a h (p ++ r) q z (from + size) to beside starts stop,
-      )
-      (append-assoc h p (q ++ (new ++ z)))
-
-  replace-bytes : (new : List ℕ) → back from size a new ≡ h ++ (p ++ (new ++ (q ++ z)))
-  replace-bytes new =
-      rw (
-        drop-drop size from a,
-        before-is a h p r (q ++ z) from (from + size) parts start here,
-        end-is a h p r (q ++ z) from (from + size) parts start here,
-      )
-      (append-assoc h p (new ++ (q ++ z)))
-
-recount : (h t : List ℕ) (n : ℕ) → length h ≡ 2 → to-bytes 2 n ++ drop 2 (h ++ t) ≡ to-bytes 2 n ++ t
-recount h t n e = rw (drop-at h t 2 e)
+    replace-bytes : (t : List ℕ) → back from size (p ++ (r ++ t)) new ≡ p ++ (new ++ t)
+    replace-bytes t = rw (drop-drop size from, after t, take-at p (r ++ t) from start)
 
 -- ---- a ledger area within the rules
 module _ (c : Card) (a : List ℕ) (whole : length a ≡ ledger-length c) (rules : ledger-invalid c a ≡ false) where
@@ -113,25 +78,6 @@ module _ (c : Card) (a : List ℕ) (whole : length a ≡ ledger-length c) (rules
   pub listed : length (ledger-records c a) ≡ count-of a
   unfolding ledger-records
   listed = length-records (c .width) (count-of a) (drop 2 a)
-
-  pub listed-few : length (ledger-records c a) ≤ c .capacity
-  listed-few = rw listed few
-
-  -- where its records and a place among them lie, in the code's numbers
-  module _ (size n : ℕ) (e : size ≡ record-size c) (count : n ≡ count-of a) where
-    pub ends-within : 2 + size * n ≤ length a
-    ends-within = rw (e, count) (room-for c a whole (count-of a) few)
-
-    pub place-within : (at : ℕ) → at ≤ length (ledger-records c a) → size * at ≤ size * n
-    place-within at h = mul-le-mul-left size (omega (arith, listed))
-
-    pub record-within : (at : ℕ) → at < length (ledger-records c a) → size * at + size ≤ size * n
-    record-within at h = let le : suc at ≤ n = omega (arith, listed) in omega (arith, mul-suc size at, mul-le-mul-left size le)
-
-    pub one-more-within : length (ledger-records c a) < c .capacity → 2 + size * n + size ≤ length a
-    one-more-within h =
-        let f : 2 + record-size c * (n + 1) ≤ length a = room-for c a whole (n + 1) (omega (arith, listed)) in
-        rw e (omega (arith, mul-suc (record-size c) n, rw add-one at f))
 
   module _ (bytes : All Byte a) where
     pub records-fit-width : All (Fit (c .width)) (ledger-records c a)
@@ -147,7 +93,7 @@ module _ (c : Card) (a : List ℕ) (whole : length a ≡ ledger-length c) (rules
         let left : length (drop (2 + z * n) a) ≡ z * (c .capacity - n) = rw (length-drop, mul-sub) (omega (arith, whole)) in
         drop-drop (n * z) 2 a ∙ ap (λ (k : ℕ). drop (2 + k) a) swap ∙ zeros-of (drop (2 + z * n) a) (valid c a rules .clear-after) ∙ ap zeros left
 
-    pub valid-is : a ≡ counted-places c (c .capacity) (ledger-records c a)
+    valid-is : a ≡ counted-places c (c .capacity) (ledger-records c a)
     unfolding counted-places places ledger-records
     valid-is =
         let n = count-of a in
@@ -158,159 +104,141 @@ module _ (c : Card) (a : List ℕ) (whole : length a ≡ ledger-length c) (rules
         (sym (take-append-drop 2 a) ∙ ap (λ (l : List ℕ). take 2 a ++ l) (sym (take-append-drop k (drop 2 a))
         ∙ ap (λ (l : List ℕ). take k (drop 2 a) ++ l) zeros-after))
 
--- ---- its edits: a is the ledger area of l, size a record's, n the count
-none : Record
-none = record { key = []; class = 0 }
+-- ---- a place among its records, in the code's numbers: a record's size, the count, and how many records stand before the place
+pub record Place (s : Settings) (a : List ℕ) (size n at : ℕ) : Type 0 where
+  pub ledger : ValidLedger s a
+  pub bytes : All Byte a
+  pub size-is : size ≡ record-size (card s)
+  pub count : n ≡ count-of a
+  pub within : at ≤ length (list-in s a)
 
-module _ (c : Card) (l : List Record) (fit : All (Fit (c .width)) l) (few : length l ≤ c .capacity) (a : List ℕ) (is : a ≡ counted-places c (c .capacity) l)
-    (size n : ℕ) (e : size ≡ record-size c) (count : n ≡ length l) (at : ℕ) where
-  abbrev head : List ℕ
-  head = to-bytes 2 (length l)
+abbrev bytes-in : List Record → List ℕ
+bytes-in l = flat record-bytes l
 
-  abbrev before : List ℕ
-  before = flat record-bytes (take at l)
+-- the count and the records before a place, and the zeros after k records
+abbrev front : Settings → List ℕ → ℕ → ℕ → List ℕ
+front s a n at = to-bytes 2 n ++ bytes-in (take at (list-in s a))
 
-  abbrev rest : List ℕ
-  rest = zeros (record-size c * (c .capacity - length l))
+abbrev free : Settings → ℕ → ℕ → List ℕ
+free s size k = zeros (size * (card s .capacity - k))
 
-  flat-size : (m : List Record) → All (Fit (c .width)) m → length (flat record-bytes m) ≡ size * length m
+module _ {s : Settings} {a : List ℕ} {size n at : ℕ} (p : Place s a size n at) where
+  pub count-is : n ≡ length (list-in s a)
+  count-is = p .count ∙ sym (listed (card s) a (p .ledger .size) (p .ledger .rules))
+
+  few-here : n ≤ card s .capacity
+  few-here = rw (p .count) (few (card s) a (p .ledger .size) (p .ledger .rules))
+
+  fit : All (Fit (card s .width)) (list-in s a)
+  fit = records-fit-width (card s) a (p .ledger .size) (p .ledger .rules) (p .bytes)
+
+  -- ---- where its records, the place and the record there lie
+  records-inside : 2 + size * n ≤ length a
+  records-inside = rw (p .size-is) (room-for (card s) a (p .ledger .size) n few-here)
+
+  place-inside : size * at ≤ size * n
+  place-inside = mul-le-mul-left size (omega (arith, p .within, count-is))
+
+  record-inside : at < length (list-in s a) → size * at + size ≤ size * n
+  record-inside h = let le : suc at ≤ n = omega (arith, count-is) in omega (arith, mul-suc size at, mul-le-mul-left size le)
+
+  -- what the code may count on where it puts one more in, and where it takes one out or replaces it
+  pub insert-room : length (list-in s a) < card s .capacity → (size * at ≤ size * n) × (2 + size * n + size ≤ length a)
+  insert-room h =
+      let room : 2 + record-size (card s) * suc n ≤ length a = room-for (card s) a (p .ledger .size) (suc n) (omega (arith, count-is)) in
+      (place-inside, omega (arith, mul-suc size n, rw (← p .size-is) at room))
+
+  pub remove-room : at < length (list-in s a) → (size * at + size ≤ size * n) × (2 + size * n ≤ length a)
+  remove-room h = (record-inside h, records-inside)
+
+  -- ---- areas in parts
+  flat-size : (m : List Record) → All (Fit (card s .width)) m → length (bytes-in m) ≡ size * length m
   unfolding record-size
-  flat-size m f = rw e (length-flat record-bytes (c .width + 4) m (all-map (λ r g. length-record (c .width) r g) m f))
+  flat-size m f = rw (p .size-is) (length-flat record-bytes (card s .width + 4) m (all-map (λ r g. length-record (card s .width) r g) m f))
 
-  starts-at : at ≤ length l → length head + length before ≡ 2 + size * at
-  starts-at h = rw (length-to-bytes, flat-size (take at l) (all-take (Fit (c .width)) at l fit), length-take-le at l h)
+  front-size : length (front s a n at) ≡ 2 + size * at
+  front-size =
+      let fits = all-take (Fit (card s .width)) at (list-in s a) fit in
+      rw (length-append, length-to-bytes, flat-size (take at (list-in s a)) fits, length-take-le at (list-in s a) (p .within))
 
-  at-place : (m : List Record) → l ≡ take at l ++ m → a ≡ head ++ (before ++ (flat record-bytes m ++ rest))
+  rest-size : (i : ℕ) → length (bytes-in (drop i (list-in s a))) ≡ size * n - size * i
+  rest-size i = rw (flat-size (drop i (list-in s a)) (all-drop (Fit (card s .width)) i (list-in s a) fit), length-drop, mul-sub, ← count-is)
+
+  parts : (l u m : List Record) (k : ℕ) → l ≡ u ++ m → k ≡ length l → area-of s l ≡ (to-bytes 2 k ++ bytes-in u) ++ (bytes-in m ++ free s size k)
   unfolding counted-places places
-  at-place m q =
-      is ∙ ap (λ (t : List ℕ). head ++ t)
-      (ap (λ (k : List Record). flat record-bytes k ++ rest) q ∙ ap (λ (t : List ℕ). t ++ rest) (flat-append record-bytes (take at l) m)
-      ∙ append-assoc before (flat record-bytes m) rest)
+  parts l u m k e f = rw (← f, e, flat-append record-bytes u m, p .size-is) (simp append-assoc)
 
-  -- the area of a new list, by its parts
-  new-area : (m : List Record) (k : ℕ) (t z : List ℕ) → k ≡ length (take at l ++ m) → t ≡ flat record-bytes m → z ≡ zeros (record-size c * (c .capacity - k))
-      → to-bytes 2 k ++ (before ++ (t ++ z)) ≡ counted-places c (c .capacity) (take at l ++ m)
-  unfolding counted-places places
-  new-area m k t z f g h = rw (
-    ← f,
-    flat-append record-bytes (take at l) m,
-    append-assoc before (flat record-bytes m) (zeros (record-size c * (c .capacity - k))),
-    g,
-    h,
-  )
+  area-is : (m : List Record) → list-in s a ≡ take at (list-in s a) ++ m → a ≡ front s a n at ++ (bytes-in m ++ free s size n)
+  area-is m e = valid-is (card s) a (p .ledger .size) (p .ledger .rules) (p .bytes) ∙ parts (list-in s a) (take at (list-in s a)) m n e count-is
 
-  insert-law : at ≤ length l → length l < c .capacity → 2 + size * n + size ≤ length a → (g y : List ℕ)
-      → g ≡ take (2 + size * at + size) a ++ (take (2 + size * n - (2 + size * at)) (drop (2 + size * at) a) ++ drop (2 + size * n + size) a)
+  recounted : (m : List Record) (k : ℕ) → k ≡ length (take at (list-in s a) ++ m)
+      → to-bytes 2 k ++ drop 2 (front s a n at ++ (bytes-in m ++ free s size k)) ≡ area-of s (take at (list-in s a) ++ m)
+  recounted m k e =
+      let before : List ℕ = bytes-in (take at (list-in s a)) in
+      let rest : List ℕ = bytes-in m ++ free s size k in
+      rw (append-assoc (to-bytes 2 n) before rest, drop-at (to-bytes 2 n) (before ++ rest) 2 (length-to-bytes 2 n), ← append-assoc (to-bytes 2 k) before rest)
+      (sym (parts (take at (list-in s a) ++ m) (take at (list-in s a)) m k refl e))
+
+  spare : (k j : ℕ) → k + 1 ≡ j → j ≤ card s .capacity → size * (card s .capacity - k) ≡ size + size * (card s .capacity - j)
+  spare k j e h = let step : card s .capacity - k ≡ suc (card s .capacity - j) = omega arith in rw (step, mul-suc) (omega arith)
+
+  -- ---- the edits, as the code makes them
+  pub inserted : length (list-in s a) < card s .capacity → (g y : List ℕ) → g ≡ moved-up size (2 + size * at) (2 + size * n) a
       → (x : Record) → record-bytes x ≡ y
-      → to-bytes 2 (n + 1) ++ drop 2 (back (2 + size * at) (2 + size * at + size - (2 + size * at)) g y) ≡ counted-places c (c .capacity) (inserted-at at x l)
-  insert-law h less fits g y opened x is-x =
-      let after : List ℕ = flat record-bytes (drop at l) in
-      let span : size * at + size * (length l - at) ≡ size * n = sym (mul-add size at (length l - at)) ∙ ap (λ (k : ℕ). size * k) (add-sub-of-le h ∙ sym count) in
-      let stop : 2 + size * at + length after ≡ 2 + size * n = rw (flat-size (drop at l) (all-drop (Fit (c .width)) at l fit), length-drop) (omega (arith, span)) in
-      let parts = at-place (drop at l) (sym (take-append-drop at l)) in
-      let made = insert-bytes a head before after rest (2 + size * at) (2 + size * n) parts (starts-at h) stop size g y (omega (arith, span)) opened in
-      let longer : n + 1 ≡ length (inserted-at at x l) = rw (length-append, length-take-le at l h, length-drop) (omega arith) in
-      let fewer : record-size c * (c .capacity - length l) - size ≡ record-size c * (c .capacity - (n + 1)) = one-less in
-      let left : drop size rest ≡ zeros (record-size c * (c .capacity - (n + 1))) = zeros-drop (record-size c * (c .capacity - length l)) size ∙ ap zeros fewer in
-      rw (
-        add-sub-cancel-left,
-        made,
-        recount head (before ++ (y ++ (after ++ drop size rest))) (n + 1) (length-to-bytes 2 (length l)),
-        ← append-assoc y after (drop size rest),
-      )
-      (new-area (x ∷ drop at l) (n + 1) (y ++ after) (drop size rest) longer (ap (λ (t : List ℕ). t ++ after) (sym is-x)) left)
-    where
-      one-less : record-size c * (c .capacity - length l) - size ≡ record-size c * (c .capacity - (n + 1))
-      one-less =
-          let step : c .capacity - length l ≡ suc (c .capacity - (n + 1)) = omega arith in
-          rw (step, mul-suc, e) (omega arith)
+      → to-bytes 2 (n + 1) ++ drop 2 (back (2 + size * at) (2 + size * at + size - (2 + size * at)) g y) ≡ area-of s (inserted-at at x (list-in s a))
+  inserted less g y opened x is-x =
+      let l : List Record = list-in s a in
+      let after : List ℕ = bytes-in (drop at l) in
+      let room = spare n (n + 1) refl (omega (arith, count-is)) in
+      let fits : size ≤ length after + length (free s size n) = rw length-replicate (omega arith) in
+      let fewer : size * (card s .capacity - n) - size ≡ size * (card s .capacity - (n + 1)) = omega arith in
+      let left : drop size (free s size n) ≡ free s size (n + 1) = rw (zeros-drop, fewer) in
+      let longer : n + 1 ≡ length (inserted-at at x l) =
+      rw (length-append, length-take-le at l (p .within), length-drop) (omega (arith, count-is, p .within)) in
+      let made : back (2 + size * at) size g y ≡ front s a n at ++ (y ++ (after ++ drop size (free s size n))) =
+      ap (λ (b : List ℕ). back (2 + size * at) size b y)
+      (opened ∙ ap (moved-up size (2 + size * at) (2 + size * n)) (area-is (drop at l) (sym (take-append-drop at l))))
+      ∙ insert-bytes (front s a n at) (2 + size * at) size front-size y after (free s size n) (2 + size * n) (omega (arith, rest-size at, place-inside)) fits in
+      rw (add-sub-cancel-left (2 + size * at) size, made, left, ← append-assoc y after, ← is-x) (recounted (x ∷ drop at l) (n + 1) longer)
 
-  module _ (h : at < length l) where
-    here-is : drop at l ≡ getD l at none ∷ drop (at + 1) l
-    here-is = drop-cons l at none h ∙ ap (λ (k : ℕ). getD l at none ∷ drop k l) (sym (add-one at))
-
-    split-here : l ≡ take at l ++ (getD l at none ∷ drop (at + 1) l)
-    split-here = sym (take-append-drop at l) ∙ ap (λ (m : List Record). take at l ++ m) here-is
-
-    abbrev old : List ℕ
-    old = record-bytes (getD l at none)
-
-    abbrev after : List ℕ
-    after = flat record-bytes (drop (at + 1) l)
-
-    parts-here : a ≡ head ++ (before ++ (old ++ (after ++ rest)))
-    parts-here = at-place (getD l at none ∷ drop (at + 1) l) split-here ∙ ap (λ (t : List ℕ). head ++ (before ++ t)) (append-assoc old after rest)
-
-    old-size : length old ≡ size
+  module _ (h : at < length (list-in s a)) where
+    old-size : length (record-bytes (getD (list-in s a) at none)) ≡ size
     unfolding record-size
-    old-size = rw e (length-record (c .width) (getD l at none) (all-at (Fit (c .width)) l at none h fit))
+    old-size = rw (p .size-is) (length-record (card s .width) (getD (list-in s a) at none) (all-at (Fit (card s .width)) (list-in s a) at none h fit))
 
-    stop-here : 2 + size * at + size + length after ≡ 2 + size * n
-    stop-here =
-        let le : suc at ≤ length l = h in
-        let span : size * suc at + size * (length l - suc at) ≡ size * n = sym (mul-add size (suc at) (length l - suc at))
-        ∙ ap (λ (k : ℕ). size * k) (add-sub-of-le le ∙ sym count) in
-        rw (flat-size (drop (at + 1) l) (all-drop (Fit (c .width)) (at + 1) l fit), length-drop, add-one) (omega (arith, span, mul-suc size at))
+    stop-is : 2 + size * at + length (bytes-in (drop (at + 1) (list-in s a))) ≡ 2 + size * n - size
+    stop-is = let rest = rw (add-one, mul-suc) at (rest-size (at + 1)) in rw add-one (omega (arith, record-inside h))
 
-    remove-law : 2 + size * n ≤ length a → (g y : List ℕ) → length g ≡ length a
-        → g ≡ take (2 + size * at) a ++ (take (2 + size * n - size - (2 + size * at)) (drop (2 + size * at + size) a) ++ drop (2 + size * n - size) a)
+    record-is : a ≡ front s a n at ++ (record-bytes (getD (list-in s a) at none) ++ (bytes-in (drop (at + 1) (list-in s a)) ++ free s size n))
+    record-is =
+        let l : List Record = list-in s a in
+        area-is (getD l at none ∷ drop (at + 1) l) (rw add-one (split-at l at none h))
+        ∙ rw (append-assoc (record-bytes (getD l at none)) (bytes-in (drop (at + 1) l)))
+
+    pub removed : (g y : List ℕ) → length g ≡ length a → g ≡ moved-down size (2 + size * at) (2 + size * n - size) a
         → y ≡ zeros (length (take (2 + size * n - (2 + size * n - size)) (drop (2 + size * n - size) g)))
-        → to-bytes 2 (n - 1) ++ drop 2 (back (2 + size * n - size) (2 + size * n - (2 + size * n - size)) g y) ≡ counted-places c (c .capacity) (removed-at at l)
-    remove-law fits g y kept closed cleared =
-        let k : 2 + size * n - (2 + size * n - size) ≡ size = omega (arith, stop-here) in
-        let cleared-size : y ≡ zeros size = rw (k, length-part (2 + size * n - size) size g (omega (arith, stop-here))) at cleared in
-        let first = starts-at (omega arith) in
-        let made = remove-bytes a head before old after rest size (2 + size * at) (2 + size * n) parts-here first old-size stop-here g y fits closed in
-        let shorter : n - 1 ≡ length (removed-at at l) = rw (length-append, length-take-le at l (omega arith), length-drop) (omega arith) in
-        rw (k, made, recount head (before ++ (after ++ (y ++ rest))) (n - 1) (length-to-bytes 2 (length l)))
-        (new-area (drop (at + 1) l) (n - 1) after (y ++ rest) shorter refl (more-zeros cleared-size))
-      where
-        one-more : size + record-size c * (c .capacity - length l) ≡ record-size c * (c .capacity - (n - 1))
-        one-more =
-            let step : c .capacity - (n - 1) ≡ suc (c .capacity - length l) = omega arith in
-            rw (step, mul-suc, e) (omega arith)
+        → to-bytes 2 (n - 1) ++ drop 2 (back (2 + size * n - size) (2 + size * n - (2 + size * n - size)) g y) ≡ area-of s (removed-at at (list-in s a))
+    removed g y kept closed cleared =
+        let l : List Record = list-in s a in
+        let after : List ℕ = bytes-in (drop (at + 1) l) in
+        let last : ℕ = 2 + size * n - size in
+        let k : 2 + size * n - (2 + size * n - size) ≡ size = omega (arith, record-inside h) in
+        let zeroed : y ≡ zeros size = rw (k, length-part last size g (omega (arith, record-inside h, records-inside))) at cleared in
+        let room = spare (n - 1) n (omega (arith, count-is)) few-here in
+        let more : y ++ free s size n ≡ free s size (n - 1) = rw (zeroed, room) (replicate-append-replicate size (size * (card s .capacity - n)) 0) in
+        let shorter : n - 1 ≡ length (removed-at at l) = rw (length-append, length-take-le at l (p .within), length-drop) (omega (arith, count-is)) in
+        let made : back last size g y ≡ front s a n at ++ (after ++ (y ++ free s size n)) =
+        ap (λ (b : List ℕ). back last size b y) (closed ∙ ap (moved-down size (2 + size * at) last) record-is)
+        ∙ remove-bytes (front s a n at) (2 + size * at) size front-size y (record-bytes (getD l at none)) old-size after (free s size n) last stop-is in
+        rw (k, made, more) (recounted (drop (at + 1) l) (n - 1) shorter)
 
-        more-zeros : y ≡ zeros size → y ++ rest ≡ zeros (record-size c * (c .capacity - (n - 1)))
-        more-zeros q = ap (λ (t : List ℕ). t ++ rest) q ∙ replicate-append-replicate size (record-size c * (c .capacity - length l)) 0 ∙ ap zeros one-more
-
-    replace-law : (y : List ℕ) (x : Record) → record-bytes x ≡ y
-        → back (2 + size * at) (2 + size * at + size - (2 + size * at)) a y ≡ counted-places c (c .capacity) (replaced-at at x l)
-    replace-law y x is-x =
-        let made = replace-bytes a head before old after rest size (2 + size * at) (2 + size * n) parts-here (starts-at (omega arith)) old-size stop-here y in
-        let same : length l ≡ length (replaced-at at x l) = rw (length-append, length-take-le at l (omega arith), length-drop) (omega arith) in
-        rw (add-sub-cancel-left, made, ← append-assoc y after rest)
-        (new-area (x ∷ drop (at + 1) l) (length l) (y ++ after) rest same (ap (λ (t : List ℕ). t ++ after) (sym is-x)) refl)
-
--- the same of any ledger area within the rules, as the code has it
-module _ (c : Card) (a : List ℕ) (whole : length a ≡ ledger-length c) (rules : ledger-invalid c a ≡ false) (bytes : All Byte a)
-    (size : ℕ) (e : size ≡ record-size c) (at : ℕ) where
-  abbrev l : List Record
-  l = ledger-records c a
-
-  abbrev fit : All (Fit (c .width)) l
-  fit = records-fit-width c a whole rules bytes
-
-  abbrev is : a ≡ counted-places c (c .capacity) l
-  is = valid-is c a whole rules bytes
-
-  module _ (n : ℕ) (count : n ≡ count-of a) where
-    pub inserted : at ≤ length (ledger-records c a) → length (ledger-records c a) < c .capacity → (g y : List ℕ)
-        → g ≡ take (2 + size * at + size) a ++ (take (2 + size * n - (2 + size * at)) (drop (2 + size * at) a) ++ drop (2 + size * n + size) a)
-        → (x : Record) → record-bytes x ≡ y
-        → to-bytes 2 (n + 1) ++ drop 2 (back (2 + size * at) (2 + size * at + size - (2 + size * at)) g y)
-        ≡ counted-places c (c .capacity) (inserted-at at x (ledger-records c a))
-    inserted h less =
-        insert-law c l fit (listed-few c a whole rules) a is size n e (count ∙ sym (listed c a whole rules)) at h less
-        (one-more-within c a whole rules size n e count less)
-
-    pub removed : at < length (ledger-records c a) → (g y : List ℕ) → length g ≡ length a
-        → g ≡ take (2 + size * at) a ++ (take (2 + size * n - size - (2 + size * at)) (drop (2 + size * at + size) a) ++ drop (2 + size * n - size) a)
-        → y ≡ zeros (length (take (2 + size * n - (2 + size * n - size)) (drop (2 + size * n - size) g)))
-        → to-bytes 2 (n - 1) ++ drop 2 (back (2 + size * n - size) (2 + size * n - (2 + size * n - size)) g y)
-        ≡ counted-places c (c .capacity) (removed-at at (ledger-records c a))
-    removed h =
-        remove-law c l fit (listed-few c a whole rules) a is size n e (count ∙ sym (listed c a whole rules)) at h (ends-within c a whole rules size n e count)
-
-  pub replaced : at < length (ledger-records c a) → (y : List ℕ) (x : Record) → record-bytes x ≡ y
-      → back (2 + size * at) (2 + size * at + size - (2 + size * at)) a y ≡ counted-places c (c .capacity) (replaced-at at x (ledger-records c a))
-  replaced h = replace-law c l fit (listed-few c a whole rules) a is size (count-of a) e (sym (listed c a whole rules)) at h
+    pub replaced : (y : List ℕ) (x : Record) → record-bytes x ≡ y
+        → back (2 + size * at) (2 + size * at + size - (2 + size * at)) a y ≡ area-of s (replaced-at at x (list-in s a))
+    replaced y x is-x =
+        let l : List Record = list-in s a in
+        let after : List ℕ = bytes-in (drop (at + 1) l) in
+        let same : n ≡ length (replaced-at at x l) = rw (length-append, length-take-le at l (p .within), length-drop) (omega (arith, count-is)) in
+        rw (add-sub-cancel-left (2 + size * at) size)
+        (ap (λ (b : List ℕ). back (2 + size * at) size b y) record-is
+        ∙ replace-bytes (front s a n at) (2 + size * at) size front-size y (record-bytes (getD l at none)) old-size (after ++ free s size n)
+        ∙ sym (parts (replaced-at at x l) (take at l) (x ∷ drop (at + 1) l) n refl same ∙ rw (is-x, append-assoc y after)))

@@ -31,7 +31,8 @@ module _ (c : Card) (a : List ℕ) where
 
   -- ---- its rules, where n is its count
   module _ (n : ℕ) (count : n ≡ count-of a) where
-    rules : ledger-invalid c a ≡ (ltb (c .capacity) n || not (rising (records (c .width) n (drop 2 a))) || any (λ x. not (eqb x 0)) (drop (2 + record-size c * n) a))
+    rules : ledger-invalid c a
+        ≡ (ltb (c .capacity) n || not (rising (records (c .width) n (drop 2 a))) || any (λ x. not (eqb x 0)) (drop (2 + record-size c * n) a))
     unfolding ledger-invalid ledger-records
     rules = rw count
 

@@ -1,43 +1,51 @@
--- What the loops over records in bytes ask: the next record, the records from a place on, and that there is room for them.
-use mathlib.Core.Path.{_≡_, refl}
+-- What the loops over records in bytes ask: the next record, room for one, the key of record i, and whether keys rise from record i on.
+use mathlib.Core.Path.{_≡_, refl, _∙_}
 use mathlib.Core.Bool.{true, _&&_}
-use mathlib.Core.List.{List, _∷_}
+use mathlib.Core.List.{List, [], _∷_}
 use Prim.Native.Nat.{ℕ, zero, suc, _+_, _-_, _*_, _≤_, _<_}
+use native.Mathlib.Nat.{le-of-suc-le-suc, suc-mul, zero-mul, add-comm, mul-le-mul-right}
+use native.Mathlib.Numerals.{add-one}
 use native.Mathlib.Omega.{arith}
-use lib.ListN.{take, drop}
-use lib.Seq.{drop-drop}
-use Rattle.theory.specs.Records.{entries, record-at, records, key-below, rising}
+use lib.ListN.{length, take, drop, getD}
+use lib.Seq.{drop-cons, drop-drop, drop-nil}
+use Rattle.theory.specs.Records.{Record, entries, record-at, records, key-below, rising}
 
 -- room for one entry more of z bytes, and for the rest after it
 pub room-next : (at left z n : ℕ) → at + left * z ≤ n → 0 < left → (at + z ≤ n) × (at + z + (left - 1) * z ≤ n)
 room-next at zero z n h p = absurd (omega arith)
 room-next at (suc m) z n h p = let e : suc m - 1 ≡ m = omega arith in rw e (omega (arith, h), omega (arith, h))
 
-pub room-two : (at left z n : ℕ) → at + left * z ≤ n → 1 < left → at + z + z ≤ n
-room-two at left z n h p = room-next (at + z) (left - 1) z n (room-next at left z n h (omega arith) .1) (omega arith) .0
+-- room for entry i of n
+pub place-room : (i n z m : ℕ) → i < n → n * z ≤ m → i * z + z ≤ m
+place-room i n z m h f = omega (arith, suc-mul i z, mul-le-mul-right z h)
+
+-- the key of record i in an area, and a record for where there is none
+abbrev pub key-in : ℕ → List ℕ → ℕ → List ℕ
+key-in w a i = take w (drop (i * (w + 4)) a)
+
+pub none : Record
+none = record { key = []; class = 0 }
 
 module _ (w : ℕ) where
-  pub key-is : (a : List ℕ) → record-at w a .key ≡ take w a
-  unfolding record-at
-  key-is a = refl
-
   pub records-next : (n : ℕ) (a : List ℕ) → 0 < n → records w n a ≡ record-at w a ∷ records w (n - 1) (drop (w + 4) a)
   unfolding records entries
   records-next zero a h = absurd (omega arith)
   records-next (suc n) a h = let e : suc n - 1 ≡ n = omega arith in rw e
 
-  -- ---- keys that rise, two records at a time
-  pub rising-next : (n at : ℕ) (a : List ℕ) → 1 < n
-      → rising (records w n (drop at a)) ≡ (key-below (take w (drop at a)) (take w (drop (at + (w + 4)) a)) && rising (records w (n - 1) (drop (at + (w + 4)) a)))
-  rising-next n at a h =
-      let e = records-next n (drop at a) (omega arith) in
-      let f = records-next (n - 1) (drop (at + (w + 4)) a) (omega arith) in
-      rw (e, drop-drop (w + 4) at a, f, key-is (drop at a), key-is (drop (at + (w + 4)) a))
+  pub key-here : (n i : ℕ) (a : List ℕ) → i < n → getD (records w n a) i none .key ≡ key-in w a i
+  unfolding records entries record-at
+  key-here zero i a h = absurd (omega arith)
+  key-here (suc n) zero a h = rw zero-mul
+  key-here (suc n) (suc i) a h = key-here n i (drop (w + 4) a) (le-of-suc-le-suc h)
+      ∙ rw (suc-mul, add-comm (i * (w + 4)) (w + 4), drop-drop (i * (w + 4)) (w + 4) a)
 
-  pub rising-one : (at : ℕ) (a : List ℕ) → rising (records w 1 (drop at a)) ≡ true
-  unfolding records entries
-  rising-one at a = refl
+-- ---- keys that rise from record i on
+pub rising-from : (l : List Record) (i : ℕ) → i + 1 < length l
+    → rising (drop i l) ≡ (key-below (getD l i none .key) (getD l (i + 1) none .key) && rising (drop (i + 1) l))
+rising-from l i h = rw (add-one, drop-cons l i none (omega arith), drop-cons l (suc i) none (omega arith))
 
-  pub rising-none : (a : List ℕ) → rising (records w 0 a) ≡ true
-  unfolding records entries
-  rising-none a = refl
+pub rising-end : (l : List Record) (i : ℕ) → length l ≤ i + 1 → rising (drop i l) ≡ true
+rising-end [] i h = rw drop-nil
+rising-end (x ∷ []) zero h = refl
+rising-end (x ∷ y ∷ ys) zero h = absurd (omega arith)
+rising-end (x ∷ xs) (suc i) h = rising-end xs i (omega arith)

@@ -5,20 +5,17 @@ use memory::parts::copy;
 use memory::parts::zero_fill;
 use settings::Settings;
 ghost use mathlib.Core.Path.{_≡_};
-ghost use mathlib.Core.List.{_++_};
 ghost use Prim.Native.Nat.{_+_, _-_, _<_, _≤_};
-ghost use lib.ListN.{length, take, drop};
+ghost use lib.ListN.{length};
 ghost use Rattle.theory.specs.Records.{Record, record-bytes};
 ghost use Rattle.theory.specs.Settings.{record-size};
-ghost use Rattle.theory.specs.Layout.{counted-places};
-ghost use Rattle.theory.specs.Calls.{ledger-records};
 ghost use Rattle.settings.specs.Checked.{card};
-ghost use Rattle.ledger.specs.Edits.{ValidLedger, inserted-at, removed-at, replaced-at};
+ghost use Rattle.ledger.specs.Edits.{ValidLedger, list-in, area-of, inserted-at, removed-at, replaced-at, moved-up, moved-down};
 
 // The bytes between two places move up by a size, from the last down.
 fn open_gap(area: &mut [u8], size: usize, from: usize, to: usize)
     requires { ⌜ (from ≤ to) × (to + size ≤ length (now area)) ⌝ }
-    ensures { λ _. ⌜ now (area .exit) ≡ take (from + size) (now (area .entry)) ++ (take (to - from) (drop from (now (area .entry))) ++ drop (to + size) (now (area .entry))) ⌝ }
+    ensures { λ _. ⌜ now (area .exit) ≡ moved-up size from to (now (area .entry)) ⌝ }
 {
     let mut j = to;
     while from < j {
@@ -32,7 +29,7 @@ fn open_gap(area: &mut [u8], size: usize, from: usize, to: usize)
 // The bytes up to a place move down by a size onto those from another place on.
 fn close_gap(area: &mut [u8], size: usize, from: usize, to: usize)
     requires { ⌜ (from + size ≤ to) × (to ≤ length (now area)) ⌝ }
-    ensures { λ _. ⌜ now (area .exit) ≡ take from (now (area .entry)) ++ (take (to - size - from) (drop (from + size) (now (area .entry))) ++ drop (to - size) (now (area .entry))) ⌝ }
+    ensures { λ _. ⌜ now (area .exit) ≡ moved-down size from (to - size) (now (area .entry)) ⌝ }
 {
     let last = to - size;
     let mut j = from;
@@ -45,10 +42,10 @@ fn close_gap(area: &mut [u8], size: usize, from: usize, to: usize)
 
 // "the record is put in at its key's place"
 pub fn insert_record(s: Settings, ledger: &mut [u8], at: usize, record: &[u8])
-    requires { ⌜ ValidLedger s (now ledger) × (length (ledger-records (card s) (now ledger)) < card s .capacity)
-        × (at ≤ length (ledger-records (card s) (now ledger))) × (length (now «record») ≡ record-size (card s)) ⌝ }
+    requires { ⌜ ValidLedger s (now ledger) × (length (list-in s (now ledger)) < card s .capacity) × (at ≤ length (list-in s (now ledger)))
+        × (length (now «record») ≡ record-size (card s)) ⌝ }
     ensures { λ _. ⌜ ((x : Record) → record-bytes x ≡ now («record» .entry)
-        → now (ledger .exit) ≡ counted-places (card s) (card s .capacity) (inserted-at at x (ledger-records (card s) (now (ledger .entry))))) ⌝ }
+        → now (ledger .exit) ≡ area-of s (inserted-at at x (list-in s (now (ledger .entry))))) ⌝ }
 {
     let n = count_at(&ledger[..]);
     let size = s.record_size();
@@ -62,8 +59,8 @@ pub fn insert_record(s: Settings, ledger: &mut [u8], at: usize, record: &[u8])
 
 // "the record of that key is taken out"
 pub fn remove_record(s: Settings, ledger: &mut [u8], at: usize)
-    requires { ⌜ ValidLedger s (now ledger) × (at < length (ledger-records (card s) (now ledger))) ⌝ }
-    ensures { λ _. ⌜ now (ledger .exit) ≡ counted-places (card s) (card s .capacity) (removed-at at (ledger-records (card s) (now (ledger .entry)))) ⌝ }
+    requires { ⌜ ValidLedger s (now ledger) × (at < length (list-in s (now ledger))) ⌝ }
+    ensures { λ _. ⌜ now (ledger .exit) ≡ area-of s (removed-at at (list-in s (now (ledger .entry)))) ⌝ }
 {
     let n = count_at(&ledger[..]);
     let size = s.record_size();
@@ -77,9 +74,9 @@ pub fn remove_record(s: Settings, ledger: &mut [u8], at: usize)
 
 // "the record of that key gets the new class"
 pub fn replace_record(s: Settings, ledger: &mut [u8], at: usize, record: &[u8])
-    requires { ⌜ ValidLedger s (now ledger) × (at < length (ledger-records (card s) (now ledger))) × (length (now «record») ≡ record-size (card s)) ⌝ }
+    requires { ⌜ ValidLedger s (now ledger) × (at < length (list-in s (now ledger))) × (length (now «record») ≡ record-size (card s)) ⌝ }
     ensures { λ _. ⌜ ((x : Record) → record-bytes x ≡ now («record» .entry)
-        → now (ledger .exit) ≡ counted-places (card s) (card s .capacity) (replaced-at at x (ledger-records (card s) (now (ledger .entry))))) ⌝ }
+        → now (ledger .exit) ≡ area-of s (replaced-at at x (list-in s (now (ledger .entry))))) ⌝ }
 {
     let size = s.record_size();
     let start = 2 + size * at;

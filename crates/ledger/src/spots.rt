@@ -1,6 +1,7 @@
 // Where a key's record stands among records in rising key order, or belongs.
 use super::keys::below_key;
 use super::keys::same_key;
+use memory::records::key_at;
 use settings::Settings;
 ghost use mathlib.Core.Path.{_≡_};
 ghost use mathlib.Core.Bool.{true};
@@ -26,9 +27,7 @@ pub fn find_spot(places: &[u8], n: usize, key: &[u8]) -> Spot
     let mut high = n;
     while low < high {
         let middle = low + (high - low) / 2;
-        let start = middle * size;
-        let end = start + width;
-        if below_key(&places[start..end], key) {
+        if below_key(key_at(places, middle, size, width), key) {
             low = middle + 1;
         } else {
             high = middle;
@@ -40,10 +39,8 @@ pub fn find_spot(places: &[u8], n: usize, key: &[u8]) -> Spot
             at: low,
         };
     }
-    let from = low * size;
-    let to = from + width;
     Spot {
-        held: same_key(key, &places[from..to]),
+        held: same_key(key, key_at(places, low, size, width)),
         at: low,
     }
 }

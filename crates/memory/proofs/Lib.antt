@@ -1,3 +1,4 @@
+pub mod CopyLaws
 pub mod SliceLaws
 pub mod ByteNumberLaws
 pub mod RecordPartLaws

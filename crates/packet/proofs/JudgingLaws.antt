@@ -46,22 +46,9 @@ module _ (q : List ℕ) where
   pub unrefused-right : refusal-of q ≡ 0 → Right q
   unrefused-right e = let n = neither e in record { header = header-right (n .0); ports = ports-there (n .1) }
 
-  -- the ports of a protocol that has none, and of one that has: those of the part that is lent from the header's end on
   pub no-ports : has-ports q ≡ false → replicate 4 0 ≡ ports q
   unfolding ports
   no-ports e = rw e
-
-  module _ (r : Right q) (has : has-ports q ≡ true) (end : ℕ) (e : end ≡ header-length q) where
-    after-lent : take (length q - end) (drop end q) ≡ after-header q
-    unfolding after-header
-    after-lent = rw e (tail-is (header-length q) q (r .header .within))
-
-    pub ports-fit : 4 ≤ length (take (length q - end) (drop end q))
-    ports-fit = rw after-lent (r .ports has)
-
-    pub ports-lent : take 4 (take (length q - end) (drop end q)) ≡ ports q
-    unfolding ports
-    ports-lent = rw (after-lent, has)
 
   module _ (buffer : List ℕ) where
     pub keyed-3 : (length buffer ≡ 13 → ⊥) → kept 3 buffer ≡ read-packet q buffer
@@ -82,3 +69,21 @@ module _ (q : List ℕ) where
       pub keyed-0 : refusal-of q ≡ 0 → kept 0 (packet-key q) ≡ read-packet q buffer
       unfolding read-packet
       keyed-0 e = let n = neither e in rw (eq-eqb (length buffer) 13 right-length, n .0, n .1)
+
+-- ---- a protocol that has ports: they stand in the part that is lent from the header's end on
+pub record PortsRead (q : List ℕ) (r : ℕ) : Type 0 where
+  pub right : Right q
+  pub has : has-ports q ≡ true
+  pub end : r ≡ header-length q
+
+module _ {q : List ℕ} {r : ℕ} (p : PortsRead q r) where
+  after-lent : take (length q - r) (drop r q) ≡ after-header q
+  unfolding after-header
+  after-lent = rw (p .end) (tail-is (header-length q) q (p .right .header .within))
+
+  pub ports-fit : 4 ≤ length (take (length q - r) (drop r q))
+  ports-fit = rw after-lent (p .right .ports (p .has))
+
+  pub ports-lent : take 4 (take (length q - r) (drop r q)) ≡ ports q
+  unfolding ports
+  ports-lent = rw (after-lent, p .has)

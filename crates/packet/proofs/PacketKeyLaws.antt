@@ -18,18 +18,20 @@ last-place n l long = rw (drop-cons l n 0 (omega arith), drop-of-length-le l non
     none : length l ≤ suc n
     none = omega arith
 
-module _ (w : ℕ) (key source destination ports : List ℕ) (x : ℕ) (room : length key ≡ w + w + 5) (source-long : length source ≡ w) (destination-long : length destination ≡ w) (ports-long : length ports ≡ 4) where
-  both-long : length (source ++ destination) ≡ w + w
-  both-long = rw length-append (omega arith)
+-- the parts of a key, and the place for it
+pub record KeyParts (w : ℕ) (key source destination ports : List ℕ) : Type 0 where
+  pub room : length key ≡ w + w + 5
+  pub source-long : length source ≡ w
+  pub destination-long : length destination ≡ w
+  pub ports-long : length ports ≡ 4
 
-  all-long : length ((source ++ destination) ++ ports) ≡ w + w + 4
-  all-long = rw (length-append, both-long) (omega arith)
-
-  one-left : drop 4 (drop w (drop w key)) ≡ getD (drop w (drop w key)) 4 0 ∷ []
-  one-left = last-place 4 (drop w (drop w key)) (simp length-drop (omega arith))
-
-  pub key-written : set (back (w + w) 4 (back w w (source ++ drop w key) destination) ports) (w + w + 4) x ≡ source ++ destination ++ ports ++ (x ∷ [])
-  key-written =
-      rw (next-part w w source (drop w key) destination source-long, next-part (w + w) 4 (source ++ destination) (drop w (drop w key)) ports both-long)
-      (ap (λ (end : List ℕ). set (((source ++ destination) ++ ports) ++ end) (w + w + 4) x) one-left
-      ∙ set-at ((source ++ destination) ++ ports) (getD (drop w (drop w key)) 4 0) [] x (w + w + 4) all-long ∙ simp append-assoc)
+pub key-written : {w : ℕ} {key source destination ports : List ℕ} → KeyParts w key source destination ports → (x : ℕ)
+    → set (back (w + w) 4 (back w w (source ++ drop w key) destination) ports) (w + w + 4) x ≡ source ++ destination ++ ports ++ (x ∷ [])
+key-written {w} {key} {source} {destination} {ports} p x =
+    let both-long : length (source ++ destination) ≡ w + w = rw length-append (omega arith) in
+    let all-long : length ((source ++ destination) ++ ports) ≡ w + w + 4 = rw (length-append, both-long) (omega arith) in
+    let left : List ℕ = drop w (drop w key) in
+    let one-left : drop 4 left ≡ getD left 4 0 ∷ [] = last-place 4 left (simp length-drop (omega arith)) in
+    rw (next-part w w source (drop w key) destination (p .source-long), next-part (w + w) 4 (source ++ destination) left ports both-long)
+    (ap (λ (end : List ℕ). set (((source ++ destination) ++ ports) ++ end) (w + w + 4) x) one-left
+    ∙ set-at ((source ++ destination) ++ ports) (getD left 4 0) [] x (w + w + 4) all-long ∙ simp append-assoc)

@@ -76,25 +76,30 @@ pub appends-then : (t u a b c : List ℕ) (n m k : ℕ) → Appends t a n b m �
 appends-then t u a b c n m k f g empty earlier w =
     subst (λ (x : List ℕ). Writes x empty c k) (append-assoc earlier t u) (g empty (earlier ++ t) (f empty earlier w))
 
--- a number of 64 bits: ds starts with its k digits, which are copied to the front
-module _ (n k : ℕ) (ds : List ℕ) (fits : n < 18446744073709551616) (spelled : Counts k ds × (Fewest 10 1 n k × (take k ds ≡ digits 10 k n))) where
+-- a number of 64 bits: ds starts with its k digits, and a buffer has room for them
+pub record Spelled (n k : ℕ) (ds to : List ℕ) : Type 0 where
+  pub fits : n < 18446744073709551616
+  pub spelled : Counts k ds × (Fewest 10 1 n k × (take k ds ≡ digits 10 k n))
+  pub room : 21 ≤ length to
+
+module _ {n k : ℕ} {ds to : List ℕ} (s : Spelled n k ds to) where
   digits-are : take k ds ≡ decimal n
-  digits-are = spelled .1 .1 ∙ fewest-decimal k n (spelled .1 .0)
+  digits-are = s .spelled .1 .1 ∙ fewest-decimal k n (s .spelled .1 .0)
 
   length-is : k ≡ length (decimal n)
-  length-is = spelled .0 .1 ∙ ap length digits-are
+  length-is = s .spelled .0 .1 ∙ ap length digits-are
 
   pub few-digits : k ≤ 20
-  few-digits = let most : length (decimal n) ≤ 20 = decimal-length 19 n (omega arith) in omega (arith, most, length-is)
+  few-digits = omega (arith, decimal-length 19 n (omega (arith, s .fits)), length-is)
 
-  module _ (to : List ℕ) (room : 21 ≤ length to) where
-    pub front-length : length (take k to) ≡ k
-    front-length = length-take-le k to (omega (arith, few-digits))
+  pub front-length : length (take k to) ≡ k
+  front-length = length-take-le k to (omega (arith, few-digits, s .room))
 
-    module _ (copied : List ℕ) (same : copied ≡ take k ds) where
-      pub decimal-inside : k < length (copied ++ drop k to)
-      decimal-inside = rw (same, length-append, length-drop) (omega (arith, few-digits, spelled .0 .1))
+  -- the digits are copied to the front
+  module _ (copied : List ℕ) (same : copied ≡ take k ds) where
+    pub decimal-inside : k < length (copied ++ drop k to)
+    decimal-inside = rw (same, length-append, length-drop) (omega (arith, few-digits, s .room, s .spelled .0 .1))
 
-      pub decimal-written : (after : ℕ) → Writes (decimal n ++ (after ∷ [])) to (set (copied ++ drop k to) k after) (k + 1) × (k + 1 ≤ 21)
-      decimal-written after =
-          rw (same, digits-are) (byte-after (decimal n) to k after (sym length-is) (omega (arith, few-digits)), omega (arith, few-digits))
+    pub decimal-written : (after : ℕ) → Writes (decimal n ++ (after ∷ [])) to (set (copied ++ drop k to) k after) (k + 1) × (k + 1 ≤ 21)
+    decimal-written after =
+        rw (same, digits-are) (byte-after (decimal n) to k after (sym length-is) (omega (arith, few-digits, s .room)), omega (arith, few-digits))

@@ -1,36 +1,31 @@
 -- `packet::write_ports` meets its contract: what is lent to the port reader is the part after the header.
-use mathlib.Core.Path.{sym, _∙_}
+use mathlib.Core.Path.{_≡_, sym, _∙_}
+use mathlib.Core.Bool.{true}
 use borrow.Author.Tests.{not-true, not-false}
-use Rattle.packet.proofs.JudgingLaws.{no-ports, ports-fit, ports-lent}
+use Rattle.theory.specs.Packet.{has-ports}
+use Rattle.packet.proofs.JudgingLaws.{PortsRead, no-ports, ports-fit, ports-lent}
 use borrow.Author.Needs.{needs}
 use Rattle.packet.proofs.write_ports.Statement.{statement}
 use Rattle.packet.proofs.write_ports.Tie as tie
 
+-- ---- the protocol has no ports
 returns : tie.Need-returns
 returns c =
-    let start = c .before .before .before .before .before .before .before .before in
-    let has-ports = c .before .before .before .before .before .has-ports in
-    let if1 = c .before .before .before .before .if1 in
-    let zero-fill = c .before .before .zero-fill in
-    rw (zero-fill .ensures, start .pre .1) (no-ports (start .args .packet .now) (sym (has-ports .ensures) ∙ not-true _ (if1 .taken)))
+    let told = c .before .before .before .before in
+    let start = told .before .before .before .before in
+    let none = sym (told .before .has-ports .ensures) ∙ not-true _ (told .if1 .taken) in
+    rw (c .before .before .zero-fill .ensures, start .pre .1) (no-ports (start .args .packet .now) none)
 
-read-ports-requires : tie.Need-read-ports-requires
-read-ports-requires c κs =
-    let start = c .before .before .before .before .before .before .before in
-    let has-ports = c .before .before .before .before .has-ports in
-    let if1 = c .before .before .before .if1 in
-    let header-length = c .before .before .header-length in
-    (ports-fit (start .args .packet .now) (start .pre .0) (sym (has-ports .ensures) ∙ not-false _ (if1 .left)) (header-length .result) (header-length .ensures), start .pre .1)
+-- ---- it has, and the header's end is read
+module _ (c : tie.After-header-length) where
+  abbrev start : tie.Start
+  start = c .before .before .before .before .before
 
-returns-2 : tie.Need-returns-2
-returns-2 c =
-    let start = c .before .before .before .before .before .before .before .before .before .before in
-    let has-ports = c .before .before .before .before .before .before .before .has-ports in
-    let if1 = c .before .before .before .before .before .before .if1 in
-    let header-length = c .before .before .before .before .before .header-length in
-    let read-ports = c .before .before .read-ports in
-    read-ports .ensures
-    ∙ ports-lent (start .args .packet .now) (start .pre .0) (sym (has-ports .ensures) ∙ not-false _ (if1 .left)) (header-length .result) (header-length .ensures)
+  has : has-ports (start .args .packet .now) ≡ true
+  has = sym (c .before .before .has-ports .ensures) ∙ not-false _ (c .before .if1 .left)
+
+  known : PortsRead (start .args .packet .now) (c .header-length .result)
+  known = record { right = start .pre .0; has = has; end = c .header-length .ensures }
 
 pub write-ports-spec : {M : Type 1} → statement M
 write-ports-spec =
@@ -44,6 +39,6 @@ write-ports-spec =
     (λ c. search needs)
     (λ c. search needs)
     (λ c. search needs)
-    read-ports-requires
+    (λ c κs. (ports-fit (known (c .before .before)), start (c .before .before) .pre .1))
     (λ c. search needs)
-    returns-2)
+    (λ c. c .before .before .read-ports .ensures ∙ ports-lent (known (c .before .before .before .before .before))))

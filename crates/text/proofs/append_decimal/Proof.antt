@@ -9,11 +9,12 @@ use Rattle.text.proofs.append_decimal.Tie as tie
 
 returns : tie.Need-returns
 returns c =
-    let start = c .before .before .before .before .before in
-    let write-decimal = c .before .before .write-decimal in (
-      append-lent (decimal (start .args .n) ++ (start .args .after ∷ [])) (start .args .to .now) (write-decimal .last .0) (start .args .at) (write-decimal .result) (omega (arith, start .pre)) (write-decimal .ensures .0),
+    let written = c .before .before in
+    let start = written .before .before .before in
+    let told = written .write-decimal .ensures in (
+      append-lent (decimal (start .args .n) ++ (start .args .after ∷ [])) (start .args .to .now) _ (start .args .at) _ (omega (arith, start .pre)) (told .0),
       omega arith,
-      omega (arith, write-decimal .ensures .1),
+      omega arith,
     )
 
 pub append-decimal-spec : {M : Type 1} → statement M

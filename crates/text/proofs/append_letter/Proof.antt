@@ -8,11 +8,12 @@ use Rattle.text.proofs.append_letter.Tie as tie
 
 returns : tie.Need-returns
 returns c =
-    let start = c .before .before .before .before .before in
-    let write-letter = c .before .before .write-letter in (
-      append-lent (start .args .letter ∷ start .args .after ∷ []) (start .args .to .now) (write-letter .last .0) (start .args .at) (write-letter .result) (omega (arith, start .pre)) (write-letter .ensures .0),
+    let written = c .before .before in
+    let start = written .before .before .before in
+    let told = written .write-letter .ensures in (
+      append-lent (start .args .letter ∷ start .args .after ∷ []) (start .args .to .now) _ (start .args .at) _ (omega (arith, start .pre)) (told .0),
       omega arith,
-      omega (arith, write-letter .ensures .1),
+      omega arith,
     )
 
 pub append-letter-spec : {M : Type 1} → statement M

@@ -1,4 +1,4 @@
--- `text::write_letter` meets its contract.
+-- `text::write_letter` meets its contract: the law `two-bytes`.
 use borrow.Author.Needs.{needs}
 use mathlib.Core.Path.{refl}
 use native.Mathlib.Omega.{arith}
@@ -6,8 +6,11 @@ use Rattle.text.proofs.TextLaws.{two-bytes}
 use Rattle.text.proofs.write_letter.Statement.{statement}
 use Rattle.text.proofs.write_letter.Tie as tie
 
-returns : tie.Need-returns
-returns c = ((refl, two-bytes (c .args .to .now) (c .args .letter) (c .args .after) (c .pre)), omega arith)
-
 pub write-letter-spec : {M : Type 1} → statement M
-write-letter-spec = tie.close (tie.spec (λ c. search needs) (λ c. search needs) (λ c. search needs) returns)
+write-letter-spec =
+    tie.close
+    (tie.spec
+    (λ c. search needs)
+    (λ c. search needs)
+    (λ c. search needs)
+    (λ c. ((refl, two-bytes (c .args .to .now) (c .args .letter) (c .args .after) (c .pre)), omega arith)))

@@ -5,37 +5,33 @@ use Prim.Native.Nat.{_+_, _*_, _≤_}
 use native.Mathlib.Omega.{arith}
 use lib.ListN.{length}
 use Rattle.theory.specs.Records.{count-of}
-use Rattle.settings.specs.Checked.{card}
 use Rattle.memory.proofs.SliceLaws.{bytes-of}
-use Rattle.ledger.proofs.LedgerEditLaws.{record-within, ends-within, replaced}
+use Rattle.ledger.proofs.LedgerEditLaws.{Place, remove-room, replaced}
 use Rattle.ledger.proofs.edits.replace_record.Statement.{statement}
 use Rattle.ledger.proofs.edits.replace_record.Tie as tie
 
--- the record lies in the area
-room : (c : tie.After-record-size) → 2 + c .record-size .result * c .before .before .before .args .at + c .record-size .result ≤ length
-    (c .before .before .before .args .ledger .now)
-room c =
-    let start = c .before .before .before in
-    let ledger = start .args .ledger .now in
-    let the-card = card (start .args .s) in
-    omega (
-      arith,
-      record-within the-card ledger (start .pre .0 .size) (start .pre .0 .rules) (c .record-size .result) (count-of ledger) (c .record-size .ensures) refl
-          (start .args .at) (start .pre .1),
-      ends-within the-card ledger (start .pre .0 .size) (start .pre .0 .rules) (c .record-size .result) (count-of ledger)
-          (c .record-size .ensures) refl,
-    )
+-- ---- a record's size is read
+module _ (c : tie.After-record-size) where
+  abbrev start : tie.Start
+  start = c .before .before .before
+
+  place : Place (start .args .s) (start .args .ledger .now) (c .record-size .result) (count-of (start .args .ledger .now)) (start .args .at)
+  place = record {
+    ledger = start .pre .0;
+    bytes = bytes-of (start .args .ledger .now) (c .before .before .slice-known .given);
+    size-is = c .record-size .ensures;
+    count = refl;
+    within = omega (arith, start .pre .1);
+  }
+
+  -- the record lies in the area
+  room : 2 + c .record-size .result * start .args .at + c .record-size .result ≤ length (start .args .ledger .now)
+  room = omega (arith, remove-room place (start .pre .1))
 
 returns : tie.Need-returns
-returns c =
-    let start = c .before .before .before .before .before .before .before in
-    let ledger = start .args .ledger .now in
-    let the-card = card (start .args .s) in
-    let record-size = c .before .before .before .before .record-size in
-    let copy = c .before .before .copy in
-    let slice-known = c .before .before .before .before .before .before .slice-known in
-    λ x q. replaced the-card ledger (start .pre .0 .size) (start .pre .0 .rules) (bytes-of ledger (slice-known .given)) (record-size .result) (record-size .ensures)
-    (start .args .at) (start .pre .1) (copy .last .0) x (q ∙ sym (copy .ensures))
+returns c = λ x q.
+    let sized = c .before .before .before .before in
+    replaced (place sized) (start sized .pre .1) _ x (q ∙ sym (c .before .before .copy .ensures))
 
 pub replace-record-spec : {M : Type 1} → statement M
 replace-record-spec =

@@ -1,8 +1,11 @@
 -- `ledger::keys::below_key` meets its contract: the loop keeps that the test of the bytes from i on is that of the keys.
 use mathlib.Core.Path.{_≡_, refl, sym, _∙_}
-use Prim.Native.Nat.{_≤_, _-_}
+use mathlib.Core.Bool.{_&&_, _||_}
+use mathlib.Core.List.{List}
+use Prim.Native.Nat.{ℕ, _≤_, _+_, _-_}
 use native.Mathlib.Omega.{arith}
-use lib.ListN.{length, drop}
+use lib.Dec.{eqb, ltb}
+use lib.ListN.{length, drop, getD}
 use borrow.Author.Tests.{eq-eqb, ne-eqb, lt-ltb, le-ltb}
 use Rattle.theory.specs.Records.{key-below}
 use Rattle.ledger.proofs.KeyCompareLaws.{below-from, below-end}
@@ -15,33 +18,33 @@ Inv-loop a b i₀ i = (i ≤ length a) × (key-below (drop i a) (drop i b) ≡ k
 abbrev μ-loop : tie.MeasureT-loop
 μ-loop a b i₀ i = length a - i
 
-returns : tie.Need-returns Inv-loop μ-loop
-returns c =
-    let loop = c .before .before .before .before .loop in
-    let args = c .before .before .before .before .before .args in
-    sym (sym (loop .inv .1) ∙ below-from (args .a .now) (args .b .now) (loop .i) (omega arith) (omega arith) ∙ rw (lt-ltb _ _ (c .if1 .taken)))
+-- ---- byte i is met
+module _ (c : tie.In-loop Inv-loop μ-loop) where
+  abbrev a : List ℕ
+  a = c .before .before .args .a .now
 
-returns-2 : tie.Need-returns-2 Inv-loop μ-loop
-returns-2 c =
-    let loop = c .before .before .before .before .before .before .before .loop in
-    let args = c .before .before .before .before .before .before .before .before .args in
-    sym (sym (loop .inv .1) ∙ below-from (args .a .now) (args .b .now) (loop .i) (omega arith) (omega arith)
-    ∙ rw (le-ltb _ _ (c .before .before .before .if1 .left), ne-eqb _ _ (c .if2 .taken)))
+  abbrev b : List ℕ
+  b = c .before .before .args .b .now
 
-loop-again : tie.Need-loop-again Inv-loop μ-loop
-loop-again c =
-    let loop = c .before .before .before .before .before .before .before .loop in
-    let args = c .before .before .before .before .before .before .before .before .args in (
-      omega arith,
-      sym (rw (le-ltb _ _ (c .before .before .before .if1 .left), eq-eqb _ _ (c .if2 .left)) at
-          (below-from (args .a .now) (args .b .now) (loop .i) (omega arith) (omega arith))) ∙ loop .inv .1,
-    )
+  abbrev i : ℕ
+  i = c .before .loop .i
+
+  here : key-below a b ≡ (ltb (getD a i 0) (getD b i 0) || (eqb (getD a i 0) (getD b i 0) && key-below (drop (i + 1) a) (drop (i + 1) b)))
+  here = sym (c .before .loop .inv .1) ∙ below-from a b i (omega arith) (omega arith)
+
+-- ---- it is not below
+module _ (c : tie.Else1 Inv-loop μ-loop) where
+  abbrev met : tie.In-loop Inv-loop μ-loop
+  met = c .before .before .before
+
+  not-below : key-below (a met) (b met)
+      ≡ (eqb (getD (a met) (i met) 0) (getD (b met) (i met) 0) && key-below (drop (i met + 1) (a met)) (drop (i met + 1) (b met)))
+  not-below = here met ∙ rw (le-ltb _ _ (c .if1 .left))
 
 returns-3 : tie.Need-returns-3 Inv-loop μ-loop
 returns-3 c =
-    let loop = c .before .loop in
     let args = c .before .before .args in
-    sym (below-end (args .a .now) (args .b .now) (loop .i) (omega arith) (omega arith)) ∙ loop .inv .1
+    sym (below-end (args .a .now) (args .b .now) (c .before .loop .i) (omega arith) (omega arith)) ∙ c .before .loop .inv .1
 
 pub below-key-spec : {M : Type 1} → statement M
 below-key-spec =
@@ -52,11 +55,11 @@ below-key-spec =
     (λ c. (omega arith, refl))
     (λ c. omega arith)
     (λ c. omega arith)
-    returns
+    (λ c. sym (here (c .before .before .before) ∙ rw (lt-ltb _ _ (c .if1 .taken))))
     (λ c. omega arith)
     (λ c. omega arith)
-    returns-2
+    (λ c. sym (not-below (c .before .before .before) ∙ rw (ne-eqb _ _ (c .if2 .taken))))
     (λ c. omega arith)
     (λ c. omega arith)
-    loop-again
+    (λ c. (omega arith, sym (not-below (c .before .before .before) ∙ rw (eq-eqb _ _ (c .if2 .left)))))
     returns-3)

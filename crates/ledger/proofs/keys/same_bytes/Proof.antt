@@ -1,8 +1,11 @@
 -- `ledger::keys::same_bytes` meets its contract: the loop keeps that the test of the bytes from i on is that of the keys.
 use mathlib.Core.Path.{_≡_, refl, sym, _∙_}
-use Prim.Native.Nat.{_≤_, _-_}
+use mathlib.Core.Bool.{_&&_}
+use mathlib.Core.List.{List}
+use Prim.Native.Nat.{ℕ, _≤_, _+_, _-_}
 use native.Mathlib.Omega.{arith}
-use lib.ListN.{length, drop}
+use lib.Dec.{eqb}
+use lib.ListN.{length, drop, getD}
 use borrow.Author.Tests.{eq-eqb, ne-eqb}
 use Rattle.theory.specs.Records.{same-key}
 use Rattle.ledger.proofs.KeyCompareLaws.{same-from, same-end}
@@ -15,23 +18,24 @@ Inv-loop a b i₀ i = (i ≤ length a) × (same-key (drop i a) (drop i b) ≡ sa
 abbrev μ-loop : tie.MeasureT-loop
 μ-loop a b i₀ i = length a - i
 
-returns : tie.Need-returns Inv-loop μ-loop
-returns c =
-    let loop = c .before .before .before .before .loop in
-    let args = c .before .before .before .before .before .args in
-    sym (sym (loop .inv .1) ∙ same-from (args .a .now) (args .b .now) (loop .i) (omega arith) (omega arith) ∙ rw (ne-eqb _ _ (c .if1 .taken)))
+-- ---- byte i is met
+module _ (c : tie.In-loop Inv-loop μ-loop) where
+  abbrev a : List ℕ
+  a = c .before .before .args .a .now
 
-loop-again : tie.Need-loop-again Inv-loop μ-loop
-loop-again c =
-    let loop = c .before .before .before .before .loop in
-    let args = c .before .before .before .before .before .args in
-    (omega arith, sym (rw (eq-eqb _ _ (c .if1 .left)) at (same-from (args .a .now) (args .b .now) (loop .i) (omega arith) (omega arith))) ∙ loop .inv .1)
+  abbrev b : List ℕ
+  b = c .before .before .args .b .now
+
+  abbrev i : ℕ
+  i = c .before .loop .i
+
+  here : same-key a b ≡ (eqb (getD a i 0) (getD b i 0) && same-key (drop (i + 1) a) (drop (i + 1) b))
+  here = sym (c .before .loop .inv .1) ∙ same-from a b i (omega arith) (omega arith)
 
 returns-2 : tie.Need-returns-2 Inv-loop μ-loop
 returns-2 c =
-    let loop = c .before .loop in
     let args = c .before .before .args in
-    sym (same-end (args .a .now) (args .b .now) (loop .i) (omega arith) (omega arith)) ∙ loop .inv .1
+    sym (same-end (args .a .now) (args .b .now) (c .before .loop .i) (omega arith) (omega arith)) ∙ c .before .loop .inv .1
 
 pub same-bytes-spec : {M : Type 1} → statement M
 same-bytes-spec =
@@ -42,8 +46,8 @@ same-bytes-spec =
     (λ c. (omega arith, refl))
     (λ c. omega arith)
     (λ c. omega arith)
-    returns
+    (λ c. sym (here (c .before .before .before) ∙ rw (ne-eqb _ _ (c .if1 .taken))))
     (λ c. omega arith)
     (λ c. omega arith)
-    loop-again
+    (λ c. (omega arith, sym (here (c .before .before .before) ∙ rw (eq-eqb _ _ (c .if1 .left)))))
     returns-2)

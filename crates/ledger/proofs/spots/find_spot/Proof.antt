@@ -1,12 +1,13 @@
 -- `ledger::spots::find_spot` meets its contract: the loop keeps `Halving`, that every record before low is below the key and none from high on is.
-use mathlib.Core.Path.{_≡_, sym, _∙_}
-use Prim.Native.Nat.{_≤_, _<_, _-_, _+_, _*_, _/_}
-use native.Mathlib.Nat.{add-sub-cancel-left}
+use mathlib.Core.Path.{_≡_, sym, ap, _∙_}
+use mathlib.Core.List.{List}
+use Prim.Native.Nat.{ℕ, _≤_, _<_, _-_, _+_, _*_, _/_}
 use native.Mathlib.Omega.{arith}
 use lib.ListN.{length}
-use Rattle.theory.specs.Records.{key-below}
-use Rattle.memory.proofs.SliceLaws.{length-lent}
-use Rattle.ledger.proofs.SpotLaws.{Halving, key-at, place-room, halving-start, halving-up, halving-down, found-end, found-here}
+use Rattle.theory.specs.Records.{same-key, key-below}
+use Rattle.memory.proofs.SliceLaws.{length-part}
+use Rattle.ledger.proofs.RisingLaws.{place-room, key-in}
+use Rattle.ledger.proofs.SpotLaws.{Halving, halving-start, halving-up, halving-down, found-end, found-here}
 use Rattle.ledger.proofs.spots.find_spot.Statement.{statement}
 use Rattle.ledger.proofs.spots.find_spot.Tie as tie
 
@@ -16,96 +17,72 @@ Inv-loop places n key width size low₀ high₀ low high = Halving places n key 
 abbrev μ-loop : tie.MeasureT-loop
 μ-loop places n key width size low₀ high₀ low high = high - low
 
--- the record in the middle, and the one at the end of the search, lie in the places
-room : (c : tie.In-loop Inv-loop μ-loop) → (c .before .loop .low + (c .before .loop .high - c .before .loop .low) / 2) * (length
-    (c .before .before .before .before .args .key .now) + 4) + (length (c .before .before .before .before .args .key .now) + 4) ≤ length
-    (c .before .before .before .before .args .places .now)
-room c =
-    let start = c .before .before .before .before in
-    place-room (c .before .loop .low + (c .before .loop .high - c .before .loop .low) / 2) (start .args .n) (length (start .args .key .now) + 4)
-    (length (start .args .places .now)) (omega (arith, c .before .loop .inv .order, c .before .loop .inv .within)) (start .pre .0)
+-- ---- the records and the key
+module _ (c : tie.Start Inv-loop μ-loop) where
+  abbrev places : List ℕ
+  places = c .args .places .now
 
-compared : (c : tie.After-below-key Inv-loop μ-loop) → c .below-key .result
-    ≡ key-below (key-at (c .before .before .before .before .before .before .args .places .now) (c .before .before .before .before .before .before .args .n)
-    (c .before .before .before .before .before .before .args .key .now)
-    (c .before .before .before .loop .low + (c .before .before .before .loop .high - c .before .before .before .loop .low) / 2))
-    (c .before .before .before .before .before .before .args .key .now)
-compared c =
-    let start = c .before .before .before .before .before .before in
-    let key = start .args .key .now in
-    let loop = c .before .before .before .loop in
-    rw (add-sub-cancel-left ((loop .low + (loop .high - loop .low) / 2) * (length key + 4)) (length key)) at (c .below-key .ensures)
+  abbrev key : List ℕ
+  key = c .args .key .now
 
-low-below : (c : tie.Else2 Inv-loop μ-loop) → c .before .before .loop .low < c .before .before .before .before .before .args .n
-low-below c = omega (arith, c .before .before .loop .inv .order, c .before .before .loop .inv .within, c .if2 .left)
+  room : (i : ℕ) → i < c .args .n → i * (length key + 4) + (length key + 4) ≤ length places
+  room i h = place-room i (c .args .n) (length key + 4) (length places) h (c .pre .0)
 
-room-low : (c : tie.Else2 Inv-loop μ-loop) → c .before .before .loop .low * (length (c .before .before .before .before .before .args .key .now) + 4) + (length
-    (c .before .before .before .before .before .args .key .now) + 4) ≤ length (c .before .before .before .before .before .args .places .now)
-room-low c =
-    let start = c .before .before .before .before .before in
-    let loop = c .before .before .loop in
-    place-room (loop .low) (start .args .n) (length (start .args .key .now) + 4) (length (start .args .places .now)) (low-below c) (start .pre .0)
+  wide : (i : ℕ) → i < c .args .n → length (key-in (length key) places i) ≡ length key
+  wide i h = length-part (i * (length key + 4)) (length key) places (omega (arith, room i h))
+
+-- ---- the record in the middle
+module _ (c : tie.In-loop Inv-loop μ-loop) where
+  abbrev start : tie.Start Inv-loop μ-loop
+  start = c .before .before .before .before
+
+  abbrev halves : Halving (places start) (start .args .n) (key start) (c .before .loop .low) (c .before .loop .high)
+  halves = c .before .loop .inv
+
+  abbrev middle : ℕ
+  middle = c .before .loop .low + (c .before .loop .high - c .before .loop .low) / 2
+
+  middle-listed : middle < start .args .n
+  middle-listed = omega (arith, halves .order, halves .within)
+
+-- ---- its key is compared
+module _ (c : tie.After-below-key Inv-loop μ-loop) where
+  abbrev met : tie.In-loop Inv-loop μ-loop
+  met = c .before .before
+
+  compared : c .below-key .result ≡ key-below (key-in (length (key (start met))) (places (start met)) (middle met)) (key (start met))
+  compared = c .below-key .ensures ∙ ap (λ (k : List ℕ). key-below k (key (start met))) (c .before .key-at .ensures)
+
+-- ---- low and high have met, at a record
+module _ (c : tie.Else2 Inv-loop μ-loop) where
+  abbrev first : tie.Start Inv-loop μ-loop
+  first = c .before .before .before .before .before
+
+  abbrev low : ℕ
+  low = c .before .before .loop .low
+
+  low-listed : low < first .args .n
+  low-listed = omega (arith, c .before .before .loop .inv .order, c .before .before .loop .inv .within, c .if2 .left)
 
 loop-holds : tie.Need-loop-holds Inv-loop μ-loop
-loop-holds c =
-    let start = c .before .before in
-    halving-start (start .args .places .now) (start .args .n) (start .args .key .now)
-
-add-middle : tie.Need-add-middle Inv-loop μ-loop
-add-middle c = omega (arith, c .before .loop .inv .order, c .before .loop .inv .within)
-
-below-key-requires : tie.Need-below-key-requires Inv-loop μ-loop
-below-key-requires c κs =
-    let start = c .before .before .before .before .before in
-    let key = start .args .key .now in
-    let loop = c .before .before .loop in
-    length-lent ((loop .low + (loop .high - loop .low) / 2) * (length key + 4)) (length key) (start .args .places .now) (omega (arith, room (c .before)))
-
-add-low : tie.Need-add-low Inv-loop μ-loop
-add-low c = omega (arith, c .before .before .before .before .loop .inv .within)
-
-loop-less : tie.Need-loop-less Inv-loop μ-loop
-loop-less c = omega (arith, c .before .before .before .before .loop .inv .order)
+loop-holds c = let start = c .before .before in halving-start (places start) (start .args .n) (key start) (start .pre .1)
 
 loop-again : tie.Need-loop-again Inv-loop μ-loop
 loop-again c =
-    let start = c .before .before .before .before .before .before .before in
-    let loop = c .before .before .before .before .loop in
-    halving-up (start .args .places .now) (start .args .n) (start .args .key .now) (start .pre .1) (loop .low) (loop .high) (loop .inv)
-    (loop .low + (loop .high - loop .low) / 2) (omega (arith, loop .inv .order)) (sym (compared (c .before)) ∙ c .if1 .taken)
-
-loop-less-2 : tie.Need-loop-less-2 Inv-loop μ-loop
-loop-less-2 c = omega (arith, c .before .before .before .before .loop .inv .order)
+    let met = met (c .before) in
+    halving-up (halves met) (middle met) (omega (arith, halves met .order)) (sym (compared (c .before)) ∙ c .if1 .taken)
 
 loop-again-2 : tie.Need-loop-again-2 Inv-loop μ-loop
 loop-again-2 c =
-    let start = c .before .before .before .before .before .before .before in
-    let loop = c .before .before .before .before .loop in
-    halving-down (start .args .places .now) (start .args .n) (start .args .key .now) (start .pre .1) (loop .low) (loop .high) (loop .inv)
-    (loop .low + (loop .high - loop .low) / 2) (omega (arith, loop .inv .order)) (omega (arith, loop .inv .order)) (sym (compared (c .before)) ∙ c .if1 .left)
-
-returns : tie.Need-returns Inv-loop μ-loop
-returns c =
-    let start = c .before .before .before .before .before in
-    let loop = c .before .before .loop in
-    found-end (start .args .places .now) (start .args .n) (start .args .key .now) (start .pre .1) (loop .low) (loop .high) (loop .inv) (c .before .loop-test .left)
-    (c .if2 .taken)
-
-same-key-requires : tie.Need-same-key-requires Inv-loop μ-loop
-same-key-requires c κs =
-    let start = c .before .before .before .before .before .before in
-    let key = start .args .key .now in
-    let loop = c .before .before .before .loop in
-    sym (length-lent (loop .low * (length key + 4)) (length key) (start .args .places .now) (omega (arith, room-low (c .before))))
+    let met = met (c .before) in
+    let order = halves met .order in
+    halving-down (halves met) (middle met) (omega arith) (omega arith) (sym (compared (c .before)) ∙ c .if1 .left)
 
 returns-2 : tie.Need-returns-2 Inv-loop μ-loop
 returns-2 c =
-    let start = c .before .before .before .before .before .before .before in
-    let key = start .args .key .now in
-    let loop = c .before .before .before .before .loop in
-    let loop-test = c .before .before .before .loop-test in
-    found-here (start .args .places .now) (start .args .n) key (start .pre .1) (loop .low) (loop .high) (loop .inv) (loop-test .left)
-    (low-below (c .before .before)) (c .same-key .result) (rw (add-sub-cancel-left (loop .low * (length key + 4)) (length key)) at (c .same-key .ensures))
+    let end = c .before .before in
+    found-here (end .before .before .loop .inv) (end .before .loop-test .left) (low-listed end) (c .same-key .result)
+    (c .same-key .ensures ∙ ap (same-key (key (first end))) (c .before .key-at2 .ensures))
 
 pub find-spot-spec : {M : Type 1} → statement M
 find-spot-spec =
@@ -115,24 +92,16 @@ find-spot-spec =
     μ-loop
     (λ c. omega arith)
     loop-holds
-    (λ c. omega (arith, c .before .loop .inv .order))
-    add-middle
-    (λ c. omega (arith, room c))
-    (λ c. omega (arith, room c))
-    (λ c. omega (arith, room c))
-    (λ c. omega (arith, room c))
-    (λ c. omega (arith, room c))
-    below-key-requires
-    add-low
-    loop-less
+    (λ c. omega (arith, halves c .order))
+    (λ c. omega (arith, middle-listed c))
+    (λ c κs. omega (arith, room (start c) (middle c) (middle-listed c)))
+    (λ c κs. ap length (c .key-at .ensures) ∙ wide (start (c .before)) (middle (c .before)) (middle-listed (c .before)))
+    (λ c. omega (arith, middle-listed (met (c .before))))
+    (λ c. omega (arith, halves (met (c .before)) .order))
     loop-again
-    loop-less-2
+    (λ c. omega (arith, halves (met (c .before)) .order))
     loop-again-2
-    returns
-    (λ c. omega (arith, room-low c))
-    (λ c. omega (arith, room-low c))
-    (λ c. omega (arith, room-low c))
-    (λ c. omega (arith, room-low c))
-    (λ c. omega (arith, room-low c))
-    same-key-requires
+    (λ c. found-end (c .before .before .loop .inv) (c .before .loop-test .left) (c .if2 .taken))
+    (λ c κs. omega (arith, room (first c) (low c) (low-listed c)))
+    (λ c κs. sym (ap length (c .key-at2 .ensures) ∙ wide (first (c .before)) (low (c .before)) (low-listed (c .before))))
     returns-2)

@@ -4,9 +4,7 @@ use borrow.Author.Needs.{needs}
 use Rattle.packet.proofs.header.has_ports.Statement.{statement}
 use Rattle.packet.proofs.header.has_ports.Tie as tie
 
-returns : tie.Need-returns
-unfolding has-ports
-returns c = rw (c .protocol-has-ports .ensures, c .before .protocol .ensures)
-
 pub has-ports-spec : {M : Type 1} → statement M
-has-ports-spec = tie.close (tie.spec (λ c κs. search needs) (λ c κs. search needs) returns)
+has-ports-spec =
+    tie.close
+    (tie.spec (λ c κs. search needs) (λ c κs. search needs) (λ c. unfold has-ports in rw (c .protocol-has-ports .ensures, c .before .protocol .ensures)))

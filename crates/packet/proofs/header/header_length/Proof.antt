@@ -5,9 +5,5 @@ use borrow.Author.Needs.{needs}
 use Rattle.packet.proofs.header.header_length.Statement.{statement}
 use Rattle.packet.proofs.header.header_length.Tie as tie
 
-returns : tie.Need-returns
-unfolding header-length
-returns c = refl
-
 pub header-length-spec : {M : Type 1} → statement M
-header-length-spec = tie.close (tie.spec (λ c. search needs) (λ c. search needs) (λ c. search needs) returns)
+header-length-spec = tie.close (tie.spec (λ c. search needs) (λ c. search needs) (λ c. search needs) (λ c. unfold header-length in refl))

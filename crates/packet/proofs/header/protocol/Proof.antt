@@ -5,9 +5,5 @@ use borrow.Author.Needs.{needs}
 use Rattle.packet.proofs.header.protocol.Statement.{statement}
 use Rattle.packet.proofs.header.protocol.Tie as tie
 
-returns : tie.Need-returns
-unfolding protocol
-returns c = refl
-
 pub protocol-spec : {M : Type 1} → statement M
-protocol-spec = tie.close (tie.spec (λ c. search needs) returns)
+protocol-spec = tie.close (tie.spec (λ c. search needs) (λ c. unfold protocol in refl))

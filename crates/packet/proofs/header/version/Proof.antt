@@ -5,9 +5,5 @@ use borrow.Author.Needs.{needs}
 use Rattle.packet.proofs.header.version.Statement.{statement}
 use Rattle.packet.proofs.header.version.Tie as tie
 
-returns : tie.Need-returns
-unfolding version
-returns c = refl
-
 pub version-spec : {M : Type 1} → statement M
-version-spec = tie.close (tie.spec (λ c. search needs) returns)
+version-spec = tie.close (tie.spec (λ c. search needs) (λ c. unfold version in refl))
