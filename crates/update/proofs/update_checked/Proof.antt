@@ -87,9 +87,6 @@ returns c =
     updated-3 (card-of (t (c .before))) (e .args .edit) (e .args .key .now) (e .args .class) (areas (c .before))
     (λ w. c .if1 .taken (w ∙ sym (c .before .width .ensures)))
 
-record-of-requires : tie.Need-record-of-requires
-record-of-requires c κs = (c .record-size .ensures ∙ size-is (card-of (t (asked c))) ∙ ap (λ (w : ℕ). w + 4) (sym (wide c)), small c)
-
 judge-requires : tie.Need-judge-requires
 judge-requires c κs =
     let opened = c .before .before .before .before in
@@ -142,7 +139,7 @@ update-checked-spec =
     returns
     (λ c κs. search needs)
     (λ c κs. search needs)
-    record-of-requires
+    (λ c κs. (c .record-size .ensures ∙ size-is (card-of (t (asked c))) ∙ ap (λ (w : ℕ). w + 4) (sym (wide c)), small c))
     (λ c. search needs)
     (λ c. in-64 (c .before .before .before))
     (λ c. sym (in-buffer (c .before .before .before .before)))

@@ -20,17 +20,17 @@ use Rattle.snapshot.proofs.saving.save_checked.Tie as tie
 
 -- ---- the ledger is judged
 module _ (c : tie.After-valid) where
-  abbrev entry : tie.Start
-  entry = c .before .before .before .before .before
+  abbrev start : tie.Start
+  start = c .before .before .before .before .before
 
   abbrev t : Settings
-  t = paper (entry .args .s)
+  t = paper (start .args .s)
 
   abbrev area : List ℕ
-  area = entry .args .ledger .now
+  area = start .args .ledger .now
 
   has-two : 2 ≤ length area
-  has-two = has-count (card-of t) area (entry .pre .whole)
+  has-two = has-count (card-of t) area (start .pre .whole)
 
 -- ---- it is within its rules, and its records are counted
 module _ (c : tie.After-count-at) where
@@ -40,16 +40,16 @@ module _ (c : tie.After-count-at) where
   abbrev n : ℕ
   n = c .count-at .result
 
-  known : CountedLedger (entry judged .args .s) (area judged) n
+  known : CountedLedger (start judged .args .s) (area judged) n
   known =
       let rules = not-true _ (sym (judged .valid .ensures) ∙ not-false _ (c .before .if1 .left)) in
       record {
-        valid = record { permitted = entry judged .pre .ready .ok; size = entry judged .pre .whole; rules = rules };
+        valid = record { permitted = start judged .pre .ready .ok; size = start judged .pre .whole; rules = rules };
         count = c .count-at .ensures .0;
       }
 
   most : n ≤ 4096
-  most = omega (arith, many known, capacity-is (t judged), ranges (t judged) (entry judged .pre .ready .ok) .capacity-high)
+  most = omega (arith, many known, capacity-is (t judged), ranges (t judged) (start judged .pre .ready .ok) .capacity-high)
 
 -- ---- they are placed, and their side need counted
 module _ (c : tie.After-place-area) where
@@ -79,14 +79,14 @@ module _ (c : tie.After-record-size) where
 -- ---- the needs
 returns : tie.Need-returns
 returns c =
-    let e = entry (c .before) in
+    let e = start (c .before) in
     saves-4 (e .pre) (e .args .target .now) (not-false _ (sym (c .before .valid .ensures) ∙ not-true _ (c .if1 .taken)))
 
 place-area-requires : tie.Need-place-area-requires
 place-area-requires c κs =
     let buckets = c .before .before .before in
     let counted = buckets .before in
-    let pre = entry (judged counted) .pre in
+    let pre = start (judged counted) .pre in
     record {
       ready = pre .ready;
       buckets = buckets .buckets .ensures;
@@ -99,13 +99,13 @@ place-area-requires c κs =
 returns-2 : tie.Need-returns-2
 returns-2 c =
     let place = c .before .before .before .before .before in
-    let e = entry (at place) in
+    let e = start (at place) in
     saves-9 (e .pre) (e .args .target .now) (known (counted place)) (need-is place) (omega (arith, c .if2 .taken, side-places-are (t (at place))))
 
 returns-3 : tie.Need-returns-3
 returns-3 c =
     let place = placed (c .before) in
-    let e = entry (at place) in
+    let e = start (at place) in
     saves-12 (e .pre) (e .args .target .now) (known (counted place)) (need-is place) (enough (c .before)) (c .before .record-size .ensures) (c .if3 .taken)
 
 write-snapshot-requires : tie.Need-write-snapshot-requires
@@ -119,7 +119,7 @@ returns-4 c =
     let write = c .before .before in
     let right = write .before .before in
     let place = placed (right .before) in
-    let e = entry (at place) in
+    let e = start (at place) in
     saves-0 (e .pre) (e .args .target .now) (known (counted place)) (need-is place) (enough (right .before)) (right .before .record-size .ensures)
     (right .if3 .left) (write .write-snapshot .ensures)
 
@@ -140,7 +140,7 @@ save-checked-spec =
     returns-2
     (λ c κs. search needs)
     (λ c. omega (arith, end c))
-    (λ c. omega (arith, end c, entry (e c) .pre .whole, bounds (t (e c)) (entry (e c) .pre .ready .ok) .ledger-most))
+    (λ c. omega (arith, end c, start (e c) .pre .whole, bounds (t (e c)) (start (e c) .pre .ready .ok) .ledger-most))
     (λ c. search needs)
     returns-3
     write-snapshot-requires

@@ -23,15 +23,6 @@ remove-record-requires c κs =
     let p = rw (told .enum-told3 .given .1) at (told .before .before .before .before .pre) in
     (p .valid, omega (arith, p .place))
 
-returns : tie.Need-returns
-returns c = let made = c .before .before in λ x e. rw (made .before .before .enum-told .given .1, add-zero) (made .insert-record .ensures x e)
-
-returns-2 : tie.Need-returns-2
-returns-2 c = let made = c .before .before in λ x e. rw (made .before .before .enum-told2 .given .1) (made .replace-record .ensures x e)
-
-returns-3 : tie.Need-returns-3
-returns-3 c = let made = c .before .before in λ x e. rw (made .before .before .enum-told3 .given .1) (made .remove-record .ensures)
-
 pub edit-ledger-spec : {M : Type 1} → statement M
 edit-ledger-spec =
     tie.close
@@ -43,8 +34,8 @@ edit-ledger-spec =
     (λ c. search needs)
     remove-record-requires
     (λ c. search needs)
-    returns
+    (λ c. let made = c .before .before in λ x e. rw (made .before .before .enum-told .given .1, add-zero) (made .insert-record .ensures x e))
     (λ c. search needs)
-    returns-2
+    (λ c. let made = c .before .before in λ x e. rw (made .before .before .enum-told2 .given .1) (made .replace-record .ensures x e))
     (λ c. search needs)
-    returns-3)
+    (λ c. let made = c .before .before in λ x e. rw (made .before .before .enum-told3 .given .1) (made .remove-record .ensures)))
