@@ -8,8 +8,7 @@ use lib.ListN.{length}
 use lib.Seq.{length-take-le}
 use Rattle.theory.specs.Settings.{Settings, card-of, record-size}
 use Rattle.theory.specs.Ledger.{side-need-of}
-use Rattle.theory.specs.Layout.{Areas, layout}
-use Rattle.theory.specs.CallAreas.{areas-now}
+use Rattle.theory.specs.Layout.{layout}
 use Rattle.theory.proofs.SettingsLaws.{ranges}
 use Rattle.settings.specs.Checked.{paper}
 use Rattle.settings.proofs.Laws.{capacity-is, side-places-are, work-length-is}
@@ -30,9 +29,6 @@ module _ (c : tie.After-refusal-by-file) where
 
   abbrev file : List ℕ
   file = start .args .file .now
-
-  abbrev areas : Areas
-  areas = areas-now (start .args .ledger) (start .args .true-counts) (start .args .clipped) (start .args .buckets) (start .args .side)
 
   long : 16 ≤ length file
   long = head-long file (start .pre .head)
@@ -90,7 +86,7 @@ module _ (c : tie.Else2) where
 returns : tie.Need-returns
 returns c =
     let refused = c .before .before in
-    c .not-loaded .ensures (areas refused) ∙ loads-refused (start refused .pre) (refused .refusal-by-file .ensures) (c .before .if1 .taken)
+    c .not-loaded .ensures _ ∙ loads-refused (start refused .pre) (refused .refusal-by-file .ensures) (c .before .if1 .taken)
 
 count-at-requires : tie.Need-count-at-requires
 count-at-requires c κs =
@@ -113,8 +109,9 @@ place-area-requires c κs =
 returns-2 : tie.Need-returns-2
 returns-2 c =
     let place = c .before .before .before .before .before .before in
-    c .not-loaded2 .ensures (areas (e place))
-    ∙ loads-9 (start (e place) .pre) (none (counted place)) (need-is place) (omega (arith, c .before .if2 .taken, side-places-are (t (e place))))
+    let counted = counted place in
+    c .not-loaded2 .ensures _
+    ∙ loads-9 (start (e place) .pre) (none counted) (need-is place) (omega (arith, c .before .if2 .taken, side-places-are (t (e place))))
 
 write-list-requires : tie.Need-write-list-requires
 write-list-requires c κs =

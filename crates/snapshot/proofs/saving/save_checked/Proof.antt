@@ -77,11 +77,6 @@ module _ (c : tie.After-record-size) where
   end = end-within (known (counted placed)) (c .record-size .ensures)
 
 -- ---- the needs
-returns : tie.Need-returns
-returns c =
-    let e = start (c .before) in
-    saves-4 (e .pre) (e .args .target .now) (not-false _ (sym (c .before .valid .ensures) ∙ not-true _ (c .if1 .taken)))
-
 place-area-requires : tie.Need-place-area-requires
 place-area-requires c κs =
     let buckets = c .before .before .before in
@@ -99,14 +94,13 @@ place-area-requires c κs =
 returns-2 : tie.Need-returns-2
 returns-2 c =
     let place = c .before .before .before .before .before in
-    let e = start (at place) in
-    saves-9 (e .pre) (e .args .target .now) (known (counted place)) (need-is place) (omega (arith, c .if2 .taken, side-places-are (t (at place))))
+    saves-9 (start (at place) .pre) _ (known (counted place)) (need-is place) (omega (arith, c .if2 .taken, side-places-are (t (at place))))
 
 returns-3 : tie.Need-returns-3
 returns-3 c =
-    let place = placed (c .before) in
-    let e = start (at place) in
-    saves-12 (e .pre) (e .args .target .now) (known (counted place)) (need-is place) (enough (c .before)) (c .before .record-size .ensures) (c .if3 .taken)
+    let sized = c .before in
+    let known = known (counted (placed sized)) in
+    saves-12 (start (e sized) .pre) _ known (need-is (placed sized)) (enough sized) (sized .record-size .ensures) (c .if3 .taken)
 
 write-snapshot-requires : tie.Need-write-snapshot-requires
 write-snapshot-requires c κs =
@@ -118,17 +112,17 @@ returns-4 : tie.Need-returns-4
 returns-4 c =
     let write = c .before .before in
     let right = write .before .before in
-    let place = placed (right .before) in
-    let e = start (at place) in
-    saves-0 (e .pre) (e .args .target .now) (known (counted place)) (need-is place) (enough (right .before)) (right .before .record-size .ensures)
-    (right .if3 .left) (write .write-snapshot .ensures)
+    let sized = right .before in
+    let known = known (counted (placed sized)) in
+    saves-0 (start (e sized) .pre) _ known (need-is (placed sized)) (enough sized) (sized .record-size .ensures) (right .if3 .left)
+    (write .write-snapshot .ensures)
 
 pub save-checked-spec : {M : Type 1} → statement M
 save-checked-spec =
     tie.close
     (tie.spec
     (λ c κs. search needs)
-    returns
+    (λ c. saves-4 (start (c .before) .pre) _ (not-false _ (sym (c .before .valid .ensures) ∙ not-true _ (c .if1 .taken))))
     (λ c κs. has-two (c .before))
     (λ c κs. search needs)
     (λ c. search needs)
