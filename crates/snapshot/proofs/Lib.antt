@@ -1,4 +1,3 @@
-pub mod OneAreaLaws
 pub mod SaveLaws
 pub mod FileLaws
 pub mod LoadLaws

@@ -160,14 +160,14 @@ pub fn load(
     let Checked::Allowed(s) = checked else {
         return not_loaded(1);
     };
-    let l = Lengths {
+    let lengths = Lengths {
         ledger: ledger.len(),
         true_counts: true_counts.len(),
         clipped: clipped.len(),
         buckets: buckets.len(),
         side: side.len(),
     };
-    if !((work.len() == s.work_length()) & lengths_right(s, l)) {
+    if !((work.len() == s.work_length()) & lengths_right(s, lengths)) {
         return not_loaded(2);
     }
     let table = hash::table();

@@ -3,7 +3,7 @@ use mathlib.Core.Path.{_≡_, refl, sym, _∙_}
 use mathlib.Core.Bool.{false, cond}
 use mathlib.Core.List.{List, [], _∷_, append-nil}
 use Prim.Native.Nat.{ℕ, zero, suc, _+_, _-_, _*_, _≤_}
-use native.Mathlib.Nat.{zero-mul, suc-mul, add-comm, add-zero, add-mul, mul-le-mul-right}
+use native.Mathlib.Nat.{zero-mul, suc-mul, add-comm, add-mul, mul-le-mul-right}
 use native.Mathlib.Omega.{arith}
 use lib.Dec.{leb, eqb}
 use lib.ListN.{length, take, drop, length-take, length-drop}
@@ -17,7 +17,12 @@ use Rattle.memory.proofs.SliceLaws.{tail-is}
 use Rattle.placing.specs.Worked.{parts}
 use Rattle.update.specs.declared.editing.Edit.{Edit}
 use Rattle.update.specs.declared.editing.Edit.the-variants.{Insert, Replace, Remove}
-use Rattle.update.specs.Editing.{edit-call, edited, brings, leaves-out, by-list, Fits}
+use Rattle.update.specs.Editing.{edit-call, edited, brings, leaves-out, by-list}
+
+pub brings-most : (edit : Edit) → brings edit ≤ 1
+brings-most Insert = omega arith
+brings-most Replace = omega arith
+brings-most Remove = omega arith
 
 -- ---- records of a part
 module _ (w : ℕ) where
@@ -38,19 +43,12 @@ module _ (w : ℕ) where
   records-one : (x : Record) → Fit w x → records w 1 (record-bytes x) ≡ x ∷ []
   records-one x f = let e = read-records w (x ∷ []) [] (f, tt) in rw (append-nil, append-nil) at e
 
-  records-none : (a : List ℕ) → records w 0 a ≡ []
-  unfolding records entries
-  records-none a = refl
-
   -- ---- the list that an edit makes of n records, in three areas
-  pub parts-edited : (edit : Edit) (at n : ℕ) (a rec : List ℕ) (x : Record) → Fits edit at n → record-bytes x ≡ rec → Fit w x
+  parts-edited : (edit : Edit) (at n : ℕ) (a rec : List ℕ) (x : Record) → at + leaves-out edit ≤ n → record-bytes x ≡ rec → Fit w x
       → parts w a at rec (brings edit) (drop ((at + leaves-out edit) * (w + 4)) a) (n - (at + leaves-out edit)) ≡ edited edit at x (records w n a)
-  parts-edited Insert at n a rec x h e f =
-      rw (add-zero, ← e, records-one x f, records-take at n a h, records-drop at n a h)
-  parts-edited Replace at n a rec x h e f =
-      rw (← e, records-one x f, records-take at n a (omega arith), records-drop (at + 1) n a (omega arith))
-  parts-edited Remove at n a rec x h e f =
-      rw (records-none rec, records-take at n a (omega arith), records-drop (at + 1) n a (omega arith))
+  parts-edited edit at n a rec x h e f =
+      let new : records w (brings edit) rec ≡ take (brings edit) (x ∷ []) = records-take (brings edit) 1 rec (brings-most edit) ∙ rw (← e, records-one x f) in
+      rw (new, records-take at n a (omega arith), records-drop (at + leaves-out edit) n a h)
 
 -- ---- refusals of the list: by whether the key is held and how many flows are, then 9
 pub refusal-is : (t : Settings) (edit : Edit) (k : List ℕ) (x : ℕ) (l : List Record) → key-wrong (card-of t) k ≡ false
@@ -68,24 +66,21 @@ pub size-is : (c : Card) → record-size c ≡ c .width + 4
 unfolding record-size
 size-is c = refl
 
-pub within : (edit : Edit) (at n : ℕ) → Fits edit at n → (at ≤ n) × (at + leaves-out edit ≤ n)
-within Insert at n h = (h, omega arith)
-within Replace at n h = (omega arith, omega arith)
-within Remove at n h = (omega arith, omega arith)
-
 -- an edit at a place among n records of a ledger area, in the code's numbers: it leaves out lo records, and a record has z bytes
 pub record Around (w : ℕ) (edit : Edit) (at n : ℕ) (a : List ℕ) (lo z : ℕ) : Type 0 where
-  pub fits : Fits edit at n
+  pub fits : at + leaves-out edit ≤ n
   pub room : 2 + n * (w + 4) ≤ length a
   pub left : lo ≡ leaves-out edit
   pub size : z ≡ w + 4
 
 module _ {w : ℕ} {edit : Edit} {at n : ℕ} {a : List ℕ} {lo z : ℕ} (p : Around w edit at n a lo z) where
   pub from-within : at + lo ≤ n
-  from-within = rw (p .left) (within edit at n (p .fits) .1)
+  from-within = rw (p .left) (p .fits)
 
   sizes : ((at + lo) * z ≤ n * (w + 4)) × (at * (w + 4) ≤ n * (w + 4))
-  sizes = (rw (p .size) (mul-le-mul-right (w + 4) from-within), mul-le-mul-right (w + 4) (within edit at n (p .fits) .0))
+  sizes =
+      let before : at ≤ n = omega (arith, p .fits) in
+      (rw (p .size) (mul-le-mul-right (w + 4) from-within), mul-le-mul-right (w + 4) before)
 
   pub after-within : 2 + (at + lo) * z ≤ length a
   after-within = omega (arith, sizes .0, p .room)
@@ -108,7 +103,7 @@ module _ {w : ℕ} {edit : Edit} {at n : ℕ} {a : List ℕ} {lo z : ℕ} (p : A
 
   -- how many records the new list has
   pub total-is : (k : ℕ) → k ≡ brings edit → at + k + (n - (at + lo)) ≡ n - leaves-out edit + brings edit
-  total-is k ek = omega (arith, ek, p .left, within edit at n (p .fits))
+  total-is k ek = omega (arith, ek, p .left, p .fits)
 
 pub mid-room : (w k : ℕ) → k ≤ 1 → (rec : List ℕ) → length rec ≡ w + 4 → k * (w + 4) ≤ length rec
 mid-room w k h rec e = omega (arith, mul-le-mul-right {m = k} {n = 1} (w + 4) h, e)

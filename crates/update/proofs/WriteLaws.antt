@@ -14,15 +14,13 @@ use Rattle.theory.proofs.ByteLaws.{Fit}
 use Rattle.theory.proofs.LayoutLaws.{read-places, after-count, length-counted}
 use Rattle.writing.proofs.LentRecordLaws.{lent-records}
 use Rattle.update.specs.declared.editing.Edit.{Edit}
-use Rattle.update.specs.declared.editing.Edit.the-variants.{Insert, Replace, Remove}
 use Rattle.update.specs.declared.judging.Plan.{Plan}
-use Rattle.update.specs.Editing.{edit-call, edited, brings, leaves-out, judged-number, edited-list, Planned}
+use Rattle.update.specs.Editing.{edited, brings, leaves-out, judged-number, edited-list, Planned}
 use Rattle.settings.specs.declared.Settings.{Settings}
 use Rattle.settings.specs.Checked.{card}
-use Rattle.theory.specs.Ledger.{key-wrong, next, refusal}
+use Rattle.theory.specs.Ledger.{Call, key-wrong, next, refusal}
 use Rattle.theory.specs.Calls.{ledger-records, ledger-invalid, update}
 use Rattle.theory.specs.CallAreas.{replied}
-use Rattle.update.proofs.EditKindLaws.{within}
 use Rattle.update.proofs.PlanLaws.{length-edited}
 
 -- ---- what holds of each record of a list and of the call's holds of each that an edit makes
@@ -31,9 +29,9 @@ all-append P [] m a b = b
 all-append P (x ∷ xs) m a b = (a .0, all-append P xs m (a .1) b)
 
 pub all-edited : (P : Record → Type 0) (edit : Edit) (at : ℕ) (x : Record) (l : List Record) → P x → All P l → All P (edited edit at x l)
-all-edited P Insert at x l p a = all-append P (take at l) (x ∷ drop at l) (all-take P at l a) (p, all-drop P at l a)
-all-edited P Replace at x l p a = all-append P (take at l) (x ∷ drop (at + 1) l) (all-take P at l a) (p, all-drop P (at + 1) l a)
-all-edited P Remove at x l p a = all-append P (take at l) (drop (at + 1) l) (all-take P at l a) (all-drop P (at + 1) l a)
+all-edited P edit at x l p a =
+    let after = all-append P (take (brings edit) (x ∷ [])) _ (all-take P (brings edit) (x ∷ []) (p, tt)) (all-drop P (at + leaves-out edit) l a) in
+    all-append P (take at l) _ (all-take P at l a) after
 
 -- ---- the records of a ledger area that was laid out, as they are lent
 pub record Written (c : Card) (l : List Record) (a : List ℕ) : Type 0 where
@@ -61,7 +59,7 @@ module _ {s : Settings} {m : ℕ} {edit : Edit} {k : List ℕ} {x : ℕ} {ledger
   pub plan-room : length flows + brings edit ≤ card s .capacity + leaves-out edit
   plan-room =
       let few : length (edited edit (plan .at) new flows) ≤ card s .capacity = rw (p .list) at (p .room) in
-      omega (arith, few, length-edited edit (plan .at) new flows (p .place), within edit (plan .at) (length flows) (p .place))
+      omega (arith, few, length-edited edit (plan .at) new flows (p .place), p .place)
 
   pub plan-fit : Fit (card s .width) new → All (Fit (card s .width)) flows
       → All (Fit (card s .width)) (edited-list s edit k x ledger)
@@ -74,24 +72,22 @@ module _ {s : Settings} {m : ℕ} {edit : Edit} {k : List ℕ} {x : ℕ} {ledger
       omega (arith, taken, length-take (plan .count) kept)
 
 -- ---- the call: 3, what judging refuses, or the layout of the new list
-module _ (c : Card) (edit : Edit) (k : List ℕ) (x : ℕ) (a : Areas) where
-  pub updated-3 : (length k ≡ c .width → ⊥) → replied 3 a ≡ update c k (edit-call edit k x) a
+module _ (c : Card) (k : List ℕ) (call : Call) (a : Areas) where
+  pub updated-3 : (length k ≡ c .width → ⊥) → replied 3 a ≡ update c k call a
   unfolding update key-wrong
   updated-3 n = rw (ne-eqb (length k) (c .width) n)
 
   module _ (wide : length k ≡ c .width) where
-    pub updated-refused : (n : ℕ) → n ≡ judged-number c (edit-call edit k x) (a .ledger) → (n ≡ 0 → ⊥)
-        → replied n a ≡ update c k (edit-call edit k x) a
+    pub updated-refused : {n : ℕ} → n ≡ judged-number c call (a .ledger) → (n ≡ 0 → ⊥) → replied n a ≡ update c k call a
     unfolding update key-wrong judged-number
-    updated-refused n e some =
-        by-test (ledger-invalid c (a .ledger))
-        (λ i. let q : n ≡ 4 = rw i at e in rw (eq-eqb (length k) (c .width) wide, i, q))
-        (λ i. let q : n ≡ refusal c (edit-call edit k x) (ledger-records c (a .ledger)) = rw i at e in
-        rw (eq-eqb (length k) (c .width) wide, i, ← q, ne-eqb n 0 some))
+    updated-refused {n} e some =
+        let same = eq-eqb (length k) (c .width) wide in
+        by-test (ledger-invalid c (a .ledger)) (λ i. let q : n ≡ 4 = rw i at e in rw (same, i, q))
+        (λ i. let q : n ≡ refusal c call (ledger-records c (a .ledger)) = rw i at e in rw (same, i, ← q, ne-eqb n 0 some))
 
-    pub updated-made : judged-number c (edit-call edit k x) (a .ledger) ≡ 0 → ledger-invalid c (a .ledger) ≡ false → {b : Areas}
-        → b ≡ layout c (next c (edit-call edit k x) (ledger-records c (a .ledger))) → replied 0 b ≡ update c k (edit-call edit k x) a
+    pub updated-made : judged-number c call (a .ledger) ≡ 0 → ledger-invalid c (a .ledger) ≡ false → {b : Areas}
+        → b ≡ layout c (next c call (ledger-records c (a .ledger))) → replied 0 b ≡ update c k call a
     unfolding update key-wrong judged-number
     updated-made e i is =
-        let q : refusal c (edit-call edit k x) (ledger-records c (a .ledger)) ≡ 0 = rw i at e in
-        rw (eq-eqb (length k) (c .width) wide, i, eq-eqb (refusal c (edit-call edit k x) (ledger-records c (a .ledger))) 0 q, is)
+        let none : refusal c call (ledger-records c (a .ledger)) ≡ 0 = rw i at e in
+        rw (eq-eqb (length k) (c .width) wide, i, eq-eqb (refusal c call (ledger-records c (a .ledger))) 0 none, is)

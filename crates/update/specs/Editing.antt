@@ -1,8 +1,8 @@
 -- Add, change and remove as one: what they share as the code holds it.
 use mathlib.Core.Path.{_≡_}
 use mathlib.Core.Bool.{Bool, true, false, cond, not}
-use mathlib.Core.List.{List}
-use Prim.Native.Nat.{ℕ, _+_, _-_, _*_, _≤_, _<_}
+use mathlib.Core.List.{List, [], _∷_, _++_}
+use Prim.Native.Nat.{ℕ, _+_, _-_, _*_, _≤_}
 use lib.Dec.{leb}
 use lib.ListN.{length, take, drop}
 use Rattle.theory.specs.Settings as plain
@@ -14,7 +14,7 @@ use Rattle.theory.specs.Calls.{ledger-records, ledger-invalid}
 use Rattle.theory.proofs.CallLaws.{Sized}
 use Rattle.settings.specs.declared.Settings.{Settings}
 use Rattle.settings.specs.Checked.{paper, card}
-use Rattle.ledger.specs.Edits.{ValidLedger, inserted-at, removed-at, replaced-at}
+use Rattle.ledger.specs.Edits.{ValidLedger}
 use Rattle.placing.specs.Ready.{Ready}
 use Rattle.placing.specs.Worked.{Placed}
 use Rattle.update.specs.declared.editing.Edit.{Edit}
@@ -27,12 +27,6 @@ edit-call Insert k x = add k x
 edit-call Replace k x = change k x
 edit-call Remove k x = remove k
 
--- what it makes of a list at a place, with the record of the call
-abbrev pub edited : Edit → ℕ → Record → List Record → List Record
-edited Insert at x l = inserted-at at x l
-edited Replace at x l = replaced-at at x l
-edited Remove at x l = removed-at at l
-
 -- how many records of the call it brings, and how many of the list it leaves out
 abbrev pub brings : Edit → ℕ
 brings Insert = 1
@@ -44,17 +38,15 @@ leaves-out Insert = 0
 leaves-out Replace = 1
 leaves-out Remove = 1
 
+-- what it makes of a list: at a place, with the record of the call
+abbrev pub edited : Edit → ℕ → Record → List Record → List Record
+edited edit at x l = take at l ++ (take (brings edit) (x ∷ []) ++ drop (at + leaves-out edit) l)
+
 -- 6 and 8 of an add, 7 of the others, by whether the key is held and how many flows are; else 0
 abbrev pub by-list : plain.Settings → Edit → Bool → ℕ → ℕ
 by-list t Insert held n = cond held 6 (cond (leb (t .capacity) n) 8 0)
 by-list t Replace held n = cond (not held) 7 0
 by-list t Remove held n = cond (not held) 7 0
-
--- the place of an edit lies in a list of n records
-abbrev pub Fits : Edit → ℕ → ℕ → Type 0
-Fits Insert at n = at ≤ n
-Fits Replace at n = at < n
-Fits Remove at n = at < n
 
 -- the number that judging a ledger area gives, with a key of the right width: 4, then the list's own refusal
 unfoldable pub judged-number : Card → Call → List ℕ → ℕ
@@ -76,7 +68,7 @@ pub record PlacingNew (s : Settings) (table : List ℕ) (m : ℕ) (work kept led
   pub choices : n - leaves-out edit + brings edit ≤ length kept
   pub room : 2 + n * (card s .width + class-width) ≤ length ledger
   pub few : n ≤ 4096
-  pub place : Fits edit at n
+  pub place : at + leaves-out edit ≤ n
   pub wide : length bytes ≡ card s .width + class-width
 
 -- what judging asks: settings and a table that are ready, work, kept and ledger long enough, and the record of a key of the right width
@@ -92,7 +84,7 @@ pub record Judging (s : Settings) (table : List ℕ) (m : ℕ) (work kept ledger
 -- what judging has found where it refuses nothing: the count of the new list, its place, its side need, and that it is placed
 pub record Planned (s : Settings) (m : ℕ) (edit : Edit) (k : List ℕ) (x : ℕ) (ledger work kept : List ℕ) (r : Plan) : Type 0 where
   pub valid : ledger-invalid (card s) ledger ≡ false
-  pub place : Fits edit (r .at) (length (ledger-records (card s) ledger))
+  pub place : r .at + leaves-out edit ≤ length (ledger-records (card s) ledger)
   pub room : length (edited-list s edit k x ledger) ≤ card s .capacity
   pub list : edited-list s edit k x ledger ≡ edited edit (r .at) (record { key = k; class = x }) (ledger-records (card s) ledger)
   pub count : r .count ≡ length (edited-list s edit k x ledger)
@@ -103,7 +95,7 @@ pub record Planned (s : Settings) (m : ℕ) (edit : Edit) (k : List ℕ) (x : �
 -- what editing the ledger area asks: its rules, the place of the edit in its list, room for the new list, and the size of the record
 pub record EditingLedger (s : Settings) (edit : Edit) (ledger : List ℕ) (at : ℕ) (bytes : List ℕ) : Type 0 where
   pub valid : ValidLedger s ledger
-  pub place : Fits edit at (length (ledger-records (card s) ledger))
+  pub place : at + leaves-out edit ≤ length (ledger-records (card s) ledger)
   pub room : length (ledger-records (card s) ledger) + brings edit ≤ card s .capacity + leaves-out edit
   pub wide : length bytes ≡ record-size (card s)
 

@@ -122,14 +122,14 @@ pub fn update(
     let Checked::Allowed(s) = checked else {
         return 1;
     };
-    let l = Lengths {
+    let lengths = Lengths {
         ledger: ledger.len(),
         true_counts: true_counts.len(),
         clipped: clipped.len(),
         buckets: buckets.len(),
         side: side.len(),
     };
-    if !((work.len() == s.work_length()) & lengths_right(s, l)) {
+    if !((work.len() == s.work_length()) & lengths_right(s, lengths)) {
         return 2;
     }
     let table = hash::table();
@@ -165,14 +165,14 @@ pub fn clear(
     let Checked::Allowed(s) = checked else {
         return 1;
     };
-    let l = Lengths {
+    let lengths = Lengths {
         ledger: ledger.len(),
         true_counts: true_counts.len(),
         clipped: clipped.len(),
         buckets: buckets.len(),
         side: side.len(),
     };
-    if !lengths_right(s, l) {
+    if !lengths_right(s, lengths) {
         return 2;
     }
     writing::clear_areas(s, ledger, true_counts, clipped, buckets, side);

@@ -1,21 +1,25 @@
 -- `snapshot::place_area` meets its contract: the two parts after the records are empty.
 use mathlib.Core.Path.{_≡_, sym, ap, _∙_}
-use mathlib.Core.List.{List, _++_}
-use Prim.Native.Nat.{ℕ, _+_}
+use mathlib.Core.List.{List, _++_, append-nil}
+use Prim.Native.Nat.{ℕ}
+use native.Mathlib.Nat.{zero-mul}
 use native.Mathlib.Omega.{arith}
 use borrow.Author.Needs.{needs}
 use lib.ListN.{length, take, drop}
 use lib.Seq.{length-take-le}
 use Rattle.theory.specs.Settings.{Card}
-use Rattle.theory.specs.Records.{records}
+use Rattle.theory.specs.Records.{entries, records}
 use Rattle.theory.proofs.SettingsLaws.{sound}
 use Rattle.settings.specs.Checked.{paper, card}
-use Rattle.placing.specs.Worked.{Placed}
+use Rattle.placing.specs.Worked.{Placed, parts}
 use Rattle.placing.proofs.WorkLaws.{kept-within}
 use Rattle.writing.proofs.LentRecordLaws.{FrontBack, front-back}
-use Rattle.snapshot.proofs.OneAreaLaws.{one-part, no-room}
 use Rattle.snapshot.proofs.place_area.Statement.{statement}
 use Rattle.snapshot.proofs.place_area.Tie as tie
+
+one-part : (w n : ℕ) (a : List ℕ) → parts w a n a 0 a 0 ≡ records w n a
+unfolding records entries
+one-part w n a = append-nil (records w n a)
 
 -- ---- at entry
 module _ (c : tie.After-place-parts-arg) where
@@ -55,14 +59,13 @@ place-parts-requires : tie.Need-place-parts-requires
 place-parts-requires c κs =
     let at = c .before in
     let pre = start at .pre in
-    let none = no-room (s at .width + 4) (start at .args .area .now) in
     record {
       ready = pre .ready;
       buckets = pre .buckets;
       halves = pre .halves;
       first = pre .room;
-      second = none;
-      third = none;
+      second = rw zero-mul (omega arith);
+      third = rw zero-mul (omega arith);
       few = omega (arith, pre .few);
       places = omega (arith, lent-long at);
     }

@@ -37,16 +37,6 @@ module _ (c : tie.After-known-told) where
   allowed-as = permitted (t new) (new .new .ensures) (c .before .checked .given .1)
 
 -- ---- the needs
-returns : tie.Need-returns
-returns c =
-    let new = c .before .before in
-    clears-1 (t new) (areas new) (refused-arm (t new) (new .new .result) (new .new .ensures) (c .enum-told .given .1))
-
-returns-2 : tie.Need-returns-2
-returns-2 c =
-    let known = c .before .before in
-    clears-2 (allowed-as known) (areas (new known)) (c .before .lengths-right .ensures) (not-true _ (c .if1 .taken))
-
 clear-areas-requires : tie.Need-clear-areas-requires
 clear-areas-requires c κs =
     let right = c .before .before .before .before .before in
@@ -58,8 +48,8 @@ returns-3 : tie.Need-returns-3
 returns-3 c =
     let cleared = c .before .before .before .before .before .before .before .before .before .before in
     let right = cleared .before .before .before .before .before .before in
-    let known = right .before .before in
-    clears (allowed-as known) (areas (new known)) (right .before .lengths-right .ensures) (not-false _ (right .if1 .left)) (cleared .clear-areas .ensures)
+    let told = right .before .lengths-right .ensures in
+    clears (allowed-as (right .before .before)) _ told (not-false _ (right .if1 .left)) (cleared .clear-areas .ensures)
 
 pub clear-spec : {M : Type 1} → statement M
 clear-spec =
@@ -68,9 +58,9 @@ clear-spec =
     (λ c κs. search needs)
     (λ c. search needs)
     (λ c. search needs)
-    returns
+    (λ c. clears-1 _ _ (refused-arm _ _ (c .before .before .new .ensures) (c .enum-told .given .1)))
     (λ c κs. permits (allowed-as c))
-    returns-2
+    (λ c. clears-2 (allowed-as (c .before .before)) _ (c .before .lengths-right .ensures) (not-true _ (c .if1 .taken)))
     clear-areas-requires
     (λ c. search needs)
     (λ c. search needs)

@@ -54,10 +54,9 @@ module _ (c : tie.After-lengths-right) where
 -- ---- the needs
 returns : tie.Need-returns
 returns c =
-    let e = c .before .before in
-    let asked = start e .args in
-    let refused = refused-arm (t e) (e .new .result) (e .new .ensures) (c .enum-told .given .1) in
-    performs-1 (asked .edit) (asked .key .now) (asked .class) (t e) (words e) (areas e) refused
+    let new = c .before .before in
+    let asked = start new .args in
+    performs-1 (asked .edit) (asked .key .now) (asked .class) _ _ _ (refused-arm _ _ (new .new .ensures) (c .enum-told .given .1))
 
 returns-2 : tie.Need-returns-2
 returns-2 c =

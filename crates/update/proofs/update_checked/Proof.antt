@@ -6,8 +6,6 @@ use borrow.Author.Needs.{needs}
 use lib.ListN.{length, take}
 use lib.Seq.{length-take-le}
 use Rattle.theory.specs.Settings.{Settings, card-of}
-use Rattle.theory.specs.Layout.{Areas}
-use Rattle.theory.specs.CallAreas.{areas-now}
 use Rattle.theory.proofs.SettingsLaws.{ranges}
 use Rattle.settings.specs.Checked.{paper}
 use Rattle.settings.proofs.Laws.{record-most, capacity-is, work-length-is}
@@ -24,9 +22,6 @@ module _ (c : tie.After-width) where
 
   abbrev t : Settings
   t = paper (start .args .s)
-
-  abbrev areas : Areas
-  areas = areas-now (start .args .ledger) (start .args .true-counts) (start .args .clipped) (start .args .buckets) (start .args .side)
 
 -- ---- it is right, and the size of a record is known
 module _ (c : tie.After-record-size) where
@@ -81,15 +76,6 @@ abbrev good : tie.After-kept3 → tie.Else2
 good c = c .before .before .before .before .before .before .before
 
 -- ---- the needs
-returns : tie.Need-returns
-returns c =
-    let e = start (c .before) in
-    updated-3 (card-of (t (c .before))) (e .args .edit) (e .args .key .now) (e .args .class) (areas (c .before))
-    (λ w. c .if1 .taken (w ∙ sym (c .before .width .ensures)))
-
-record-of-requires : tie.Need-record-of-requires
-record-of-requires c κs = (c .record-size .ensures ∙ size-is (card-of (t (asked c))) ∙ ap (λ (w : ℕ). w + 4) (sym (wide c)), small c)
-
 judge-requires : tie.Need-judge-requires
 judge-requires c κs =
     let opened = c .before .before .before .before in
@@ -108,9 +94,7 @@ judge-requires c κs =
 returns-2 : tie.Need-returns-2
 returns-2 c =
     let judge = c .before .before .before .before in
-    let at = sized judge in
-    updated-refused (card-of (t (asked at))) (e at .args .edit) (e at .args .key .now) (e at .args .class) (areas (asked at)) (wide at)
-    (judge .judge .result .number) (judge .judge .ensures .0) (c .if2 .taken)
+    updated-refused _ _ _ _ (wide (sized judge)) (judge .judge .ensures .0) (c .if2 .taken)
 
 write-new-requires : tie.Need-write-new-requires
 write-new-requires c κs =
@@ -130,19 +114,18 @@ returns-3 : tie.Need-returns-3
 returns-3 c =
     let write = c .before .before .before .before .before .before .before .before .before .before in
     let good = good (write .before .before) in
-    let at = sized (judged good) in
-    updated-made (card-of (t (asked at))) (e at .args .edit) (e at .args .key .now) (e at .args .class) (areas (asked at)) (wide at)
-    (sym (judged good .judge .ensures .0) ∙ good .if2 .left) (planned good .valid) (write .write-new .ensures)
+    let judge = judged good in
+    updated-made _ _ _ _ (wide (sized judge)) (sym (judge .judge .ensures .0) ∙ good .if2 .left) (planned good .valid) (write .write-new .ensures)
 
 pub update-checked-spec : {M : Type 1} → statement M
 update-checked-spec =
     tie.close
     (tie.spec
     (λ c κs. search needs)
-    returns
+    (λ c. updated-3 _ _ _ _ (λ w. c .if1 .taken (w ∙ sym (c .before .width .ensures))))
     (λ c κs. search needs)
     (λ c κs. search needs)
-    record-of-requires
+    (λ c κs. (c .record-size .ensures ∙ size-is (card-of (t (asked c))) ∙ ap (λ (w : ℕ). w + 4) (sym (wide c)), small c))
     (λ c. search needs)
     (λ c. in-64 (c .before .before .before))
     (λ c. sym (in-buffer (c .before .before .before .before)))

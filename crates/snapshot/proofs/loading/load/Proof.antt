@@ -62,23 +62,16 @@ module _ (c : tie.After-lengths-right) where
   tested = record { settings = allowed-as known; words = c .before .work-length .ensures; areas = c .lengths-right .ensures }
 
 -- ---- the needs
-returns : tie.Need-returns
-returns c =
-    let e = c .before .before in
-    c .not-loaded .ensures (areas e) ∙ loads-12 (file e) (words e) (areas e) (sym (e .head-wrong .ensures) ∙ c .before .if1 .taken)
-
 returns-2 : tie.Need-returns-2
 returns-2 c =
     let read = c .before .before .before in
-    let e = read .before .before in
-    let refused = refused-arm (file-settings (file e)) (read .read-settings .result) (read .read-settings .ensures) (c .before .enum-told .given .1) in
-    c .not-loaded2 .ensures (areas e) ∙ loads-1 (file e) (words e) (areas e) (right-head (read .before)) refused
+    let refused = refused-arm _ _ (read .read-settings .ensures) (c .before .enum-told .given .1) in
+    c .not-loaded2 .ensures _ ∙ loads-1 _ _ _ (right-head (read .before)) refused
 
 returns-3 : tie.Need-returns-3
 returns-3 c =
     let judged = c .before .before in
-    let other = not-true _ (c .before .if2 .taken) in
-    c .not-loaded3 .ensures (areas (e judged)) ∙ loads-2 (file (e judged)) (right-head (headed judged)) (tested judged) other
+    c .not-loaded3 .ensures _ ∙ loads-2 _ (right-head (headed judged)) (tested judged) (not-true _ (c .before .if2 .taken))
 
 load-checked-requires : tie.Need-load-checked-requires
 load-checked-requires c κs =
@@ -100,7 +93,7 @@ load-spec =
     (tie.spec
     (λ c κs. search needs)
     (λ c κs. search needs)
-    returns
+    (λ c. c .not-loaded .ensures _ ∙ loads-12 _ _ _ (sym (c .before .before .head-wrong .ensures) ∙ c .before .if1 .taken))
     (λ c κs. head-long (file (c .before)) (right-head c))
     (λ c. search needs)
     (λ c. search needs)

@@ -8,8 +8,7 @@ use lib.ListN.{length}
 use lib.Seq.{length-take-le}
 use Rattle.theory.specs.Settings.{Settings, card-of, record-size}
 use Rattle.theory.specs.Ledger.{side-need-of}
-use Rattle.theory.specs.Layout.{Areas, layout}
-use Rattle.theory.specs.CallAreas.{areas-now}
+use Rattle.theory.specs.Layout.{layout}
 use Rattle.theory.proofs.SettingsLaws.{ranges}
 use Rattle.settings.specs.Checked.{paper}
 use Rattle.settings.proofs.Laws.{capacity-is, side-places-are, work-length-is}
@@ -20,47 +19,40 @@ use Rattle.snapshot.proofs.LoadLaws.{loads-refused, loads-9, loads-0}
 use Rattle.snapshot.proofs.loading.load_checked.Statement.{statement}
 use Rattle.snapshot.proofs.loading.load_checked.Tie as tie
 
--- ---- at entry
-module _ (c : tie.After-slice-known6) where
-  abbrev entry : tie.Start
-  entry = c .before .before .before .before .before .before .before .before
+-- ---- the file is judged
+module _ (c : tie.After-refusal-by-file) where
+  abbrev start : tie.Start
+  start = c .before .before .before .before .before .before .before .before .before
 
   abbrev t : Settings
-  t = paper (entry .args .s)
+  t = paper (start .args .s)
 
   abbrev file : List ℕ
-  file = entry .args .file .now
-
-  abbrev areas : Areas
-  areas = areas-now (entry .args .ledger) (entry .args .true-counts) (entry .args .clipped) (entry .args .buckets) (entry .args .side)
+  file = start .args .file .now
 
   long : 16 ≤ length file
-  long = head-long file (entry .pre .head)
+  long = head-long file (start .pre .head)
 
--- ---- the file refuses nothing, and its records are counted
+-- ---- it refuses nothing, and its records are counted
 module _ (c : tie.After-count-at) where
   abbrev judged : tie.After-refusal-by-file
   judged = c .before .before .before
 
-  abbrev start : tie.After-slice-known6
-  start = judged .before
-
   abbrev n : ℕ
   n = c .count-at .result
 
-  none : by-file (t start) (file start) ≡ 0
+  none : by-file (t judged) (file judged) ≡ 0
   none = sym (judged .refusal-by-file .ensures) ∙ c .before .before .if1 .left
 
-  full : FullFile (t start) (file start) n (record-size (card-of (t start)))
-  full = full-file (t start) (file start) (entry start .pre .head) (c .count-at .ensures .0) none
+  full : FullFile (t judged) (file judged) n (record-size (card-of (t judged)))
+  full = full-file (t judged) (file judged) (start judged .pre .head) (c .count-at .ensures .0) none
 
   most : n ≤ 4096
-  most = omega (arith, full .few, ranges (t start) (entry start .pre .ready .ok) .capacity-high)
+  most = omega (arith, full .few, ranges (t judged) (start judged .pre .ready .ok) .capacity-high)
 
 -- ---- with the number of buckets
-module _ (c : tie.After-buckets) where
-  halves : length (entry (start (c .before)) .args .work .now) ≡ c .buckets .result + c .buckets .result
-  halves = omega (arith, entry (start (c .before)) .pre .words, c .buckets .ensures, work-length-is (t (start (c .before))))
+halves : (c : tie.After-buckets) → length (start (judged (c .before)) .args .work .now) ≡ c .buckets .result + c .buckets .result
+halves c = let judged = judged (c .before) in omega (arith, start judged .pre .words, c .buckets .ensures, work-length-is (t judged))
 
 -- ---- they are placed, and their side need counted
 module _ (c : tie.After-place-area) where
@@ -70,8 +62,8 @@ module _ (c : tie.After-place-area) where
   abbrev counted : tie.After-count-at
   counted = buckets .before
 
-  abbrev e : tie.After-slice-known6
-  e = start counted
+  abbrev e : tie.After-refusal-by-file
+  e = judged counted
 
   abbrev kept : List ℕ
   kept = c .place-area .last .1 .1 .1 .1 .0
@@ -94,11 +86,11 @@ module _ (c : tie.Else2) where
 returns : tie.Need-returns
 returns c =
     let refused = c .before .before in
-    c .not-loaded .ensures (areas (refused .before)) ∙ loads-refused (entry (refused .before) .pre) (refused .refusal-by-file .ensures) (c .before .if1 .taken)
+    c .not-loaded .ensures _ ∙ loads-refused (start refused .pre) (refused .refusal-by-file .ensures) (c .before .if1 .taken)
 
 count-at-requires : tie.Need-count-at-requires
 count-at-requires c κs =
-    let e = c .before .before .before in
+    let e = c .before .before in
     omega (arith, length-tail 14 (file e) (omega (arith, long e)), long e)
 
 place-area-requires : tie.Need-place-area-requires
@@ -106,7 +98,7 @@ place-area-requires c κs =
     let buckets = c .before .before .before in
     let counted = buckets .before in
     record {
-      ready = entry (start counted) .pre .ready;
+      ready = start (judged counted) .pre .ready;
       buckets = buckets .buckets .ensures;
       halves = halves buckets;
       choices = omega (arith, most counted);
@@ -117,14 +109,15 @@ place-area-requires c κs =
 returns-2 : tie.Need-returns-2
 returns-2 c =
     let place = c .before .before .before .before .before .before in
-    c .not-loaded2 .ensures (areas (e place))
-    ∙ loads-9 (entry (e place) .pre) (none (counted place)) (need-is place) (omega (arith, c .before .if2 .taken, side-places-are (t (e place))))
+    let counted = counted place in
+    c .not-loaded2 .ensures _
+    ∙ loads-9 (start (e place) .pre) (none counted) (need-is place) (omega (arith, c .before .if2 .taken, side-places-are (t (e place))))
 
 write-list-requires : tie.Need-write-list-requires
 write-list-requires c κs =
     let good = c .before .before .before .before .before .before .before in
     let place = placed good in
-    let pre = entry (e place) .pre in
+    let pre = start (e place) .pre in
     record {
       laying = record {
         ok = pre .ready .ok;
@@ -146,22 +139,22 @@ returns-3 c =
     let good = write .before .before .before .before .before .before .before .before in
     let place = placed good in
     let laid = write .write-list .ensures ∙ ap (layout (card-of (t (e place)))) (lent-listed (full (counted place))) in
-    loads-0 (entry (e place) .pre) (none (counted place)) (need-is place) (enough good) (c .given .ensures) laid
+    loads-0 (start (e place) .pre) (none (counted place)) (need-is place) (enough good) (c .given .ensures) laid
 
 pub load-checked-spec : {M : Type 1} → statement M
 load-checked-spec =
     tie.close
     (tie.spec
-    (λ c κs. (entry c .pre .ready .ok, long c))
+    (λ c κs. let pre = c .before .before .before .before .before .before .before .before .pre in (pre .ready .ok, head-long _ (pre .head)))
     (λ c κs. search needs)
     returns
-    (λ c. omega (arith, long (c .before .before)))
-    (λ c. omega (arith, long (c .before .before)))
+    (λ c. omega (arith, long (c .before)))
+    (λ c. omega (arith, long (c .before)))
     (λ c. search needs)
     count-at-requires
     (λ c κs. search needs)
-    (λ c. long (start (c .before)))
-    (λ c. long (start (c .before)))
+    (λ c. long (judged (c .before)))
+    (λ c. long (judged (c .before)))
     (λ c. search needs)
     (λ c. search needs)
     place-area-requires

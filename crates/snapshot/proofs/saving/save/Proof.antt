@@ -1,14 +1,11 @@
 -- `snapshot::saving::save` meets its contract: 1, 2, then the call with a table made once.
-use mathlib.Core.Path.{_≡_, ap, _∙_}
+use mathlib.Core.Path.{_≡_, _∙_}
 use mathlib.Core.Bool.{true, _&&_}
-use mathlib.Core.List.{List}
-use Prim.Native.Nat.{ℕ}
 use borrow.Author.Needs.{needs}
 use borrow.Author.Tests.{eqb-true, not-true, not-false}
 use lib.Dec.{eqb}
 use lib.ListN.{length}
 use Rattle.theory.specs.Settings as plain
-use Rattle.theory.specs.Snapshot.{save}
 use Rattle.theory.proofs.ListLaws.{and-left, and-right}
 use Rattle.settings.specs.declared.Settings.{Settings}
 use Rattle.settings.specs.Checked.{given-of}
@@ -27,15 +24,6 @@ module _ (c : tie.After-new) where
   abbrev t : plain.Settings
   t = given-of (start .args .given)
 
-  abbrev ledger : List ℕ
-  ledger = start .args .ledger .now
-
-  abbrev words : ℕ
-  words = length (start .args .work .now)
-
-  abbrev target : List ℕ
-  target = start .args .target .now
-
 -- ---- they are allowed
 module _ (c : tie.After-known-told) where
   abbrev new : tie.After-new
@@ -48,26 +36,20 @@ module _ (c : tie.After-known-told) where
   allowed-as = permitted (t new) (new .new .ensures) (c .before .checked .given .1)
 
 -- ---- the needs
-returns : tie.Need-returns
-returns c =
-    let new = c .before .before in
-    saves-1 (ledger new) (words new) (target new) (t new) (refused-arm (t new) (new .new .result) (new .new .ensures) (c .enum-told .given .1))
-
 returns-2 : tie.Need-returns-2
 returns-2 c =
     let sized = c .before in
-    let known = sized .before .before in
-    let e = new known in
-    let other = not-true _ (c .if1 .taken) in
-    saves-2 (ledger e) (words e) (target e) (allowed-as known) (sized .before .work-length .ensures) (sized .ledger-length .ensures) other
+    let known = allowed-as (sized .before .before) in
+    saves-2 _ _ _ known (sized .before .work-length .ensures) (sized .ledger-length .ensures) (not-true _ (c .if1 .taken))
 
 save-checked-requires : tie.Need-save-checked-requires
 save-checked-requires c κs =
     let table = c .before .before .before in
     let sized = table .before .before in
     let known = sized .before .before in
-    let work = eqb (words (new known)) (sized .before .work-length .result) in
-    let right : (work && eqb (length (ledger (new known))) (sized .ledger-length .result)) ≡ true = not-false _ (table .before .if1 .left) in
+    let asked = start (new known) .args in
+    let work = eqb (length (asked .work .now)) (sized .before .work-length .result) in
+    let right : (work && eqb (length (asked .ledger .now)) (sized .ledger-length .result)) ≡ true = not-false _ (table .before .if1 .left) in
     record {
       ready = ready (s known) (permits (allowed-as known)) (table .table .result) (table .table .ensures) (search needs);
       words = eqb-true _ _ (and-left work _ right) ∙ sized .before .work-length .ensures;
@@ -78,8 +60,7 @@ returns-3 : tie.Need-returns-3
 returns-3 c =
     let saved = c .before .before .before .before in
     let known = saved .before .before .before .before .before .before .before .before in
-    let e = new known in
-    saved .save-checked .ensures ∙ ap (λ (u : plain.Settings). save u (ledger e) (words e) (target e)) (allowed-as known .same)
+    rw (allowed-as known .same) at (saved .save-checked .ensures)
 
 pub save-spec : {M : Type 1} → statement M
 save-spec =
@@ -88,7 +69,7 @@ save-spec =
     (λ c κs. search needs)
     (λ c. search needs)
     (λ c. search needs)
-    returns
+    (λ c. saves-1 _ _ _ _ (refused-arm _ _ (c .before .before .new .ensures) (c .enum-told .given .1)))
     (λ c κs. permits (allowed-as c))
     (λ c κs. permits (allowed-as (c .before)))
     returns-2

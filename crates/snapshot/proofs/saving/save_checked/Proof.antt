@@ -20,17 +20,17 @@ use Rattle.snapshot.proofs.saving.save_checked.Tie as tie
 
 -- ---- the ledger is judged
 module _ (c : tie.After-valid) where
-  abbrev entry : tie.Start
-  entry = c .before .before .before .before .before
+  abbrev start : tie.Start
+  start = c .before .before .before .before .before
 
   abbrev t : Settings
-  t = paper (entry .args .s)
+  t = paper (start .args .s)
 
   abbrev area : List ℕ
-  area = entry .args .ledger .now
+  area = start .args .ledger .now
 
   has-two : 2 ≤ length area
-  has-two = has-count (card-of t) area (entry .pre .whole)
+  has-two = has-count (card-of t) area (start .pre .whole)
 
 -- ---- it is within its rules, and its records are counted
 module _ (c : tie.After-count-at) where
@@ -40,16 +40,16 @@ module _ (c : tie.After-count-at) where
   abbrev n : ℕ
   n = c .count-at .result
 
-  known : CountedLedger (entry judged .args .s) (area judged) n
+  known : CountedLedger (start judged .args .s) (area judged) n
   known =
       let rules = not-true _ (sym (judged .valid .ensures) ∙ not-false _ (c .before .if1 .left)) in
       record {
-        valid = record { permitted = entry judged .pre .ready .ok; size = entry judged .pre .whole; rules = rules };
+        valid = record { permitted = start judged .pre .ready .ok; size = start judged .pre .whole; rules = rules };
         count = c .count-at .ensures .0;
       }
 
   most : n ≤ 4096
-  most = omega (arith, many known, capacity-is (t judged), ranges (t judged) (entry judged .pre .ready .ok) .capacity-high)
+  most = omega (arith, many known, capacity-is (t judged), ranges (t judged) (start judged .pre .ready .ok) .capacity-high)
 
 -- ---- they are placed, and their side need counted
 module _ (c : tie.After-place-area) where
@@ -77,16 +77,11 @@ module _ (c : tie.After-record-size) where
   end = end-within (known (counted placed)) (c .record-size .ensures)
 
 -- ---- the needs
-returns : tie.Need-returns
-returns c =
-    let e = entry (c .before) in
-    saves-4 (e .pre) (e .args .target .now) (not-false _ (sym (c .before .valid .ensures) ∙ not-true _ (c .if1 .taken)))
-
 place-area-requires : tie.Need-place-area-requires
 place-area-requires c κs =
     let buckets = c .before .before .before in
     let counted = buckets .before in
-    let pre = entry (judged counted) .pre in
+    let pre = start (judged counted) .pre in
     record {
       ready = pre .ready;
       buckets = buckets .buckets .ensures;
@@ -99,14 +94,13 @@ place-area-requires c κs =
 returns-2 : tie.Need-returns-2
 returns-2 c =
     let place = c .before .before .before .before .before in
-    let e = entry (at place) in
-    saves-9 (e .pre) (e .args .target .now) (known (counted place)) (need-is place) (omega (arith, c .if2 .taken, side-places-are (t (at place))))
+    saves-9 (start (at place) .pre) _ (known (counted place)) (need-is place) (omega (arith, c .if2 .taken, side-places-are (t (at place))))
 
 returns-3 : tie.Need-returns-3
 returns-3 c =
-    let place = placed (c .before) in
-    let e = entry (at place) in
-    saves-12 (e .pre) (e .args .target .now) (known (counted place)) (need-is place) (enough (c .before)) (c .before .record-size .ensures) (c .if3 .taken)
+    let sized = c .before in
+    let known = known (counted (placed sized)) in
+    saves-12 (start (e sized) .pre) _ known (need-is (placed sized)) (enough sized) (sized .record-size .ensures) (c .if3 .taken)
 
 write-snapshot-requires : tie.Need-write-snapshot-requires
 write-snapshot-requires c κs =
@@ -118,17 +112,17 @@ returns-4 : tie.Need-returns-4
 returns-4 c =
     let write = c .before .before in
     let right = write .before .before in
-    let place = placed (right .before) in
-    let e = entry (at place) in
-    saves-0 (e .pre) (e .args .target .now) (known (counted place)) (need-is place) (enough (right .before)) (right .before .record-size .ensures)
-    (right .if3 .left) (write .write-snapshot .ensures)
+    let sized = right .before in
+    let known = known (counted (placed sized)) in
+    saves-0 (start (e sized) .pre) _ known (need-is (placed sized)) (enough sized) (sized .record-size .ensures) (right .if3 .left)
+    (write .write-snapshot .ensures)
 
 pub save-checked-spec : {M : Type 1} → statement M
 save-checked-spec =
     tie.close
     (tie.spec
     (λ c κs. search needs)
-    returns
+    (λ c. saves-4 (start (c .before) .pre) _ (not-false _ (sym (c .before .valid .ensures) ∙ not-true _ (c .if1 .taken))))
     (λ c κs. has-two (c .before))
     (λ c κs. search needs)
     (λ c. search needs)
@@ -140,7 +134,7 @@ save-checked-spec =
     returns-2
     (λ c κs. search needs)
     (λ c. omega (arith, end c))
-    (λ c. omega (arith, end c, entry (e c) .pre .whole, bounds (t (e c)) (entry (e c) .pre .ready .ok) .ledger-most))
+    (λ c. omega (arith, end c, start (e c) .pre .whole, bounds (t (e c)) (start (e c) .pre .ready .ok) .ledger-most))
     (λ c. search needs)
     returns-3
     write-snapshot-requires

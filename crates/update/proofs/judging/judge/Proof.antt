@@ -21,7 +21,7 @@ use Rattle.ledger.proofs.SpotLaws.{search-room, search-rises, ledger-spot}
 use Rattle.ledger.proofs.LedgerEditLaws.{few, listed}
 use Rattle.placing.specs.Worked.{Placed}
 use Rattle.update.specs.Editing.{edited, brings, leaves-out}
-use Rattle.update.proofs.PlanLaws.{Found, Accepted, ledger-room, place-fits, place-listed, place-inside, makes, made-length, made-few}
+use Rattle.update.proofs.PlanLaws.{Found, Accepted, ledger-room, place-fits, place-listed, makes, made-length, made-few}
 use Rattle.update.proofs.PlanLaws.{judged-4, judged-by-list, judged-9, judged-0}
 use borrow.Author.Needs.{needs}
 use Rattle.update.proofs.judging.judge.Statement.{statement}
@@ -200,7 +200,7 @@ judge-spec =
     (λ c. search needs)
     returns-3
     (λ c κs. search needs)
-    (λ c. omega (arith, place-inside (accepted (at (placing (c .before .before)))), c .left-out .ensures .0))
+    (λ c. omega (arith, place-fits (accepted (at (placing (c .before .before)))), c .left-out .ensures .0))
     (λ c κs. search needs)
     (λ c. search needs)
     (λ c. search needs)

@@ -15,7 +15,7 @@ use Rattle.placing.specs.Worked.{Placed}
 use Rattle.placing.proofs.WorkLaws.{kept-within}
 use Rattle.writing.proofs.LentRecordLaws.{FrontBack, front-back}
 use Rattle.update.specs.Editing.{edited-at, brings, leaves-out}
-use Rattle.update.proofs.EditKindLaws.{size-is, within, Around, from-within, after-within, first-room, mid-room, last-room, new-list, total-is}
+use Rattle.update.proofs.EditKindLaws.{size-is, Around, from-within, after-within, first-room, mid-room, last-room, new-list, total-is}
 use Rattle.update.proofs.judging.place_new.Statement.{statement}
 use Rattle.update.proofs.judging.place_new.Tie as tie
 
@@ -26,9 +26,6 @@ module _ (c : tie.After-left-out) where
 
   abbrev s : Card
   s = card (start .args .s)
-
-  inside : (start .args .at ≤ start .args .count) × (start .args .at + leaves-out (start .args .edit) ≤ start .args .count)
-  inside = within (start .args .edit) (start .args .at) (start .args .count) (start .pre .place)
 
 -- ---- the size of a record
 around : (c : tie.After-record-size) → Around (s (c .before) .width) (start (c .before) .args .edit) (start (c .before) .args .at)
@@ -92,7 +89,7 @@ place-parts-requires c κs =
       first = first-room (around (sized .before));
       second = mid-room _ (sized .brought .result) (sized .brought .ensures .1) (e sized .args .«record» .now) (pre .wide);
       third = last-room (around (sized .before));
-      few = omega (arith, sized .brought .ensures .1, inside (left sized) .0, pre .few);
+      few = omega (arith, sized .brought .ensures .1, pre .place, pre .few);
       places = length-take-le (total sized) (e sized .args .kept .now) (in-kept sized);
     }
 
@@ -119,7 +116,7 @@ place-new-spec =
     tie.close
     (tie.spec
     (λ c κs. search needs)
-    (λ c. omega (arith, inside c))
+    (λ c. omega (arith, start c .pre .place))
     (λ c κs. search needs)
     (λ c. omega (arith, after-within (around c)))
     (λ c. omega (arith, after-within (around c)))
