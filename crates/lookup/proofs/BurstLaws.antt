@@ -26,7 +26,7 @@ use Rattle.lookup.specs.declared.counters.KeyCounters.{KeyCounters}
 use Rattle.lookup.specs.Choosing.{card-at, KeyCountersOf}
 use Rattle.lookup.specs.Places.{KeyCountersFit, place-by}
 use Rattle.lookup.specs.declared.judging.Judged.the-variants.{Ready, Refused}
-use Rattle.lookup.specs.Bursts.{key-at, each, judged-burst, packed-of, unpacked-of, key-counters-at, number-by, number-at, burst-of}
+use Rattle.lookup.specs.Bursts.{burst-key, each, judged-burst, packed-of, unpacked-of, key-counters-at, number-by, number-at, burst-of}
 use Rattle.lookup.specs.Answers.{search-of, judged-of, search-with}
 use Rattle.lookup.proofs.PlaceLaws.{key-counters-fit, place-by-is, search-is, hashed}
 use Rattle.lookup.proofs.JudgeLaws.{lengths-right, burst-lengths, fine-burst, refused-is, fine, passes, search-number, lent-judged}
@@ -75,7 +75,7 @@ module _ (w width at i : ℕ) (wide : width ≡ w) (here : at ≡ i * width) whe
   pub key-within : (n : ℕ) (keys : List ℕ) → length keys ≡ n * w → i < n → at + width ≤ length keys
   key-within n keys size more = omega (arith, here, wide, ap (λ (x : ℕ). i * x) wide, size, suc-mul i w, mul-le-mul-right w more)
 
-  pub key-lent : (keys : List ℕ) → take (at + width - at) (drop at keys) ≡ key-at width keys i
+  pub key-lent : (keys : List ℕ) → take (at + width - at) (drop at keys) ≡ burst-key width keys i
   key-lent keys = rw (add-sub-cancel-left at width, here)
 
   pub next-key : at + width ≡ (i + 1) * width
@@ -141,12 +141,12 @@ module _ (t : plain.Settings) (ok : plain.allowed t ≡ true) (clipped : List �
   at-back = read-back (key-counters-at t clipped h) (at-small .0) (at-small .1)
 
   pub at-fits : KeyCountersFit t (unpacked-of (packed-of (key-counters-at t clipped h)))
-  at-fits = rw at-back (key-counters-fit t ok h clipped (key-counters-at t clipped h) of-at)
+  at-fits = rw at-back (key-counters-fit ok of-at)
 
   pub number-is : (buckets side key : List ℕ) → number-by t buckets side key (packed-of (key-counters-at t clipped h)) ≡ number-at t clipped buckets side key h
   unfolding number-by number-at
   number-is buckets side key =
-      rw at-back (ap driver-number (search-is t h clipped buckets side key _ (place-by-is t ok h clipped (key-counters-at t clipped h) of-at buckets side key)))
+      rw at-back (ap driver-number (search-is t h clipped buckets side key _ (place-by-is ok of-at buckets side key)))
 
 -- the number of an answer that was found by a choice read back from x
 pub number-from : (t : plain.Settings) (buckets side key lent : List ℕ) (x r : ℕ) (c : KeyCounters) (a : Answer) → r ≡ driver-number a
@@ -170,12 +170,12 @@ module _ (t : plain.Settings) (ok : plain.allowed t ≡ true) (clipped : List �
   packed-fits j lt = rw (packed-at j (omega (arith, packed-length))) (at-fits t ok clipped (h j))
 
   pub numbered : (buckets side keys : List ℕ) (w : ℕ) (numbers : List ℕ)
-      → numbers ≡ each (λ j. number-by t buckets side (key-at w keys j) (getD packed j 0)) (length packed)
-      → numbers ≡ each (λ j. number-at t clipped buckets side (key-at w keys j) (h j)) n
+      → numbers ≡ each (λ j. number-by t buckets side (burst-key w keys j) (getD packed j 0)) (length packed)
+      → numbers ≡ each (λ j. number-at t clipped buckets side (burst-key w keys j) (h j)) n
   numbered buckets side keys w numbers e =
-      e ∙ ap (each (λ j. number-by t buckets side (key-at w keys j) (getD packed j 0))) packed-length
-      ∙ each-same (λ j. number-by t buckets side (key-at w keys j) (getD packed j 0)) (λ j. number-at t clipped buckets side (key-at w keys j) (h j)) n
-      (λ j lt. ap (number-by t buckets side (key-at w keys j)) (packed-at j lt) ∙ number-is t ok clipped (h j) buckets side (key-at w keys j))
+      e ∙ ap (each (λ j. number-by t buckets side (burst-key w keys j) (getD packed j 0))) packed-length
+      ∙ each-same (λ j. number-by t buckets side (burst-key w keys j) (getD packed j 0)) (λ j. number-at t clipped buckets side (burst-key w keys j) (h j)) n
+      (λ j lt. ap (number-by t buckets side (burst-key w keys j)) (packed-at j lt) ∙ number-is t ok clipped (h j) buckets side (burst-key w keys j))
 
 -- ---- what a burst gives, by its judgement
 module _ (table clipped buckets side keys before : List ℕ) (t : plain.Settings) where
@@ -186,12 +186,12 @@ module _ (table clipped buckets side keys before : List ℕ) (t : plain.Settings
 
   pub burst-answered : (c : Settings) → judged-burst table t clipped buckets side keys (length before) ≡ Ready c → paper c ≡ t → (answers : List ℕ)
       → answers
-      ≡ each (λ j. number-at (paper c) clipped buckets side (key-at (card c .width) keys j) (H-by table (key-at (card c .width) keys j))) (length before)
+      ≡ each (λ j. number-at (paper c) clipped buckets side (burst-key (card c .width) keys j) (H-by table (burst-key (card c .width) keys j))) (length before)
       → record { number = 0; answers = answers } ≡ burst-of table t clipped buckets side keys before
   unfolding burst-of
   burst-answered c e same answers is =
       let given : plain.Settings → List ℕ
-      = λ u. each (λ j. number-at u clipped buckets side (key-at (card-of u .width) keys j) (H-by table (key-at (card-of u .width) keys j))) (length before) in
+      = λ u. each (λ j. number-at u clipped buckets side (burst-key (card-of u .width) keys j) (H-by table (burst-key (card-of u .width) keys j))) (length before) in
       rw e (ap (λ (x : List ℕ). record { number = 0; answers = x }) (is ∙ ap given same))
 
 -- ---- one key by itself, judged as a search
@@ -203,11 +203,11 @@ module _ (t : plain.Settings) (clipped buckets side key : List ℕ) where
       ∙ search-number t clipped buckets side key (bare n) (refused-is t clipped buckets side key bare (search-areas (card-of t) clipped buckets side key) n e)
 
   pub one-number : (c : Settings) → judged-of t clipped buckets side key ≡ Ready c → (h : ℕ) → h ≡ H key
-      → number-at (paper c) clipped buckets side (key-at (card c .width) key 0) h ≡ search-of t clipped buckets side key
+      → number-at (paper c) clipped buckets side (burst-key (card c .width) key 0) h ≡ search-of t clipped buckets side key
   unfolding number-at
   one-number c e h is-H =
       let right = fine t clipped buckets side key c e in
-      let whole : key-at (card c .width) key 0 ≡ key
+      let whole : burst-key (card c .width) key 0 ≡ key
       = ap (λ (n : ℕ). take (card c .width) (drop n key)) (zero-mul (card c .width))
       ∙ take-all (card c .width) key (omega (arith, right .wide)) in
       ap (λ (k : List ℕ). driver-number (search-areas (card-at (paper c) h) clipped buckets side k)) whole
@@ -220,7 +220,7 @@ module _ (t : plain.Settings) (clipped buckets side key : List ℕ) where
 module _ (table clipped buckets side keys before : List ℕ) (t : plain.Settings) (c : Settings)
     (ready : judged-burst table t clipped buckets side keys (length before) ≡ Ready c) where
   abbrev key : ℕ → List ℕ
-  key j = key-at (card-of t .width) keys j
+  key j = burst-key (card-of t .width) keys j
 
   right-length : (j : ℕ) → j < length before → length (key j) ≡ card-of t .width
   right-length j lt =
@@ -248,7 +248,7 @@ module _ (table clipped buckets side keys before : List ℕ) (t : plain.Settings
 
   -- the number of key j, under settings that are t
   abbrev number : plain.Settings → ℕ → ℕ
-  number u j = number-at u clipped buckets side (key-at (card-of u .width) keys j) (H-by table (key-at (card-of u .width) keys j))
+  number u j = number-at u clipped buckets side (burst-key (card-of u .width) keys j) (H-by table (burst-key (card-of u .width) keys j))
 
   number-with : (j : ℕ) → j < length before → driver-number (search-with table t clipped buckets side (key j)) ≡ number t j
   unfolding number-at

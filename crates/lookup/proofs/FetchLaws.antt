@@ -15,7 +15,7 @@ use Rattle.theory.proofs.RecordPlaceLaws.{held-bytes, held-area, not-held, held
 use Rattle.lookup.specs.declared.locating.Located.{Located}
 use Rattle.lookup.specs.declared.judging.Judged.{Judged}
 use Rattle.lookup.specs.declared.judging.Judged.the-variants.{Ready, Refused}
-use Rattle.lookup.specs.Places.{Lent}
+use Rattle.lookup.specs.Places.{CheckedLookup}
 use Rattle.lookup.specs.Answers.{judged-of}
 use Rattle.lookup.specs.Locating.{lies-at, LocatedCall}
 use Rattle.lookup.specs.Parts.{PartAt, one-of, FetchedCall}
@@ -52,7 +52,7 @@ module _ (t : Settings) (clipped : List ℕ) (buckets side : RefT (List ℕ)) (k
 
   -- ---- somewhere: the key is held, and its record lies there
   record Held : Type 0 where
-    lent : Lent t clipped (now buckets) (now side)
+    checked : CheckedLookup t clipped (now buckets) (now side)
     held : number ≡ 0
     there : lies-at r ≡ lies
     passed : refused-or t clipped (now buckets) (now side) key (λ n. []) fetched ≡ fetched
@@ -64,7 +64,7 @@ module _ (t : Settings) (clipped : List ℕ) (buckets side : RefT (List ℕ)) (k
         let good = fine t clipped (now buckets) (now side) key c e in
         let at = call .lies ∙ place-ready t clipped (now buckets) (now side) key c e in
         record {
-          lent = rw (good .same) at (good .lent);
+          checked = rw (good .same) at (good .checked);
           held = by-test (eqb number 0) (λ z. eqb-true number 0 z)
               (λ z. let away = not-held (card-of t) clipped (now buckets) (now side) key (eqb-false number 0 z) .0 in
               absurd (some (ap (λ (x : RecordPlace). x .area) (at ∙ away))));
@@ -83,13 +83,13 @@ module _ (t : Settings) (clipped : List ℕ) (buckets side : RefT (List ℕ)) (k
       area-is = sym (ap (λ (x : RecordPlace). eqb (x .area) 1) (known-here .there)) ∙ which
 
       lent-length : (b : Bool) → cond b (buckets-length (card-of t)) (side-length (card-of t)) ≡ length (now (one-of b buckets side))
-      lent-length true = sym (known-here .lent .buckets-size)
-      lent-length false = sym (known-here .lent .side-size)
+      lent-length true = sym (known-here .checked .buckets-size)
+      lent-length false = sym (known-here .checked .side-size)
 
       pub record-inside : r .start + record-size (card-of t) ≤ length (now (one-of g buckets side))
       record-inside =
           rw (start-is, ← lent-length g, ← area-is)
-          (held-inside (card-of t) clipped (now buckets) (now side) key (sound t (known-here .lent .ok)) (known-here .held))
+          (held-inside (card-of t) clipped (now buckets) (now side) key (sound t (known-here .checked .ok)) (known-here .held))
 
       lent-area : (b : Bool) → cond b (now buckets) (now side) ≡ now (one-of b buckets side)
       lent-area true = refl

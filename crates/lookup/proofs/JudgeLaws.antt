@@ -21,7 +21,7 @@ use Rattle.hash.proofs.TableLaws.{length-allowed}
 use Rattle.settings.specs.declared.Settings.{Settings}
 use Rattle.settings.specs.Checked.{paper, code, card}
 use Rattle.lookup.specs.declared.judging.Judged.the-variants.{Ready, Refused}
-use Rattle.lookup.specs.Places.{Lent}
+use Rattle.lookup.specs.Places.{CheckedLookup}
 use Rattle.lookup.specs.Answers.{lookup-areas, driver-of, search-of, judged-of, judged-with-table}
 use Rattle.lookup.specs.Bursts.{judged-burst}
 
@@ -74,7 +74,7 @@ module _ (table clipped buckets side keys : List ℕ) (n : ℕ) (t : plain.Setti
   -- what a judgement says
   pub record FineBurst (c : Settings) : Type 0 where
     pub same : paper c ≡ t
-    pub lent : Lent (paper c) clipped buckets side
+    pub checked : CheckedLookup (paper c) clipped buckets side
     pub table-size : has (length table) (table-lengths (card c .width)) ≡ true
     pub keys-size : length keys ≡ n * card c .width
 
@@ -91,7 +91,7 @@ module _ (table clipped buckets side keys : List ℕ) (n : ℕ) (t : plain.Setti
       let h = all-each (λ x. x) (lookup-lengths (card-of t) (lookup-areas clipped buckets side)) areas in
       record {
         same = s;
-        lent = rw s (record { ok = a; clipped-size = eqb-true _ _ (h .0); buckets-size = eqb-true _ _ (h .1 .0); side-size = eqb-true _ _ (h .1 .1 .0) });
+        checked = rw s (record { ok = a; clipped-size = eqb-true _ _ (h .0); buckets-size = eqb-true _ _ (h .1 .0); side-size = eqb-true _ _ (h .1 .1 .0) });
         table-size = rw s (and-left (has (length table) (table-lengths (card-of t .width))) (lengths-right t clipped buckets side) l);
         keys-size = rw s (eqb-true _ _ w);
       })
@@ -146,7 +146,7 @@ module _ (t : plain.Settings) (clipped buckets side key : List ℕ) where
   -- the settings are those of the numbers, the areas have their lengths, the key its width
   pub record Fine (c : Settings) : Type 0 where
     pub same : paper c ≡ t
-    pub lent : Lent (paper c) clipped buckets side
+    pub checked : CheckedLookup (paper c) clipped buckets side
     pub wide : length key ≡ card c .width
 
   pub fine : (c : Settings) → judged-of t clipped buckets side key ≡ Ready c → Fine c
@@ -161,7 +161,7 @@ module _ (t : plain.Settings) (clipped buckets side key : List ℕ) where
       let h = all-each (λ x. x) (lookup-lengths (card-of t) (lookup-areas clipped buckets side)) l in
       record {
         same = s;
-        lent = rw s (record { ok = a; clipped-size = eqb-true _ _ (h .0); buckets-size = eqb-true _ _ (h .1 .0); side-size = eqb-true _ _ (h .1 .1 .0) });
+        checked = rw s (record { ok = a; clipped-size = eqb-true _ _ (h .0); buckets-size = eqb-true _ _ (h .1 .0); side-size = eqb-true _ _ (h .1 .1 .0) });
         wide = rw s (eqb-true (length key) (card-of t .width) w);
       })
       (λ w. let e′ = rw (a, l, w) at e in let z : _≡_ {A = ℕ} 0 1 = cc in absurd (omega arith)))

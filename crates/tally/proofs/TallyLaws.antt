@@ -19,7 +19,7 @@ use Rattle.theory.proofs.SettingsLaws.{sound}
 use Rattle.settings.specs.declared.Settings as settings
 use Rattle.settings.specs.Checked.{paper, card}
 use Rattle.settings.proofs.Laws.{bucket-within}
-use Rattle.lookup.specs.Places.{Lent}
+use Rattle.lookup.specs.Places.{CheckedLookup}
 use Rattle.lookup.specs.Answers.{lookup-areas}
 use Rattle.tally.specs.Tallies.{read-areas}
 use Rattle.lookup.proofs.PlaceLaws.{mark-is}
@@ -89,7 +89,7 @@ module _ (t : Settings) (ok : allowed t ≡ true) (buckets : List ℕ) where
   unfolding marks
   marks-are =
       map-cong (λ b. getD (bucket-part (card-of t) buckets b) 0 0) (mark-at buckets (bucket-size (card-of t))) (upto 0 (card-of t .buckets))
-      (all-every (λ b. mark-is t ok buckets [] b (b * bucket-size (card-of t)) refl) (upto 0 (card-of t .buckets)))
+      (all-every (λ b. mark-is {t = t} {buckets = buckets} {b = b} (record { ok = ok; start = refl })) (upto 0 (card-of t .buckets)))
 
   -- the mark of bucket b is there
   pub mark-there : (b m size : ℕ) → b < m → m ≡ card-of t .buckets → size ≡ bucket-size (card-of t) → length buckets ≡ buckets-length (card-of t)
@@ -143,7 +143,7 @@ module _ (t : Settings) (ledger clipped buckets side : List ℕ) where
         → record { reply = totalled r; state = read-areas ledger clipped buckets side } ≡ perform t 0 tally (read-areas ledger clipped buckets side)
     tally-on e r f = tally-performs r (rw (c .ok, c .lengths-are, e, f, c .same))
 
-    pub tally-checked : lengths ≡ true → Lent (paper s) clipped buckets side × (length ledger ≡ ledger-length (card s))
+    pub tally-checked : lengths ≡ true → CheckedLookup (paper s) clipped buckets side × (length ledger ≡ ledger-length (card s))
     unfolding lookup-lengths
     tally-checked e =
         let h = all-each (λ x. x) (eqb (length ledger) (ledger-length (card-of t)) ∷ lookup-lengths (card-of t) (read-areas ledger clipped buckets side)) (c .lengths-are ∙ e) in

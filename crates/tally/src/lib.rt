@@ -19,7 +19,7 @@ ghost use Rattle.theory.specs.Ledger as ledgers;
 ghost use Rattle.theory.specs.Ledger.{Step, totalled};
 ghost use Rattle.theory.specs.Calls.{marks, lookup-invalid, tally-areas, perform};
 ghost use Rattle.settings.specs.Checked.{paper, given-of, card};
-ghost use Rattle.lookup.specs.Places.{Lent};
+ghost use Rattle.lookup.specs.Places.{CheckedLookup};
 ghost use Rattle.tally.specs.Tallies.{totals-of, read-areas};
 
 // The answer's number, records in buckets, records in the side store, buckets marked 255, fill.
@@ -127,7 +127,7 @@ fn sum_marks(s: Settings, buckets: &[u8]) -> Marks
 
 // "5, in what a search or tally reads, a clipped count above T, a mark above B other than 255, a side count above S"
 fn lookup_valid(s: Settings, clipped: &[u8], buckets: &[u8], side: &[u8]) -> bool
-    requires { ⌜ Lent (paper s) (now clipped) (now buckets) (now side) ⌝ }
+    requires { ⌜ CheckedLookup (paper s) (now clipped) (now buckets) (now side) ⌝ }
     ensures { λ r. ⌜ ((ledger : List ℕ) → r ≡ not (lookup-invalid (card s) (read-areas ledger (now (clipped .entry)) (now (buckets .entry)) (now (side .entry))))) ⌝ }
 {
     if !counters_valid(s, clipped) {
@@ -166,7 +166,7 @@ fn count_all(s: Settings, ledger: &[u8], buckets: &[u8], side: &[u8]) -> Totals
 
 // Tally on allowed settings and areas of their lengths: 4, then 5, then the four numbers.
 fn tally_checked(s: Settings, ledger: &[u8], clipped: &[u8], buckets: &[u8], side: &[u8]) -> Totals
-    requires { ⌜ Lent (paper s) (now clipped) (now buckets) (now side) × (length (now ledger) ≡ ledger-length (card s)) ⌝ }
+    requires { ⌜ CheckedLookup (paper s) (now clipped) (now buckets) (now side) × (length (now ledger) ≡ ledger-length (card s)) ⌝ }
     ensures { λ r. ⌜ totals-of r ≡ tally-areas (card s) (read-areas (now (ledger .entry)) (now (clipped .entry)) (now (buckets .entry)) (now (side .entry))) ⌝ }
 {
     if !ledger::valid(s, ledger) {

@@ -9,13 +9,13 @@ use Rattle.theory.specs.Settings as plain
 use Rattle.theory.specs.Lookup.{driver-number}
 use Rattle.settings.specs.Checked.{paper, card}
 use Rattle.lookup.specs.Places.{KeyCountersFit}
-use Rattle.lookup.specs.Bursts.{key-at, each, unpacked-of, number-by}
+use Rattle.lookup.specs.Bursts.{burst-key, each, unpacked-of, number-by}
 use Rattle.lookup.proofs.BurstLaws.{Passed, passed-none, passed-more, passed-all, key-within, key-lent, key-size, next-key, number-from}
 use Rattle.lookup.proofs.bursts.answer_all.Statement.{statement}
 use Rattle.lookup.proofs.bursts.answer_all.Tie as tie
 
 record Answered (t : plain.Settings) (buckets side keys before : List ℕ) (width : ℕ) (now : List ℕ) (i from : ℕ) : Type 0 where
-  passed : Passed (λ j. number-by t buckets side (key-at width keys j) (getD before j 0)) before i now
+  passed : Passed (λ j. number-by t buckets side (burst-key width keys j) (getD before j 0)) before i now
   here : from ≡ i * width
 
 abbrev Inv-loop : tie.InvT-loop
@@ -41,7 +41,7 @@ module _ (c : tie.In-loop Inv-loop μ-loop) where
   inside : c .before .loop .from + width ≤ length (start .args .keys .now)
   inside =
       key-within w width (c .before .loop .from) (c .before .loop .i) (measured .width .ensures) (c .before .loop .inv .here)
-      (length (start .args .answers .now)) (start .args .keys .now) (start .pre .1) (omega (arith, c .before .loop .inv .passed .long))
+      (length (start .args .answers .now)) (start .args .keys .now) (start .pre .keys-size) (omega (arith, c .before .loop .inv .passed .long))
 
 -- ---- its choice is read
 module _ (c : tie.After-unpacked Inv-loop μ-loop) where
@@ -54,14 +54,14 @@ module _ (c : tie.After-unpacked Inv-loop μ-loop) where
   fits : KeyCountersFit (paper (start hand .args .s)) (c .unpacked .result)
   fits =
       subst (KeyCountersFit (paper (start hand .args .s))) (sym is-choice)
-      (start hand .pre .2 (hand .before .loop .i) (omega (arith, hand .before .loop .inv .passed .long)))
+      (start hand .pre .fits (hand .before .loop .i) (omega (arith, hand .before .loop .inv .passed .long)))
 
 search-chosen-requires : tie.Need-search-chosen-requires Inv-loop μ-loop
 search-chosen-requires c κs =
     let at = c .before in
     let h = hand at in
     let size = key-size (width h) (h .before .loop .from) (start h .args .keys .now) (inside h) in
-    (start h .pre .0, fits at, size ∙ measured h .width .ensures)
+    record { checked = start h .pre .checked; fits = fits at; wide = size ∙ measured h .width .ensures }
 
 loop-again : tie.Need-loop-again Inv-loop μ-loop
 loop-again c =
@@ -81,7 +81,7 @@ returns c =
     let args = c .before .before .before .before .before .before .before .args in
     let l = c .before .loop in
     passed-all _ _ (l .i) (l .answers) (l .inv .passed) (c .loop-test .left)
-    ∙ ap (λ (w : ℕ). each (λ j. number-by (paper (args .s)) (args .buckets .now) (args .side .now) (key-at w (args .keys .now) j) (getD (args .answers .now) j 0)) (length (args .answers .now)))
+    ∙ ap (λ (w : ℕ). each (λ j. number-by (paper (args .s)) (args .buckets .now) (args .side .now) (burst-key w (args .keys .now) j) (getD (args .answers .now) j 0)) (length (args .answers .now)))
     (c .before .before .width .ensures)
 
 pub answer-all-spec : {M : Type 1} → statement M

@@ -8,13 +8,13 @@ use lib.ListN.{length}
 use Rattle.hash.specs.Table.{H-by}
 use Rattle.hash.proofs.TableLaws.{lent-length}
 use Rattle.settings.specs.Checked.{card}
-use Rattle.lookup.specs.Bursts.{key-at, each}
+use Rattle.lookup.specs.Bursts.{burst-key, each}
 use Rattle.lookup.proofs.BurstLaws.{Passed, passed-none, passed-more, passed-all, key-within, key-lent, key-size, next-key}
 use Rattle.lookup.proofs.bursts.hash_all.Statement.{statement}
 use Rattle.lookup.proofs.bursts.hash_all.Tie as tie
 
 record Hashed (table keys before : List ℕ) (width : ℕ) (now : List ℕ) (i at : ℕ) : Type 0 where
-  passed : Passed (λ j. H-by table (key-at width keys j)) before i now
+  passed : Passed (λ j. H-by table (burst-key width keys j)) before i now
   here : at ≡ i * width
 
 abbrev Inv-loop : tie.InvT-loop
@@ -64,7 +64,7 @@ returns c =
     let first = c .before .before .before .before .before .before in
     let l = c .before .loop in
     passed-all _ _ (l .i) (l .answers) (l .inv .passed) (c .loop-test .left)
-    ∙ ap (λ (w : ℕ). each (λ j. H-by (first .args .table .now) (key-at w (first .args .keys .now) j)) (length (first .args .answers .now))) (c .before .before .width .ensures)
+    ∙ ap (λ (w : ℕ). each (λ j. H-by (first .args .table .now) (burst-key w (first .args .keys .now) j)) (length (first .args .answers .now))) (c .before .before .width .ensures)
 
 pub hash-all-spec : {M : Type 1} → statement M
 hash-all-spec =

@@ -12,6 +12,7 @@ use Rattle.settings.proofs.Laws.{width-is}
 use Rattle.lookup.specs.Answers.{judged-of}
 use Rattle.lookup.specs.declared.judging.Judged.the-variants.{Ready}
 use Rattle.lookup.proofs.BurstLaws.{packed-length, packed-fits, numbered, one-number, refused-number}
+use Rattle.lookup.proofs.PlaceLaws.{places-of}
 use Rattle.lookup.proofs.JudgeLaws.{Fine, fine}
 use Rattle.lookup.proofs.bursts.search_number.Statement.{statement}
 use Rattle.lookup.proofs.bursts.search_number.Tie as tie
@@ -38,21 +39,21 @@ module _ (c : tie.After-known-told2) where
 answer-all-requires : tie.Need-answer-all-requires
 answer-all-requires c κs =
     let at = c .before .before .before .before .before in
-    let lent = right at .lent in
+    let lent = right at .checked in
     let clipped = start at .args .clipped .now in
     let h : ℕ → ℕ = λ j. c .before .before .before .before .h-rows .result in
-    let long = packed-length (paper (s at)) (lent .ok) clipped h 1 _ _ refl (c .before .before .read-all-counters .ensures) in (
-      record { ok = lent .ok; buckets-size = lent .buckets-size; side-size = lent .side-size },
-      right at .wide ∙ rw long (omega arith),
-      packed-fits (paper (s at)) (lent .ok) clipped h 1 _ _ refl (c .before .before .read-all-counters .ensures),
-    )
+    let long = packed-length (paper (s at)) (lent .ok) clipped h 1 _ _ refl (c .before .before .read-all-counters .ensures) in record {
+      checked = places-of lent;
+      keys-size = right at .wide ∙ rw long (omega arith);
+      fits = packed-fits (paper (s at)) (lent .ok) clipped h 1 _ _ refl (c .before .before .read-all-counters .ensures);
+    }
 
 returns-2 : tie.Need-returns-2
 returns-2 c =
     let at = c .before .before .before .before .before .before .before in
     let args = start at .args in
     let h : ℕ → ℕ = λ j. c .before .before .before .before .before .before .h-rows .result in
-    let numbers = numbered (paper (s at)) (right at .lent .ok) (args .clipped .now) h 1 _ _ refl (c .before .before .before .before .read-all-counters .ensures) (args .buckets .now) (args .side .now) (args .key .now) (card (s at) .width) _ (c .before .answer-all .ensures) in
+    let numbers = numbered (paper (s at)) (right at .checked .ok) (args .clipped .now) h 1 _ _ refl (c .before .before .before .before .read-all-counters .ensures) (args .buckets .now) (args .side .now) (args .key .now) (card (s at) .width) _ (c .before .answer-all .ensures) in
     ap (λ (l : List ℕ). getD l 0 0) numbers
     ∙ one-number (given (start at)) (args .clipped .now) (args .buckets .now) (args .side .now) (args .key .now) (s at) (ready at) (c .before .before .before .before .before .before .h-rows .result) (c .before .before .before .before .before .before .h-rows .ensures)
 
@@ -68,7 +69,7 @@ search-number-spec =
     (λ c κs. right c .wide ∙ width-is (paper (s c)))
     (λ c. search needs)
     (λ c. search needs)
-    (λ c κs. let at = c .before .before in (right at .lent .ok, right at .lent .clipped-size))
+    (λ c κs. let at = c .before .before in (right at .checked .ok, right at .checked .clipped-size))
     (λ c. search needs)
     answer-all-requires
     (λ c. search needs)

@@ -61,6 +61,6 @@ locate-spec =
     (λ c κs. search needs)
     (λ c. search needs)
     (λ c κs. right c .wide ∙ width-is (paper (s c)))
-    (λ c κs. (right (c .before) .lent, right (c .before) .wide))
+    (λ c κs. (right (c .before) .checked, right (c .before) .wide))
     returns
     returns-2)

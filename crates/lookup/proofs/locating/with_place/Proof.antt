@@ -10,12 +10,12 @@ use Rattle.lookup.proofs.locating.with_place.Tie as tie
 mul-t11 : tie.Need-mul-t11
 mul-t11 c =
     let start = c .before .before in
-    omega (arith, mul-le-mul-left (start .args .answer .«records_compared» - 1) (start .pre .2), c .before .struct-known .given)
+    omega (arith, mul-le-mul-left (start .args .answer .«records_compared» - 1) (start .pre .small), c .before .struct-known .given)
 
 add-t12 : tie.Need-add-t12
 add-t12 c =
     let start = c .before .before in
-    omega (arith, mul-le-mul-left (start .args .answer .«records_compared» - 1) (start .pre .2), c .before .struct-known .given)
+    omega (arith, mul-le-mul-left (start .args .answer .«records_compared» - 1) (start .pre .small), c .before .struct-known .given)
 
 pub with-place-spec : {M : Type 1} → statement M
 with-place-spec =
@@ -24,7 +24,7 @@ with-place-spec =
     (λ c. search needs)
     (λ c κs. search needs)
     (λ c. rw (ne-eqb (c .before .before .before .args .answer .number) 0 (c .before .if1 .taken)) (c .nowhere .ensures))
-    (λ c. omega (arith, c .before .before .pre .0 (c .if1 .left)))
+    (λ c. omega (arith, c .before .before .pre .counted (c .if1 .left)))
     mul-t11
     add-t12
     (λ c. rw (eq-eqb (c .before .before .args .answer .number) 0 (c .if1 .left))))

@@ -23,7 +23,7 @@ search-at-requires c κs =
     let start = c .before .before .before .before .before .before .before .before .before in
     let judge = c .before .before .before .before .judge in
     let judged2 = c .before .before .judged2 in
-    let g = fine (given-of (start .args .given)) (start .args .clipped .now) (start .args .buckets .now) (start .args .side .now) (start .args .key .now) (judged2 .given .0 .0) (sym (judge .ensures) ∙ judged2 .given .1) in (g .lent, g .wide)
+    let g = fine (given-of (start .args .given)) (start .args .clipped .now) (start .args .buckets .now) (start .args .side .now) (start .args .key .now) (judged2 .given .0 .0) (sym (judge .ensures) ∙ judged2 .given .1) in (g .checked, g .wide)
 
 returns : tie.Need-returns
 returns c =

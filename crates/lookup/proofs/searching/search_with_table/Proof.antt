@@ -58,6 +58,6 @@ search-with-table-spec =
     (λ c κs. search needs)
     (λ c. search needs)
     h-with-table-requires
-    (λ c κs. (right (c .before) .lent, right (c .before) .wide))
+    (λ c κs. (right (c .before) .checked, right (c .before) .wide))
     (λ c. c .bare .ensures ∙ with-refused _ _ _ _ _ _ _ (sym (c .before .before .before .before .judge-with-table .ensures) ∙ c .before .before .judged .given .1))
     returns-2)
