@@ -17,6 +17,7 @@ use Rattle.theory.specs.Calls.{reply-number}
 use Rattle.theory.proofs.ListLaws.{by-test}
 use Rattle.theory.proofs.RecordPlaceLaws.{compared-one, not-held}
 use Rattle.settings.specs.declared.Settings as code
+use Rattle.settings.specs.Checked.{paper}
 use Rattle.lookup.specs.declared.searching.Answer.{Answer}
 use Rattle.lookup.specs.declared.places.Place.{Place}
 use Rattle.lookup.specs.declared.locating.Located.{Located}
@@ -25,8 +26,8 @@ use Rattle.lookup.specs.declared.judging.Judged.the-variants.{Ready, Ref
 use Rattle.lookup.specs.Choosing.{card-at}
 use Rattle.lookup.specs.Answers.{answer-of, judged-of}
 use Rattle.lookup.specs.Locating.{lies-at, nowhere-of, located-from, LocatedAt, judged-place, LocatedCall}
-use Rattle.lookup.proofs.PlaceLaws.{LookingAt, hashed, place-hashed}
-use Rattle.lookup.proofs.JudgeLaws.{refused-is, refused-low, passes, search-performs}
+use Rattle.lookup.proofs.PlaceLaws.{LookingAt, place-hashed}
+use Rattle.lookup.proofs.JudgeLaws.{Unrefused, refused-is, search-refused, search-answered}
 
 -- a search that finds the key has compared a record
 pub one-compared : (s : Card) (k : List ℕ) (x : plain.Place) (a : Answer) → answer-of a ≡ answer-at s k x → a .number ≡ 0 → 1 ≤ a .«records_compared»
@@ -74,22 +75,10 @@ module _ (t : Settings) (clipped buckets side key : List ℕ) where
   unfolding judged-place
   place-ready c e = rw e
 
-  pub call-nowhere : (n : ℕ) → judged-of t clipped buckets side key ≡ Refused n → (a : Answer) → answer-of a ≡ bare n
-      → LocatedCall t clipped buckets side key (nowhere-of a)
-  call-nowhere n e a is =
-      record {
-        answers = search-performs t clipped buckets side key (answer-of a) (refused-is t clipped buckets side key bare _ n e ∙ sym is);
-        lies = sym (place-refused n e);
-      }
-
-  pub call-located : (c : code.Settings) → judged-of t clipped buckets side key ≡ Ready c → (h : ℕ) → h ≡ H key → (r : Located)
-      → LocatedAt (card-at t h) clipped buckets side key r → LocatedCall t clipped buckets side key r
-  call-located c e h is-H r at =
-      record {
-        answers = search-performs t clipped buckets side key (answer-of (r .answer))
-            (passes t clipped buckets side key c e bare _ ∙ sym (at .answers ∙ hashed t clipped buckets side key h is-H));
-        lies = at .lies ∙ place-hashed t clipped buckets side key h is-H ∙ sym (place-ready c e);
-      }
+  pub call-nowhere : (n : ℕ) → judged-of t clipped buckets side key ≡ Refused n → {a : Answer} → answer-of a ≡ bare n → {r : Located} → r ≡ nowhere-of a
+      → LocatedCall t clipped buckets side key r
+  call-nowhere n e {a} is f =
+      rw f (record { answers = search-refused t clipped buckets side key n e (answer-of a) is; lies = sym (place-refused n e) })
 
   -- an accepted call gives the place by the areas
   module _ (r : Located) (call : LocatedCall t clipped buckets side key r) where
@@ -97,14 +86,23 @@ module _ (t : Settings) (clipped buckets side key : List ℕ) where
     place-accepted ok = call .lies ∙ go (judged-of t clipped buckets side key) refl
       where
         low : (n : ℕ) → (1 ≤ n) × (n ≤ 3) → accepted n ≡ true → ⊥
-        low n h e =
-            by-test (eqb n 0) (λ z. omega (arith, h, eqb-true n 0 z))
-            (λ z. omega (arith, h, eqb-true n 100 (rw z at e)))
+        low n h e = by-test (eqb n 0) (λ z. omega (arith, h, eqb-true n 0 z)) (λ z. omega (arith, h, eqb-true n 100 (rw z at e)))
 
         go : (j : Judged) → judged-of t clipped buckets side key ≡ j
             → judged-place t clipped buckets side key ≡ record-place (card-of t) clipped buckets side key
         go (Refused n) e =
-            let stopped = search-performs t clipped buckets side key (bare n) (refused-is t clipped buckets side key bare _ n e) in
+            let stopped = search-refused t clipped buckets side key n e (bare n) refl in
+            let small = refused-is t clipped buckets side key bare (bare n) n e in
             let same : r .answer .number ≡ n = ap (λ (x : Step Areas). reply-number (x .reply)) (call .answers ∙ sym stopped) in
-            absurd (low (r .answer .number) (rw same (refused-low t clipped buckets side key n e)) ok)
+            absurd (low (r .answer .number) (rw same (small .1, small .2)) ok)
         go (Ready c) e = place-ready c e
+
+pub call-located : {t : Settings} {clipped buckets side key : List ℕ} {c : code.Settings} → Unrefused t clipped buckets side key c → (h : ℕ) → h ≡ H key
+    → {r : Located} → LocatedAt (card-at (paper c) h) clipped buckets side key r → LocatedCall t clipped buckets side key r
+call-located {t} {clipped} {buckets} {side} {key} {c} u h is-H at =
+    record {
+      answers = search-answered u h is-H _ (at .answers);
+      lies = at .lies ∙ place-hashed (paper c) clipped buckets side key h is-H
+          ∙ ap (λ (v : Settings). record-place (card-of v) clipped buckets side key) (u .same)
+          ∙ sym (place-ready t clipped buckets side key c (u .judged));
+    }

@@ -7,7 +7,7 @@ use native.Mathlib.Nat.{add-zero, mul-comm, mul-le-mul-right}
 use native.Mathlib.Omega.{arith}
 use lib.Dec.{eqb, ltb, leb}
 use borrow.Author.Tests.{lt-ltb, le-ltb, eq-eqb, ne-eqb}
-use lib.ListN.{length, take, drop, getD, length-take, length-drop}
+use lib.ListN.{length, take, drop, getD}
 use lib.Seq.{getD-take, getD-drop, drop-drop}
 use Rattle.theory.specs.Lists.{any, least}
 use Rattle.theory.specs.Hash.{H, numbers-of}
@@ -15,7 +15,7 @@ use Rattle.theory.specs.Records.{count-of}
 use Rattle.theory.specs.Settings.{Settings, allowed, card-of, record-size, bucket-size, buckets-length, side-length}
 use Rattle.theory.specs.Placing.{all-top, least-count, chosen}
 use Rattle.theory.specs.Lookup as plain
-use Rattle.theory.specs.Lookup.{counter, bare, invalid, nowhere, among, bucket-part, side-place, bucket-place, by-counters, reads-bucket}
+use Rattle.theory.specs.Lookup.{counter, bare, invalid, nowhere, bucket-part, side-place, bucket-place, by-counters, reads-bucket}
 use Rattle.theory.specs.Lookup.{goes-to-bucket, place, answer-at, search-areas, record-place}
 use Rattle.theory.proofs.ListLaws.{by-test, all-map, all-cong, any-none, least-zero, least-top}
 use Rattle.theory.proofs.SettingsLaws.{ranges, Sound, sound, numbers-of-below}

@@ -25,8 +25,8 @@ abbrev pub burst-key : ℕ → List ℕ → ℕ → List ℕ
 burst-key w keys j = take w (drop (j * w) keys)
 
 -- a number for each key, from the first
-abbrev pub each : (ℕ → ℕ) → ℕ → List ℕ
-each f n = map f (upto 0 n)
+abbrev pub per-key : (ℕ → ℕ) → ℕ → List ℕ
+per-key f n = map f (upto 0 n)
 
 -- what is judged first: 1; 2, the length of the table or of a lookup area; 3, keys not of n times the key's bytes
 unfoldable pub judged-burst : List ℕ → plain.Settings → List ℕ → List ℕ → List ℕ → List ℕ → ℕ → Judged
@@ -83,6 +83,6 @@ burst-of table t clipped buckets side keys before = by (judged-burst table t cli
         record {
           number = 0;
           answers =
-              each (λ j. number-at t clipped buckets side (burst-key (plain.card-of t .width) keys j) (H-by table (burst-key (plain.card-of t .width) keys j)))
+              per-key (λ j. number-at t clipped buckets side (burst-key (plain.card-of t .width) keys j) (H-by table (burst-key (plain.card-of t .width) keys j)))
               (length before);
         }

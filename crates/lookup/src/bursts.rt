@@ -14,6 +14,7 @@ use crate::searching::compare_bucket;
 use crate::searching::compare_side;
 use crate::searching::driver_number;
 use memory::picks::pick64;
+use memory::records::key_at;
 use settings::Given;
 use settings::Settings;
 use settings::counts::ClippedCount;
@@ -28,7 +29,7 @@ ghost use Rattle.hash.specs.Table.{table-lengths, H-by};
 ghost use Rattle.settings.specs.Checked.{paper, given-of, card};
 ghost use Rattle.lookup.specs.Places.{place-by, ByCounters};
 ghost use Rattle.lookup.specs.Answers.{answer-of, at-entry, search-of};
-ghost use Rattle.lookup.specs.Bursts.{burst-key, each, packed-of, unpacked-of, key-counters-at, number-by, ByPacked, Burst, burst-of};
+ghost use Rattle.lookup.specs.Bursts.{burst-key, per-key, packed-of, unpacked-of, key-counters-at, number-by, ByPacked, Burst, burst-of};
 
 // What the counters say, as one number, and back.
 fn packed(choice: KeyCounters) -> u64
@@ -73,15 +74,12 @@ fn hash_all(s: Settings, table: &[u64], keys: &[u8], answers: &mut [u64])
     requires { ⌜ (has (length (now table)) (table-lengths (card s .width)) ≡ true)
         × (length (now keys) ≡ length (now answers) * card s .width) ⌝ }
     ensures { λ _. ⌜ now (answers .exit)
-        ≡ each (λ j. H-by (now (table .entry)) (burst-key (card s .width) (now (keys .entry)) j)) (length (now (answers .entry))) ⌝ }
+        ≡ per-key (λ j. H-by (now (table .entry)) (burst-key (card s .width) (now (keys .entry)) j)) (length (now (answers .entry))) ⌝ }
 {
     let width = s.width();
     let mut i: usize = 0;
-    let mut at: usize = 0;
     while i < answers.len() {
-        let end = at + width;
-        answers[i] = hash::h_with_table(table, &keys[at..end]);
-        at = end;
+        answers[i] = hash::h_with_table(table, key_at(keys, i, width, width));
         i += 1;
     }
 }
@@ -90,7 +88,7 @@ fn hash_all(s: Settings, table: &[u64], keys: &[u8], answers: &mut [u64])
 fn read_all_counters(s: Settings, clipped: &[u8], answers: &mut [u64])
     requires { ⌜ (allowed (paper s) ≡ true) × (length (now clipped) ≡ clipped-length (card s)) ⌝ }
     ensures { λ _. ⌜ now (answers .exit)
-        ≡ each (λ j. packed-of (key-counters-at (paper s) (now (clipped .entry)) (getD (now (answers .entry)) j 0))) (length (now (answers .entry))) ⌝ }
+        ≡ per-key (λ j. packed-of (key-counters-at (paper s) (now (clipped .entry)) (getD (now (answers .entry)) j 0))) (length (now (answers .entry))) ⌝ }
 {
     let n = answers.len();
     let mut i: usize = 0;
@@ -103,17 +101,15 @@ fn read_all_counters(s: Settings, clipped: &[u8], answers: &mut [u64])
 // The third pass: the driver's number of each key.
 fn answer_all(s: Settings, buckets: &[u8], side: &[u8], keys: &[u8], answers: &mut [u64])
     requires { ⌜ ByPacked (paper s) (now buckets) (now side) (now keys) (now answers) ⌝ }
-    ensures { λ _. ⌜ now (answers .exit) ≡ each (λ j. number-by (paper s) (now (buckets .entry)) (now (side .entry))
+    ensures { λ _. ⌜ now (answers .exit) ≡ per-key (λ j. number-by (paper s) (now (buckets .entry)) (now (side .entry))
         (burst-key (card s .width) (now (keys .entry)) j) (getD (now (answers .entry)) j 0)) (length (now (answers .entry))) ⌝ }
 {
     let width = s.width();
     let mut i: usize = 0;
-    let mut from: usize = 0;
     while i < answers.len() {
-        let to = from + width;
         let choice = unpacked(answers[i]);
-        answers[i] = driver_number(search_chosen(s, choice, buckets, side, &keys[from..to]));
-        from = to;
+        let key = key_at(keys, i, width, width);
+        answers[i] = driver_number(search_chosen(s, choice, buckets, side, key));
         i += 1;
     }
 }

@@ -2,7 +2,6 @@
 use crate::counters::KeyCounters;
 use crate::counters::read_counters;
 use settings::Settings;
-ghost use mathlib.Core.Path.{_≡_};
 ghost use mathlib.Core.Bool.{false, not};
 ghost use mathlib.Core.List.{List};
 ghost use Prim.Native.Nat.{ℕ, _<_};

@@ -1,5 +1,5 @@
 -- `lookup::locating::locate_at` meets its contract: the answer at the place where the search looks, and the byte of the record there.
-use mathlib.Core.Path.{_≡_, refl, ap, _∙_, subst}
+use mathlib.Core.Path.{_≡_, refl, _∙_, subst}
 use mathlib.Core.Bool.{true, false}
 use mathlib.Core.List.{List}
 use Prim.Native.Nat.{ℕ}
