@@ -1,6 +1,6 @@
 -- Laws of where a search looks: each test of the code is the definition's.
 use mathlib.Core.Path.{_≡_, refl, sym, ap, _∙_, subst}
-use mathlib.Core.Bool.{Bool, true, false, cond, not}
+use mathlib.Core.Bool.{Bool, true, false, cond, not, _&&_}
 use mathlib.Core.List.{List, [], _∷_}
 use Prim.Native.Nat.{ℕ, zero, suc, _+_, _-_, _*_, _^_, _≤_, _<_}
 use native.Mathlib.Nat.{add-zero, mul-comm, mul-le-mul-right}
@@ -12,7 +12,7 @@ use lib.Seq.{getD-take, getD-drop, drop-drop}
 use Rattle.theory.specs.Lists.{any, least}
 use Rattle.theory.specs.Hash.{H, numbers-of}
 use Rattle.theory.specs.Records.{count-of}
-use Rattle.theory.specs.Settings.{Settings, allowed, card-of, record-size, bucket-size, buckets-length, side-length}
+use Rattle.theory.specs.Settings.{Settings, Card, allowed, card-of, record-size, bucket-size, buckets-length, side-length}
 use Rattle.theory.specs.Placing.{all-top, least-count, chosen}
 use Rattle.theory.specs.Lookup as plain
 use Rattle.theory.specs.Lookup.{counter, bare, invalid, nowhere, bucket-part, side-place, bucket-place, by-counters, reads-bucket}
@@ -26,7 +26,8 @@ use Rattle.lookup.specs.declared.counters.KeyCounters.{KeyCounters}
 use Rattle.lookup.specs.Choosing.{card-at, KeyCountersOf}
 use Rattle.lookup.specs.declared.places.Place.{Place}
 use Rattle.lookup.specs.declared.places.Place.the-variants.{Invalid, Nowhere, Bucket, Side}
-use Rattle.lookup.specs.Places.{CheckedLookup, CheckedPlaces, place-of, Inside, place-by, goes-by, KeyCountersFit, Looks, LooksAt, InBucket, InSide}
+use Rattle.lookup.specs.Places.{CheckedLookup, CheckedPlaces, place-of, Inside, by-choice, place-by, goes-by}
+use Rattle.lookup.specs.Places.{KeyCountersFit, Looks, LooksAt, InBucket, InSide}
 
 -- ---- the side store
 module _ {t : Settings} {buckets side : List ℕ} {b : ℕ} where
@@ -95,7 +96,10 @@ module _ {t : Settings} {buckets : List ℕ} {b at : ℕ} (m : MarkAt t buckets 
       unfolding bucket-place
       bucket-among h inside =
           record {
-            looks = record { is = rw (mark-is, after-mark, ne-eqb (getD buckets at 0) 255 ne, room-is t, le-ltb (t .room) (getD buckets at 0) h); inside = (inside, h) };
+            looks = record {
+              is = rw (mark-is, after-mark, ne-eqb (getD buckets at 0) 255 ne, room-is t, le-ltb (t .room) (getD buckets at 0) h);
+              inside = (inside, h);
+            };
             goes = (rw (mark-is, ne-eqb (getD buckets at 0) 255 ne), ap (λ (x : ℕ). x + 1) (m .start));
           }
 
@@ -125,78 +129,53 @@ module _ (t : Settings) (ok : allowed t ≡ true) (h : ℕ) where
         numbers-below = λ key. numbers-of-below (card-of t .buckets) (t .k) h (let b = bounds t ok in omega arith);
       }
 
-  module _ (clipped buckets side key : List ℕ) where
-    abbrev above : Bool
-    above = any (λ b. ltb (t .top) (counter clipped b)) (numbers-of (card-of t .buckets) (t .k) h)
-
-    abbrev low : ℕ
-    low = least-count (card-at t h) (counter clipped) key
-
-    -- the bucket of the key
-    abbrev mine : List ℕ
-    mine = bucket-part (card-of t) buckets (chosen (card-at t h) (counter clipped) key)
-
-    place-above : above ≡ true → invalid ≡ place (card-at t h) clipped buckets side key
-    unfolding place by-counters card-at card-of
-    place-above e = rw e
-
-    goes-above : above ≡ true → goes-to-bucket (card-at t h) clipped buckets key ≡ false
-    unfolding goes-to-bucket reads-bucket by-counters card-at card-of
-    goes-above e = rw e
-
-    module _ (none : above ≡ false) where
-      -- with no counter above T, the least tells whether one is zero and whether all are T
-      by-least : {X : Type 0} (refused absent side′ bucket : X)
-          → by-counters (card-at t h) (counter clipped) key refused absent side′ bucket ≡ cond (eqb low 0) absent (cond (eqb low (t .top)) side′ bucket)
-      unfolding by-counters card-at card-of least-count
-      by-least refused absent side′ bucket =
-          let ns = numbers-of (2 ^ t .p) (t .k) h in
-          rw (
-            none,
-            least-zero (counter clipped) (t .top) ns (let r = ranges t ok in omega arith),
-            all-cong (λ b. eqb (counter clipped b) (t .top)) (λ b. leb (t .top) (counter clipped b)) ns
-                (all-map (λ b q. not-above (t .top) (counter clipped b) q) ns (any-none (λ b. ltb (t .top) (counter clipped b)) ns none)),
-            least-top (counter clipped) (t .top) ns,
-          )
-
-      place-by-least : place (card-at t h) clipped buckets side key
-          ≡ cond (eqb low 0) nowhere (cond (eqb low (t .top)) (side-place (card-of t) side 0) (bucket-place (card-of t) mine side))
-      unfolding place card-at side-place bucket-place bucket-part bucket-size record-size
-      place-by-least = by-least _ _ _ _
-
-      goes-by-least : goes-to-bucket (card-at t h) clipped buckets key
-          ≡ cond (eqb low 0) false (cond (eqb low (t .top)) false (not (eqb (getD mine 0 0) 255)))
-      unfolding goes-to-bucket reads-bucket card-at bucket-part bucket-size record-size
-      goes-by-least =
-          rw (by-least false false false true)
-          (by-test (eqb low 0) (λ z. rw z) (λ z. rw z (by-test (eqb low (t .top)) (λ e. rw e) (λ e. rw e))))
-
-    not-all : (low ≡ t .top → ⊥) → all-top (card-at t h) (counter clipped) key ≡ false
+  -- unless the least is T, the chosen bucket is one of the card's
+  module _ (clipped key : List ℕ) (e : least-count (card-at t h) (counter clipped) key ≡ t .top → ⊥) where
+    not-all : all-top (card-at t h) (counter clipped) key ≡ false
     unfolding all-top least-count card-at card-of
-    not-all e = least-top (counter clipped) (t .top) (numbers-of (2 ^ t .p) (t .k) h) ∙ ne-eqb low (t .top) e
+    not-all = least-top (counter clipped) (t .top) (numbers-of (2 ^ t .p) (t .k) h) ∙ ne-eqb _ (t .top) e
 
-    -- the chosen bucket is one of the card's
-    pub chosen-there : (low ≡ t .top → ⊥) → chosen (card-at t h) (counter clipped) key < card-of t .buckets
+    chosen-there : chosen (card-at t h) (counter clipped) key < card-of t .buckets
     unfolding card-at
-    chosen-there e = chosen-below (card-at t h) sound-at (counter clipped) key (not-all e)
+    chosen-there = chosen-below (card-at t h) sound-at (counter clipped) key not-all
+
+-- a last test in the place of a bucket
+by-last : (s : Card) (c : KeyCounters) (x : Bool) → by-choice s c false false false x ≡ (by-choice s c false false false true && x)
+by-last s c x =
+    by-test (c .above) (λ a. rw a) (λ a. rw a (by-test (eqb (c .least .0) 0) (λ z. rw z)
+    (λ z. rw z (by-test (eqb (c .least .0) (s .top)) (λ e. rw e) (λ e. rw e)))))
 
 -- ---- what the code found of the counters is where the definition looks
 module _ {t : Settings} {h : ℕ} {clipped : List ℕ} {c : KeyCounters} (ok : allowed t ≡ true) (of : KeyCountersOf t h clipped c) where
   pub key-counters-fit : KeyCountersFit t c
-  key-counters-fit = record { there = λ e. rw (of .bucket []) (chosen-there t ok h clipped [] [] [] (λ low. e (of .least [] ∙ low))) }
+  key-counters-fit = record { there = λ e. rw (of .bucket []) (chosen-there t ok h clipped [] (λ low. e (of .least [] ∙ low))) }
+
+  -- with no counter above T, the least tells whether one is zero and whether all are T
+  by-choice-is : (key : List ℕ) {X : Type 0} (refused absent side bucket : X)
+      → by-choice (card-of t) c refused absent side bucket ≡ by-counters (card-at t h) (counter clipped) key refused absent side bucket
+  unfolding by-counters card-at card-of least-count
+  by-choice-is key refused absent side bucket =
+      let ns = numbers-of (2 ^ t .p) (t .k) h in
+      by-test (c .above) (λ a. rw (a, sym (of .above) ∙ a))
+      (λ a. let none = sym (of .above) ∙ a in
+      rw (
+        a,
+        of .least key,
+        none,
+        least-zero (counter clipped) (t .top) ns (let r = ranges t ok in omega arith),
+        all-cong (λ b. eqb (counter clipped b) (t .top)) (λ b. leb (t .top) (counter clipped b)) ns
+            (all-map (λ b q. not-above (t .top) (counter clipped b) q) ns (any-none (λ b. ltb (t .top) (counter clipped b)) ns none)),
+        least-top (counter clipped) (t .top) ns,
+      ))
 
   module _ (buckets side key : List ℕ) where
     pub place-by-is : place-by (card-of t) c buckets side ≡ place (card-at t h) clipped buckets side key
-    unfolding place-by card-of
-    place-by-is =
-        by-test (c .above) (λ a. rw a (place-above t ok h clipped buckets side key (sym (of .above) ∙ a)))
-        (λ a. rw (a, of .least key, of .bucket key, top-is t) (sym (place-by-least t ok h clipped buckets side key (sym (of .above) ∙ a))))
+    unfolding place-by place card-at side-place bucket-place bucket-part bucket-size record-size
+    place-by-is = rw (of .bucket key) (by-choice-is key _ _ _ _)
 
     goes-by-is : goes-by (card-of t) c buckets ≡ goes-to-bucket (card-at t h) clipped buckets key
-    unfolding goes-by card-of
-    goes-by-is =
-        by-test (c .above) (λ a. rw a (sym (goes-above t ok h clipped buckets side key (sym (of .above) ∙ a))))
-        (λ a. rw (a, of .least key, of .bucket key, top-is t) (sym (goes-by-least t ok h clipped buckets side key (sym (of .above) ∙ a))))
+    unfolding goes-by goes-to-bucket reads-bucket card-at bucket-part bucket-size record-size
+    goes-by-is = rw (of .bucket key, ← by-choice-is key false false false true) (by-last (card-of t) c _)
 
     pub looks-by : {r : Place} → LooksAt t buckets side (place-by (card-of t) c buckets side) (c .bucket) (goes-by (card-of t) c buckets) r
         → LooksAt t buckets side (place (card-at t h) clipped buckets side key) (chosen (card-at t h) (counter clipped) key)

@@ -83,6 +83,7 @@ burst-of table t clipped buckets side keys before = by (judged-burst table t cli
         record {
           number = 0;
           answers =
-              per-key (λ j. number-at t clipped buckets side (burst-key (plain.card-of t .width) keys j) (H-by table (burst-key (plain.card-of t .width) keys j)))
+              per-key
+              (λ j. number-at t clipped buckets side (burst-key (plain.card-of t .width) keys j) (H-by table (burst-key (plain.card-of t .width) keys j)))
               (length before);
         }

@@ -38,20 +38,17 @@ Inside t Nowhere = Unit {0}
 Inside t (Bucket from records) = (from + (bucket-size (card-of t) - 1) ≤ buckets-length (card-of t)) × (records ≤ t .room)
 Inside t (Side records read) = (records ≤ t .side-places) × (read ≤ 1)
 
--- where a search looks by what the counters of its key say: one above T, refused; the least zero, absent; the least T, the side store; otherwise the
--- chosen bucket
+-- by what the counters of a key say: one above T, refused; the least zero, absent; the least T, the side store; otherwise the chosen bucket
+abbrev pub by-choice : {X : Type 0} → Card → KeyCounters → X → X → X → X → X
+by-choice s c refused absent side bucket = cond (c .above) refused (cond (eqb (c .least .0) 0) absent (cond (eqb (c .least .0) (s .top)) side bucket))
+
+-- where a search then looks, and whether it ends in a bucket, whose mark is not 255
 unfoldable pub place-by : Card → KeyCounters → List ℕ → List ℕ → plain.Place
 place-by s c buckets side =
-    cond (c .above) plain.invalid
-    (cond (eqb (c .least .0) 0) plain.nowhere
-    (cond (eqb (c .least .0) (s .top)) (plain.side-place s side 0) (plain.bucket-place s (plain.bucket-part s buckets (c .bucket)) side)))
+    by-choice s c plain.invalid plain.nowhere (plain.side-place s side 0) (plain.bucket-place s (plain.bucket-part s buckets (c .bucket)) side)
 
--- it then ends in a bucket, whose mark is not 255
 unfoldable pub goes-by : Card → KeyCounters → List ℕ → Bool
-goes-by s c buckets =
-    cond (c .above) false
-    (cond (eqb (c .least .0) 0) false
-    (cond (eqb (c .least .0) (s .top)) false (not (eqb (getD (plain.bucket-part s buckets (c .bucket)) 0 0) 255))))
+goes-by s c buckets = by-choice s c false false false (not (eqb (getD (plain.bucket-part s buckets (c .bucket)) 0 0) 255))
 
 -- a bucket that is read is one of the card's
 pub record KeyCountersFit (t : Settings) (c : KeyCounters) : Type 0 where

@@ -34,7 +34,9 @@ module _ (c : tie.In-loop Inv-loop μ-loop) where
   more = omega (arith, c .loop-test .taken, c .before .loop .inv .long)
 
   inside : c .before .loop .i * width + width ≤ length (start .args .keys .now)
-  inside = key-within (start .args .keys .now) (length (start .args .answers .now)) _ width _ (start .pre .keys-size) (measured .width .ensures) (omega (arith, more))
+  inside =
+      key-within (start .args .keys .now) (length (start .args .answers .now)) _ width _ (start .pre .keys-size) (measured .width .ensures)
+      (omega (arith, more))
 
 -- ---- its choice is read
 module _ (c : tie.After-unpacked Inv-loop μ-loop) where

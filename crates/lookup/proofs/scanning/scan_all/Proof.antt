@@ -40,10 +40,13 @@ module _ (c : tie.After-loop Inv-loop μ-loop) where
   abbrev begin : tie.Start Inv-loop μ-loop
   begin = c .before .before .before .before
 
-  all : First (begin .args .key .now) (begin .args .n) (begin .args .place .now) (begin .args .room) 0 (c .before .loop .first)
+  abbrev From : ℕ → Type 0
+  From left = First (begin .args .key .now) (begin .args .n) (begin .args .place .now) (begin .args .room) left (c .before .loop .first)
+
+  all : From 0
   all =
       let none : c .before .loop .left ≡ 0 = omega (arith, c .loop-test .left) in
-      subst (λ (x : ℕ). First (begin .args .key .now) (begin .args .n) (begin .args .place .now) (begin .args .room) x (c .before .loop .first)) none (c .before .loop .inv .first-is)
+      subst From none (c .before .loop .inv .first-is)
 
 same-words-requires : tie.Need-same-words-requires Inv-loop μ-loop
 same-words-requires c κs =
