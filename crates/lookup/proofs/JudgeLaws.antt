@@ -17,6 +17,7 @@ use Rattle.theory.specs.Ledger.{search, fetch, Step, answered, handed, key-wron
 use Rattle.theory.specs.Calls.{call, lookup-lengths, lent-lengths, perform}
 use Rattle.theory.proofs.ListLaws.{and-left, and-right, by-test, all-each}
 use Rattle.hash.specs.Table.{table-lengths}
+use Rattle.hash.proofs.TableLaws.{length-allowed}
 use Rattle.settings.specs.declared.Settings.{Settings}
 use Rattle.settings.specs.Checked.{paper, code, card}
 use Rattle.lookup.specs.declared.judging.Judged.{Judged}
@@ -126,7 +127,13 @@ module _ {t : plain.Settings} {clipped buckets side key : List ℕ} {c : Setting
       ∙ sym (e ∙ hashed (paper c) clipped buckets side key h is-H
       ∙ ap (λ (u : plain.Settings). search-areas (card-of u) clipped buckets side key) (u .same)))
 
--- ---- with a lent table
+-- ---- with a lent table, whose length is judged by the width of the code's settings
+pub table-right : (table : List ℕ) {t : plain.Settings} {s : Settings} {w : ℕ} → paper s ≡ t → w ≡ card s .width
+    → has (length table) (table-lengths (card-of t .width)) ≡ eqb (length table) (w * 256)
+table-right table same wide =
+    length-allowed _ _
+    ∙ ap (λ (w : ℕ). eqb (length table) (w * 256)) (ap (λ (u : plain.Settings). card-of u .width) (sym same) ∙ sym wide)
+
 module _ (table : List ℕ) (t : plain.Settings) (clipped buckets side key : List ℕ) where
   abbrev long : Bool
   long = has (length table) (table-lengths (card-of t .width))

@@ -12,14 +12,13 @@ use Rattle.theory.specs.Lists.{has}
 use Rattle.theory.specs.Settings as plain
 use Rattle.theory.specs.Settings.{allowed, card-of}
 use Rattle.hash.specs.Table.{table-lengths}
-use Rattle.hash.proofs.TableLaws.{length-allowed}
 use Rattle.settings.specs.declared.Settings.{Settings}
 use Rattle.settings.specs.Checked.{paper, code, given-of}
 use Rattle.settings.proofs.Laws.{allowed-arm, refused-arm, width-is}
 use Rattle.lookup.specs.declared.judging.Judged.the-variants.{Ready}
 use Rattle.lookup.specs.Bursts.{judged-burst}
 use Rattle.lookup.proofs.BurstLaws.{whole-keys}
-use Rattle.lookup.proofs.JudgeLaws.{lengths-right}
+use Rattle.lookup.proofs.JudgeLaws.{lengths-right, table-right}
 use Rattle.lookup.proofs.judging.judge_burst.Statement.{statement}
 use Rattle.lookup.proofs.judging.judge_burst.Tie as tie
 
@@ -46,7 +45,8 @@ module _ (c : tie.After-width) where
   w-is : c .width .result ≡ 13
   w-is = c .width .ensures ∙ width-is (paper s)
 
-  whole : eqb (length keys) (start .args .n * card-of t .width) ≡ (eqb (length keys % c .width .result) 0 && eqb (length keys / c .width .result) (start .args .n))
+  whole : eqb (length keys) (start .args .n * card-of t .width)
+      ≡ (eqb (length keys % c .width .result) 0 && eqb (length keys / c .width .result) (start .args .n))
   whole =
       ap (λ (w : ℕ). eqb (length keys) (start .args .n * w)) (ap (λ (u : plain.Settings). card-of u .width) (sym (arm .1)) ∙ sym (c .width .ensures))
       ∙ sym (whole-keys (c .width .result) (length keys) (start .args .n) (omega (arith, w-is)))
@@ -60,15 +60,13 @@ module _ (c : tie.After-areas-right) where
   table = start known .args .table .now
 
   abbrev right : plain.Settings → Bool
-  right u =
-      has (length table) (table-lengths (card-of u .width))
-      && lengths-right u (start known .args .clipped .now) (start known .args .buckets .now) (start known .args .side .now)
+  right u = lengths-right u (start known .args .clipped .now) (start known .args .buckets .now) (start known .args .side .now)
 
-  lengths : right (t known) ≡ (eqb (length table) (known .width .result * 256) && c .areas-right .result)
+  lengths : (has (length table) (table-lengths (card-of (t known) .width)) && right (t known))
+      ≡ (eqb (length table) (known .width .result * 256) && c .areas-right .result)
   lengths =
-      ap right (sym (arm known .1))
-      ∙ ap₂ (λ (long r : Bool). long && r) (length-allowed _ _ ∙ ap (λ (w : ℕ). eqb (length table) (w * 256)) (sym (known .width .ensures)))
-      (sym (c .areas-right .ensures))
+      ap₂ (λ (long r : Bool). long && r) (table-right table {s = s known} (arm known .1) (known .width .ensures))
+      (ap right (sym (arm known .1)) ∙ sym (c .areas-right .ensures))
 
 returns : tie.Need-returns
 unfolding judged-burst

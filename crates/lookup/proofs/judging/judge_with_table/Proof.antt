@@ -12,12 +12,11 @@ use Rattle.theory.specs.Lists.{has}
 use Rattle.theory.specs.Settings as plain
 use Rattle.theory.specs.Settings.{allowed, card-of}
 use Rattle.hash.specs.Table.{table-lengths}
-use Rattle.hash.proofs.TableLaws.{length-allowed}
 use Rattle.settings.specs.declared.Settings.{Settings}
 use Rattle.settings.specs.Checked.{paper, given-of}
 use Rattle.settings.proofs.Laws.{allowed-arm, refused-arm, allowed-settings, width-most}
 use Rattle.lookup.specs.Answers.{judged-of, judged-with-table}
-use Rattle.lookup.proofs.JudgeLaws.{lent-judged}
+use Rattle.lookup.proofs.JudgeLaws.{table-right, lent-judged}
 use Rattle.lookup.proofs.judging.judge_with_table.Statement.{statement}
 use Rattle.lookup.proofs.judging.judge_with_table.Tie as tie
 
@@ -42,9 +41,7 @@ module _ (c : tie.After-width) where
   arm = let new = checked .before .before .new in allowed-arm t (new .result) (new .ensures) s (checked .checked .given .1)
 
   long : has (length table) (table-lengths (card-of t .width)) ≡ eqb (length table) (c .width .result * 256)
-  long =
-      length-allowed _ _
-      ∙ ap (λ (w : ℕ). eqb (length table) (w * 256)) (ap (λ (u : plain.Settings). card-of u .width) (sym (arm .1)) ∙ sym (c .width .ensures))
+  long = table-right table {s = s} (arm .1) (c .width .ensures)
 
 returns : tie.Need-returns
 unfolding judged-with-table
