@@ -91,23 +91,13 @@ same-choice : (c : KeyCounters) (a : Bool) (l b : ℕ) → a ≡ c .above → l 
 same-choice c a l b p q r = rw (p, q, r)
 
 module _ (l b : ℕ) (few : l < 65536) (low : b < 65536) where
-  back-above : (a : Bool) → ltb 4294967295 (cond a 4294967296 0 + (l * 65536 + b)) ≡ a
-  back-above true = lt-ltb 4294967295 (4294967296 + (l * 65536 + b)) (omega arith)
-  back-above false = le-ltb 4294967295 (0 + (l * 65536 + b)) (omega arith)
-
-  back-least : (a : Bool) → (cond a 4294967296 0 + (l * 65536 + b)) % 4294967296 / 65536 ≡ l
-  back-least true = omega arith
-  back-least false = omega arith
-
-  back-bucket : (a : Bool) → (cond a 4294967296 0 + (l * 65536 + b)) % 65536 ≡ b
-  back-bucket true = omega arith
-  back-bucket false = omega arith
+  back : (a : Bool) → (ltb 4294967295 (cond a 4294967296 0 + (l * 65536 + b)) ≡ a)
+      × ((cond a 4294967296 0 + (l * 65536 + b)) % 4294967296 / 65536 ≡ l) × ((cond a 4294967296 0 + (l * 65536 + b)) % 65536 ≡ b)
+  back true = (lt-ltb 4294967295 (4294967296 + (l * 65536 + b)) (omega arith), omega arith, omega arith)
+  back false = (le-ltb 4294967295 (0 + (l * 65536 + b)) (omega arith), omega arith, omega arith)
 
 read-back : (c : KeyCounters) → c .least .0 < 65536 → c .bucket < 65536 → unpacked-of (packed-of c) ≡ c
-read-back c few low =
-    let l = c .least .0 in
-    let b = c .bucket in
-    same-choice c _ _ _ (back-above l b few low (c .above)) (back-least l b few low (c .above)) (back-bucket l b few low (c .above))
+read-back c few low = let is = back (c .least .0) (c .bucket) few low (c .above) in same-choice c _ _ _ (is .0) (is .1) (is .2)
 
 module _ (t : plain.Settings) (ok : plain.allowed t ≡ true) (clipped : List ℕ) (h : ℕ) where
   -- a choice is the definition's

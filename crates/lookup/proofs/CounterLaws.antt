@@ -1,6 +1,6 @@
 -- Laws of the loop over a key's counters: a counter above T, and that the least rank is the choice of the definition.
 use mathlib.Core.Path.{_≡_, refl, sym, _∙_}
-use mathlib.Core.Bool.{Bool, true, cond, _||_}
+use mathlib.Core.Bool.{true, cond, _||_}
 use mathlib.Core.List.{List, map}
 use Prim.Native.Nat.{ℕ, _+_, _*_, _/_, _%_, _^_, _≤_, _<_, min}
 use native.Mathlib.Nat.{mod-lt}
@@ -29,24 +29,24 @@ above-higher top count most =
     rw e (by-test (ltb top most) (λ f. let lt = ltb-true top most f in rw (f, lt-ltb top count (omega arith))) (λ f. rw f)))
 
 -- ---- at hash j: what is found so far, joined with the hashes from j on, is what all hashes give
-pub record Found (top k m h : ℕ) (clipped : List ℕ) (rest most best best₀ j : ℕ) : Type 0 where
+pub record SoFar (top k m h : ℕ) (clipped : List ℕ) (rest most best best₀ j : ℕ) : Type 0 where
   pub few : j ≤ k
   pub low : best ≤ best₀
   pub rest-is : rest ≡ h / 2 ^ (16 * j)
   pub above : (ltb top most || any (λ b. ltb top (counter clipped b)) (hashes m h j k)) ≡ any (λ b. ltb top (counter clipped b)) (hashes m h 0 k)
   pub ranked : least best (map (rank (counter clipped)) (hashes m h j k)) ≡ least best₀ (map (rank (counter clipped)) (hashes m h 0 k))
 
-pub found-start : {top k m h : ℕ} {clipped : List ℕ} (most : ℕ) {best : ℕ} → most ≡ 0 → Found top k m h clipped h most best best 0
-found-start {top} {h = h} most e =
+pub so-far-start : {top k m h : ℕ} {clipped : List ℕ} (most : ℕ) {best : ℕ} → most ≡ 0 → SoFar top k m h clipped h most best best 0
+so-far-start {top} {h = h} most e =
     record { few = omega arith; low = omega arith; rest-is = rest-start h; above = rw (le-ltb top most (omega arith)); ranked = refl }
 
-module _ {top k m h : ℕ} {clipped : List ℕ} {rest most best best₀ j : ℕ} (f : Found top k m h clipped rest most best best₀ j) where
+module _ {top k m h : ℕ} {clipped : List ℕ} {rest most best best₀ j : ℕ} (f : SoFar top k m h clipped rest most best best₀ j) where
   pub is-hash : rest % m ≡ hash m h j
   is-hash = rest-hash m h j rest (f .rest-is)
 
-  pub found-next : j < k → {count : ℕ} → count ≡ counter clipped (rest % m) → {most′ best′ : ℕ} → most′ ≡ cond (ltb count most) most count
-      → best′ ≡ min (count * 65536 + rest % m) best → Found top k m h clipped (rest / 65536) most′ best′ best₀ (j + 1)
-  found-next lt {count} read higher lower =
+  pub so-far-next : j < k → {count : ℕ} → count ≡ counter clipped (rest % m) → {most′ best′ : ℕ} → most′ ≡ cond (ltb count most) most count
+      → best′ ≡ min (count * 65536 + rest % m) best → SoFar top k m h clipped (rest / 65536) most′ best′ best₀ (j + 1)
+  so-far-next lt {count} read higher lower =
       record {
         few = omega arith;
         low = omega (arith, lower, f .low);
@@ -72,7 +72,7 @@ module _ {t : Settings} {clipped : List ℕ} {m : ℕ} (g : Counters t clipped m
       omega (arith, g .size)
 
   -- all hashes are read
-  pub choice-of : {h rest most best j : ℕ} → Found (t .top) (t .k) m h clipped rest most best (t .top * 65536 + m) j → t .k ≤ j
+  pub choice-of : {h rest most best j : ℕ} → SoFar (t .top) (t .k) m h clipped rest most best (t .top * 65536 + m) j → t .k ≤ j
       → KeyCountersOf t h clipped (record { above = ltb (t .top) most; least = record { 0 = best / 65536 }; bucket = best % 65536 })
   unfolding card-at card-of
   choice-of {h} {rest} {most} {best} {j} f le =

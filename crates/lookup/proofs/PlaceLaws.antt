@@ -1,6 +1,6 @@
 -- Laws of where a search looks: each test of the code is the definition's.
 use mathlib.Core.Path.{_≡_, refl, sym, ap, _∙_, subst}
-use mathlib.Core.Bool.{Bool, true, false, cond, not, _&&_}
+use mathlib.Core.Bool.{Bool, true, false, not, _&&_}
 use mathlib.Core.List.{List, [], _∷_}
 use Prim.Native.Nat.{ℕ, zero, suc, _+_, _-_, _*_, _^_, _≤_, _<_}
 use native.Mathlib.Nat.{add-zero, mul-comm, mul-le-mul-right}
@@ -9,19 +9,19 @@ use lib.Dec.{eqb, ltb, leb}
 use borrow.Author.Tests.{lt-ltb, le-ltb, eq-eqb, ne-eqb}
 use lib.ListN.{length, take, drop, getD}
 use lib.Seq.{getD-take, getD-drop, drop-drop}
-use Rattle.theory.specs.Lists.{any, least}
+use Rattle.theory.specs.Lists.{least}
 use Rattle.theory.specs.Hash.{H, numbers-of}
 use Rattle.theory.specs.Records.{count-of}
 use Rattle.theory.specs.Settings.{Settings, Card, allowed, card-of, record-size, bucket-size, buckets-length, side-length}
 use Rattle.theory.specs.Placing.{all-top, least-count, chosen}
 use Rattle.theory.specs.Lookup as plain
-use Rattle.theory.specs.Lookup.{counter, bare, invalid, nowhere, bucket-part, side-place, bucket-place, by-counters, reads-bucket}
+use Rattle.theory.specs.Lookup.{counter, bare, bucket-part, side-place, bucket-place, by-counters, reads-bucket}
 use Rattle.theory.specs.Lookup.{goes-to-bucket, place, answer-at, search-areas, record-place}
 use Rattle.theory.proofs.ListLaws.{by-test, all-map, all-cong, any-none, least-zero, least-top}
 use Rattle.theory.proofs.SettingsLaws.{ranges, Sound, sound, numbers-of-below}
 use Rattle.theory.proofs.PlacingLaws.{chosen-below}
 use Rattle.theory.proofs.RecordPlaceLaws.{not-above}
-use Rattle.settings.proofs.Laws.{room-is, top-is, bounds}
+use Rattle.settings.proofs.Laws.{room-is, bounds}
 use Rattle.lookup.specs.declared.counters.KeyCounters.{KeyCounters}
 use Rattle.lookup.specs.Choosing.{card-at, KeyCountersOf}
 use Rattle.lookup.specs.declared.places.Place.{Place}

@@ -121,15 +121,15 @@ unfolding clipped-length
 counter-in t clipped b m ok size e lt = let even = sound t ok .even in omega (arith, size, lt, e)
 
 -- ---- what tally judges: 5, then the call
+leb-not-ltb : (a b : ℕ) → leb a b ≡ not (ltb b a)
+leb-not-ltb a b = by-test (leb a b) (λ e. rw (e, le-ltb b a (leb-true a b e))) (λ e. rw (e, lt-ltb b a (leb-false a b e)))
+
+not-or : (a b c : Bool) → not (a || b || c) ≡ (not a && not b && not c)
+not-or true b c = refl
+not-or false true c = refl
+not-or false false c = refl
+
 module _ (t : Settings) (ledger clipped buckets side : List ℕ) where
-  leb-not-ltb : (a b : ℕ) → leb a b ≡ not (ltb b a)
-  leb-not-ltb a b = by-test (leb a b) (λ e. rw (e, le-ltb b a (leb-true a b e))) (λ e. rw (e, lt-ltb b a (leb-false a b e)))
-
-  not-or : (a b c : Bool) → not (a || b || c) ≡ (not a && not b && not c)
-  not-or true b c = refl
-  not-or false true c = refl
-  not-or false false c = refl
-
   pub valid-is : not (lookup-invalid (card-of t) (read-areas ledger clipped buckets side))
       ≡ (not (any (λ b. ltb (t .top) (counter clipped b)) (upto 0 (card-of t .buckets)))
       && not (any (λ x. ltb (t .room) x && not (eqb x 255)) (marks (card-of t) buckets)) && leb (count-of side) (t .side-places))
@@ -157,17 +157,17 @@ module _ (t : Settings) (ledger clipped buckets side : List ℕ) where
   tally-1 e x f = tally-performs x (rw (e, f))
 
   -- the settings are allowed, and the lengths are judged
-  pub record Judged (s : settings.Settings) (lengths : Bool) : Type 0 where
+  pub record JudgedLengths (s : settings.Settings) (lengths : Bool) : Type 0 where
     pub ok : allowed t ≡ true
     pub same : paper s ≡ t
     pub lengths-are : lengths-right ≡ lengths
 
   pub judged-by : (s : settings.Settings) → allowed t ≡ true → paper s ≡ t → (u : ℕ) → u ≡ ledger-length (card s) → (right : Bool)
-      → right ≡ all (λ x. x) (lookup-lengths (card s) (lookup-areas clipped buckets side)) → Judged s (eqb (length ledger) u && right)
+      → right ≡ all (λ x. x) (lookup-lengths (card s) (lookup-areas clipped buckets side)) → JudgedLengths s (eqb (length ledger) u && right)
   unfolding lookup-lengths
   judged-by s ok same u eu right er = record { ok = ok; same = same; lengths-are = rw (eu, er, same) }
 
-  module _ {s : settings.Settings} {lengths : Bool} (c : Judged s lengths) where
+  module _ {s : settings.Settings} {lengths : Bool} (c : JudgedLengths s lengths) where
     pub tally-2 : lengths ≡ false → (x : Totals) → x ≡ no-totals 2 → Tallied x
     tally-2 e x f = tally-performs x (rw (c .ok, c .lengths-are, e, f))
 

@@ -1,5 +1,4 @@
 -- `tally::marks_valid` meets its contract: whether a mark from bucket b on cannot be is whether any cannot.
-use mathlib.Core.Path.{_≡_}
 use mathlib.Core.Bool.{not, _&&_}
 use Prim.Native.Nat.{_*_, _-_}
 use native.Mathlib.Omega.{arith}

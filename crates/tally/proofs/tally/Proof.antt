@@ -8,7 +8,7 @@ use Rattle.theory.specs.Settings.{Settings, allowed}
 use Rattle.settings.specs.declared.Settings as code
 use Rattle.settings.specs.Checked.{paper, given-of}
 use Rattle.settings.proofs.Laws.{allowed-arm, refused-arm, allowed-settings}
-use Rattle.tally.proofs.TallyLaws.{tally-1, Judged, judged-by, tally-2, tally-on, tally-checked}
+use Rattle.tally.proofs.TallyLaws.{tally-1, JudgedLengths, judged-by, tally-2, tally-on, tally-checked}
 use borrow.Author.Needs.{needs}
 use Rattle.tally.proofs.tally.Statement.{statement}
 use Rattle.tally.proofs.tally.Tie as tie
@@ -48,7 +48,7 @@ module _ (c : tie.After-areas-right) where
   abbrev at : tie.Start
   at = start (new known)
 
-  judged : Judged (t (new known)) (at .args .ledger .now) (at .args .clipped .now) (at .args .buckets .now) (at .args .side .now) (s known)
+  judged : JudgedLengths (t (new known)) (at .args .ledger .now) (at .args .clipped .now) (at .args .buckets .now) (at .args .side .now) (s known)
       (eqb (length (at .args .ledger .now)) (c .before .ledger-length .result) && c .areas-right .result)
   judged = judged-by _ _ _ _ _ (s known) (fine known .0) (fine known .1) _ (c .before .ledger-length .ensures) _ (c .areas-right .ensures)
 

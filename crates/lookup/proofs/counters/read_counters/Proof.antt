@@ -1,19 +1,18 @@
 -- `lookup::counters::read_counters` meets its contract: at hash j, what is found so far joined with the hashes from j on is what all hashes give.
-use mathlib.Core.Path.{_≡_, ap, _∙_}
-use mathlib.Core.List.{List}
-use Prim.Native.Nat.{ℕ, _-_, _%_, _^_, _≤_, _<_, min}
+use mathlib.Core.Path.{ap, _∙_}
+use Prim.Native.Nat.{ℕ, _-_, _%_, _≤_, _<_, min}
 use native.Mathlib.Nat.{mod-lt}
 use native.Mathlib.Omega.{arith}
 use Rattle.theory.specs.Settings as plain
 use Rattle.theory.proofs.SettingsLaws.{ranges}
 use Rattle.settings.specs.Checked.{paper}
 use Rattle.settings.proofs.Laws.{buckets-are, bounds}
-use Rattle.lookup.proofs.CounterLaws.{Counters, Found, found-start, found-next, is-hash, counter-there, choice-of}
+use Rattle.lookup.proofs.CounterLaws.{Counters, SoFar, so-far-start, so-far-next, is-hash, counter-there, choice-of}
 use Rattle.lookup.proofs.counters.read_counters.Statement.{statement}
 use Rattle.lookup.proofs.counters.read_counters.Tie as tie
 
 abbrev Inv-loop : tie.InvT-loop
-Inv-loop s h clipped k m rest₀ most₀ best₀ j₀ rest most best j = Found (s .top) k m h clipped rest (most .0) best best₀ j
+Inv-loop s h clipped k m rest₀ most₀ best₀ j₀ rest most best j = SoFar (s .top) k m h clipped rest (most .0) best best₀ j
 
 abbrev μ-loop : tie.MeasureT-loop
 μ-loop s h clipped k m rest₀ most₀ best₀ j₀ rest most best j = k - j
@@ -58,7 +57,7 @@ loop-again c =
     let ranked = c .before in
     let read = ranked .before .before in
     let at = read .before in
-    found-next (at .before .loop .inv) (at .loop-test .taken) (read .counter .ensures .0) (ranked .before .higher .ensures)
+    so-far-next (at .before .loop .inv) (at .loop-test .taken) (read .counter .ensures .0) (ranked .before .higher .ensures)
     (c .lower .ensures ∙ ap (λ (x : ℕ). min x (at .before .loop .best)) (ranked .rank .ensures))
 
 returns : tie.Need-returns Inv-loop μ-loop
@@ -77,7 +76,7 @@ read-counters-spec =
     (λ c κs. tt)
     (λ c. omega (arith, top-small (c .before)))
     (λ c. omega (arith, top-small (c .before), m-small (c .before) .0))
-    (λ c. found-start _ (c .zero .ensures))
+    (λ c. so-far-start _ (c .zero .ensures))
     (λ c. omega (arith, m-small (counted c) .1))
     counter-requires
     (λ c κs. tt)
