@@ -103,7 +103,7 @@ module _ {t : Settings} {buckets : List ℕ} {b at : ℕ} (m : MarkAt t buckets 
             goes = (rw (mark-is, ne-eqb (getD buckets at 0) 255 ne), ap (λ (x : ℕ). x + 1) (m .start));
           }
 
--- ---- room for n records in a part of z times their bytes, as a key of the width sees them
+-- ---- room for n records with keys of w bytes, after a bucket's mark and after the side count
 module _ (t : Settings) (w n : ℕ) (wide : w ≡ card-of t .width) where
   pub bucket-room : n ≤ t .room → n * (w + 4) ≤ bucket-size (card-of t) - 1
   unfolding bucket-size record-size card-of
