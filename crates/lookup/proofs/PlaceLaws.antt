@@ -3,11 +3,11 @@ use mathlib.Core.Path.{_≡_, refl, sym, ap, _∙_, subst}
 use mathlib.Core.Bool.{Bool, true, false, not, _&&_}
 use mathlib.Core.List.{List, [], _∷_}
 use Prim.Native.Nat.{ℕ, zero, suc, _+_, _-_, _*_, _^_, _≤_, _<_}
-use native.Mathlib.Nat.{add-zero, mul-comm, mul-le-mul-right}
+use native.Mathlib.Nat.{add-zero}
 use native.Mathlib.Omega.{arith}
 use lib.Dec.{eqb, ltb, leb}
 use borrow.Author.Tests.{lt-ltb, le-ltb, eq-eqb, ne-eqb}
-use lib.ListN.{length, take, drop, getD}
+use lib.ListN.{length, take, drop, getD, length-drop}
 use lib.Seq.{getD-take, getD-drop, drop-drop}
 use Rattle.theory.specs.Lists.{least}
 use Rattle.theory.specs.Hash.{H, numbers-of}
@@ -21,8 +21,10 @@ use Rattle.theory.proofs.ListLaws.{by-test, all-map, all-cong, any-none, least-
 use Rattle.theory.proofs.SettingsLaws.{ranges, Sound, sound, numbers-of-below}
 use Rattle.theory.proofs.PlacingLaws.{chosen-below}
 use Rattle.theory.proofs.RecordPlaceLaws.{not-above}
-use Rattle.settings.proofs.Laws.{room-is, bounds}
+use Rattle.memory.proofs.SliceLaws.{length-part}
+use Rattle.settings.proofs.Laws.{width-is, room-is, bucket-size-is, side-length-is, bounds}
 use Rattle.lookup.specs.declared.counters.KeyCounters.{KeyCounters}
+use Rattle.lookup.specs.Scanning.{Scannable, AllScannable}
 use Rattle.lookup.specs.Choosing.{card-at, KeyCountersOf}
 use Rattle.lookup.specs.declared.places.Place.{Place}
 use Rattle.lookup.specs.declared.places.Place.the-variants.{Invalid, Nowhere, Bucket, Side}
@@ -103,15 +105,31 @@ module _ {t : Settings} {buckets : List ℕ} {b at : ℕ} (m : MarkAt t buckets 
             goes = (rw (mark-is, ne-eqb (getD buckets at 0) 255 ne), ap (λ (x : ℕ). x + 1) (m .start));
           }
 
--- ---- room for n records with keys of w bytes, after a bucket's mark and after the side count
-module _ (t : Settings) (w n : ℕ) (wide : w ≡ card-of t .width) where
-  pub bucket-room : n ≤ t .room → n * (w + 4) ≤ bucket-size (card-of t) - 1
-  unfolding bucket-size record-size card-of
-  bucket-room few = rw wide (omega (arith, mul-le-mul-right (w + 4) few, mul-comm (t .room) (w + 4), wide))
+-- ---- what is compared may be scanned: a bucket after its mark, and the side store after its count
+pub bucket-scannable : {t : Settings} {buckets key : List ℕ} {from n : ℕ} → InBucket t buckets key from n
+    → AllScannable (take (bucket-size (card-of t) - 1) (drop from buckets)) n (t .room) key
+bucket-scannable {t} {buckets} {key} {from} p =
+    let wide : length key ≡ 13 = p .wide ∙ width-is t in
+    let r = ranges t (p .ok) in
+    record {
+      fits = rw (length-part from (bucket-size (card-of t) - 1) buckets (p .inside), wide, bucket-size-is t) (omega arith);
+      long = omega (arith, wide);
+      short = omega (arith, wide);
+      few = p .few;
+      some = r .room-low;
+      most = omega (arith, r .room-high);
+    }
 
-  pub side-room : n ≤ t .side-places → n * (w + 4) ≤ side-length (card-of t) - 2
-  unfolding side-length record-size card-of
-  side-room few = rw wide (omega (arith, mul-le-mul-right (w + 4) few, mul-comm (t .side-places) (w + 4), wide))
+module _ {t : Settings} {side key : List ℕ} {n : ℕ} (p : InSide t side key n) where
+  pub side-counted : 2 ≤ length side
+  side-counted = omega (arith, bounds t (p .ok) .side-least, p .side-size)
+
+  pub side-scannable : Scannable (drop 2 side) n key × (n ≤ 4096)
+  side-scannable =
+      let wide : length key ≡ 13 = p .wide ∙ width-is t in
+      let size = p .side-size ∙ side-length-is t in
+      let r = ranges t (p .ok) in
+      (record { fits = rw (length-drop, wide, size) (omega (arith, p .few)); short = omega (arith, wide) }, omega (arith, p .few))
 
 -- ---- by the counters
 module _ (t : Settings) (ok : allowed t ≡ true) (h : ℕ) where
