@@ -15,11 +15,11 @@ use Rattle.theory.proofs.RecordPlaceLaws.{held-bytes, held-area, not-held, held
 use Rattle.lookup.specs.declared.locating.Located.{Located}
 use Rattle.lookup.specs.declared.judging.Judged.{Judged}
 use Rattle.lookup.specs.declared.judging.Judged.the-variants.{Ready, Refused}
-use Rattle.lookup.specs.Places.{Lent}
+use Rattle.lookup.specs.Places.{CheckedLookup}
 use Rattle.lookup.specs.Answers.{judged-of}
 use Rattle.lookup.specs.Locating.{lies-at, LocatedCall}
 use Rattle.lookup.specs.Parts.{PartAt, one-of, FetchedCall}
-use Rattle.lookup.proofs.JudgeLaws.{refused-or, refused-is, fine, passes, fetch-performs}
+use Rattle.lookup.proofs.JudgeLaws.{refused-or, refused-is, unrefused, passes, fetch-performs}
 use Rattle.lookup.proofs.LocateLaws.{place-refused, place-ready}
 
 module _ (t : Settings) (clipped : List ℕ) (buckets side : RefT (List ℕ)) (key : List ℕ) (r : Located)
@@ -36,12 +36,12 @@ module _ (t : Settings) (clipped : List ℕ) (buckets side : RefT (List ℕ)) (k
   -- ---- nowhere: the empty part
   no-part : r .area ≡ 0 → (j : Judged) → judged-of t clipped (now buckets) (now side) key ≡ j
       → refused-or t clipped (now buckets) (now side) key (λ n. []) fetched ≡ []
-  no-part none (Refused n) e = refused-is t clipped (now buckets) (now side) key (λ n. []) _ n e
+  no-part none (Refused n) e = refused-is t clipped (now buckets) (now side) key (λ n. []) _ n e .0
   no-part none (Ready c) e =
       let there = call .lies ∙ place-ready t clipped (now buckets) (now side) key c e in
       let away : number ≡ 0 → ⊥
       = λ held. held-area (card-of t) clipped (now buckets) (now side) key held (sym (ap (λ (x : RecordPlace). x .area) there) ∙ none) in
-      passes t clipped (now buckets) (now side) key c e (λ n. []) _ ∙ not-held (card-of t) clipped (now buckets) (now side) key away .1
+      passes (unrefused t clipped (now buckets) (now side) key c e) (λ n. []) _ ∙ not-held (card-of t) clipped (now buckets) (now side) key away .1
 
   pub fetched-none : r .area ≡ 0 → (x : RefT (List ℕ)) → now x ≡ [] → FetchedCall t clipped buckets side key x
   fetched-none none x e =
@@ -52,7 +52,7 @@ module _ (t : Settings) (clipped : List ℕ) (buckets side : RefT (List ℕ)) (k
 
   -- ---- somewhere: the key is held, and its record lies there
   record Held : Type 0 where
-    lent : Lent t clipped (now buckets) (now side)
+    checked : CheckedLookup t clipped (now buckets) (now side)
     held : number ≡ 0
     there : lies-at r ≡ lies
     passed : refused-or t clipped (now buckets) (now side) key (λ n. []) fetched ≡ fetched
@@ -61,15 +61,15 @@ module _ (t : Settings) (clipped : List ℕ) (buckets side : RefT (List ℕ)) (k
     known : (j : Judged) → judged-of t clipped (now buckets) (now side) key ≡ j → Held
     known (Refused n) e = absurd (some (ap (λ (x : RecordPlace). x .area) (call .lies ∙ place-refused t clipped (now buckets) (now side) key n e)))
     known (Ready c) e =
-        let good = fine t clipped (now buckets) (now side) key c e in
+        let good = unrefused t clipped (now buckets) (now side) key c e in
         let at = call .lies ∙ place-ready t clipped (now buckets) (now side) key c e in
         record {
-          lent = rw (good .same) at (good .lent);
+          checked = rw (good .same) at (good .checked);
           held = by-test (eqb number 0) (λ z. eqb-true number 0 z)
               (λ z. let away = not-held (card-of t) clipped (now buckets) (now side) key (eqb-false number 0 z) .0 in
               absurd (some (ap (λ (x : RecordPlace). x .area) (at ∙ away))));
           there = at;
-          passed = passes t clipped (now buckets) (now side) key c e (λ n. []) fetched;
+          passed = passes good (λ n. []) fetched;
         }
 
     known-here : Held
@@ -83,13 +83,13 @@ module _ (t : Settings) (clipped : List ℕ) (buckets side : RefT (List ℕ)) (k
       area-is = sym (ap (λ (x : RecordPlace). eqb (x .area) 1) (known-here .there)) ∙ which
 
       lent-length : (b : Bool) → cond b (buckets-length (card-of t)) (side-length (card-of t)) ≡ length (now (one-of b buckets side))
-      lent-length true = sym (known-here .lent .buckets-size)
-      lent-length false = sym (known-here .lent .side-size)
+      lent-length true = sym (known-here .checked .buckets-size)
+      lent-length false = sym (known-here .checked .side-size)
 
       pub record-inside : r .start + record-size (card-of t) ≤ length (now (one-of g buckets side))
       record-inside =
           rw (start-is, ← lent-length g, ← area-is)
-          (held-inside (card-of t) clipped (now buckets) (now side) key (sound t (known-here .lent .ok)) (known-here .held))
+          (held-inside (card-of t) clipped (now buckets) (now side) key (sound t (known-here .checked .ok)) (known-here .held))
 
       lent-area : (b : Bool) → cond b (now buckets) (now side) ≡ now (one-of b buckets side)
       lent-area true = refl

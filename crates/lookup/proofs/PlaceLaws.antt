@@ -1,39 +1,47 @@
 -- Laws of where a search looks: each test of the code is the definition's.
-use mathlib.Core.Path.{_≡_, refl, sym, ap, _∙_}
-use mathlib.Core.Bool.{Bool, true, false, cond, not}
+use mathlib.Core.Path.{_≡_, refl, sym, ap, _∙_, subst}
+use mathlib.Core.Bool.{Bool, true, false, not, _&&_}
 use mathlib.Core.List.{List, [], _∷_}
 use Prim.Native.Nat.{ℕ, zero, suc, _+_, _-_, _*_, _^_, _≤_, _<_}
-use native.Mathlib.Nat.{add-zero, mul-comm, mul-le-mul-right}
+use native.Mathlib.Nat.{add-zero}
 use native.Mathlib.Omega.{arith}
 use lib.Dec.{eqb, ltb, leb}
 use borrow.Author.Tests.{lt-ltb, le-ltb, eq-eqb, ne-eqb}
-use lib.ListN.{length, take, drop, getD, length-take, length-drop}
-use lib.Seq.{take-all, getD-take, getD-drop, drop-drop}
-use Rattle.theory.specs.Lists.{any, least}
+use lib.ListN.{length, take, drop, getD, length-drop}
+use lib.Seq.{getD-take, getD-drop, drop-drop}
+use Rattle.theory.specs.Lists.{least}
 use Rattle.theory.specs.Hash.{H, numbers-of}
 use Rattle.theory.specs.Records.{count-of}
-use Rattle.theory.specs.Settings.{Settings, allowed, card-of, record-size, bucket-size, side-length}
+use Rattle.theory.specs.Settings.{Settings, Card, allowed, card-of, record-size, bucket-size, buckets-length, side-length}
 use Rattle.theory.specs.Placing.{all-top, least-count, chosen}
-use Rattle.theory.specs.Lookup.{counter, Place, invalid, nowhere, among, bucket-part, side-place, bucket-place, by-counters, reads-bucket}
+use Rattle.theory.specs.Lookup as plain
+use Rattle.theory.specs.Lookup.{counter, bare, bucket-part, side-place, bucket-place, by-counters, reads-bucket}
 use Rattle.theory.specs.Lookup.{goes-to-bucket, place, answer-at, search-areas, record-place}
 use Rattle.theory.proofs.ListLaws.{by-test, all-map, all-cong, any-none, least-zero, least-top}
 use Rattle.theory.proofs.SettingsLaws.{ranges, Sound, sound, numbers-of-below}
 use Rattle.theory.proofs.PlacingLaws.{chosen-below}
 use Rattle.theory.proofs.RecordPlaceLaws.{not-above}
-use Rattle.settings.proofs.Laws.{top-is, bounds}
+use Rattle.memory.proofs.SliceLaws.{length-part}
+use Rattle.settings.proofs.Laws.{width-is, room-is, bucket-size-is, side-length-is, bounds}
 use Rattle.lookup.specs.declared.counters.KeyCounters.{KeyCounters}
+use Rattle.lookup.specs.Scanning.{Scannable, AllScannable}
 use Rattle.lookup.specs.Choosing.{card-at, KeyCountersOf}
-use Rattle.lookup.specs.Places.{place-by, goes-by, KeyCountersFit}
+use Rattle.lookup.specs.declared.places.Place.{Place}
+use Rattle.lookup.specs.declared.places.Place.the-variants.{Invalid, Nowhere, Bucket, Side}
+use Rattle.lookup.specs.Places.{CheckedLookup, CheckedPlaces, place-of, Inside, by-choice, place-by, goes-by}
+use Rattle.lookup.specs.Places.{KeyCountersFit, Looks, LooksAt, InBucket, InSide}
 
 -- ---- the side store
-module _ (t : Settings) (side : List ℕ) (read : ℕ) where
-  pub side-invalid : t .side-places < count-of side → invalid ≡ side-place (card-of t) side read
+module _ {t : Settings} {buckets side : List ℕ} {b : ℕ} where
+  pub side-invalid : (read : ℕ) → t .side-places < count-of side → LooksAt t buckets side (side-place (card-of t) side read) b false Invalid
   unfolding side-place card-of
-  side-invalid h = rw (lt-ltb (t .side-places) (count-of side) h)
+  side-invalid read h = record { looks = record { is = rw (lt-ltb (t .side-places) (count-of side) h); inside = tt }; goes = tt }
 
-  pub side-among : count-of side ≤ t .side-places → among (drop 2 side) (count-of side) read ≡ side-place (card-of t) side read
+  pub side-among : (n read : ℕ) → n ≡ count-of side → n ≤ t .side-places → read ≤ 1
+      → LooksAt t buckets side (side-place (card-of t) side read) b false (Side n read)
   unfolding side-place card-of
-  side-among h = rw (le-ltb (t .side-places) (count-of side) h)
+  side-among n read e h once =
+      record { looks = record { is = rw (e, le-ltb (t .side-places) (count-of side) (omega arith)); inside = (h, once) }; goes = refl }
 
 -- ---- a bucket: its mark, and what stands after it
 drop-one : (n : ℕ) (l : List ℕ) → drop 1 (take n l) ≡ take (n - 1) (drop 1 l)
@@ -46,57 +54,82 @@ drop-one (suc n) [] = let e : suc n - 1 ≡ n = omega arith in rw e (sym (nothin
     nothing (suc n) = refl
 drop-one (suc n) (x ∷ xs) = let e : suc n - 1 ≡ n = omega arith in rw e
 
-module _ (t : Settings) (ok : allowed t ≡ true) (buckets side : List ℕ) (b at : ℕ) (start : at ≡ b * bucket-size (card-of t)) where
+-- bucket b starts at a byte of the buckets, which is its mark
+pub record MarkAt (t : Settings) (buckets : List ℕ) (b at : ℕ) : Type 0 where
+  pub ok : allowed t ≡ true
+  pub start : at ≡ b * bucket-size (card-of t)
+
+module _ {t : Settings} {buckets : List ℕ} {b at : ℕ} (m : MarkAt t buckets b at) where
   pub mark-is : getD (bucket-part (card-of t) buckets b) 0 0 ≡ getD buckets at 0
   unfolding bucket-part
   mark-is =
-      let size = bounds t ok in
+      let size = bounds t (m .ok) in
       getD-take (bucket-size (card-of t)) (drop (b * bucket-size (card-of t)) buckets) 0 0 (omega arith)
       ∙ getD-drop (b * bucket-size (card-of t)) buckets 0 0
-      ∙ rw (add-zero, start)
+      ∙ rw (add-zero, m .start)
 
   after-mark : drop 1 (bucket-part (card-of t) buckets b) ≡ take (bucket-size (card-of t) - 1) (drop (at + 1) buckets)
   unfolding bucket-part
-  after-mark = drop-one (bucket-size (card-of t)) (drop (b * bucket-size (card-of t)) buckets) ∙ rw (drop-drop 1 (b * bucket-size (card-of t)) buckets, start)
+  after-mark =
+      drop-one (bucket-size (card-of t)) (drop (b * bucket-size (card-of t)) buckets) ∙ rw (drop-drop 1 (b * bucket-size (card-of t)) buckets, m .start)
 
-  pub mark-255 : getD buckets at 0 ≡ 255 → not (eqb (getD (bucket-part (card-of t) buckets b) 0 0) 255) ≡ false
-  mark-255 e = rw (mark-is, eq-eqb (getD buckets at 0) 255 e)
+  -- what a look at it comes to, by the tests of the mark
+  abbrev Read : List ℕ → Place → Type 0
+  Read side r =
+      LooksAt t buckets side (bucket-place (card-of t) (bucket-part (card-of t) buckets b) side) b
+      (not (eqb (getD (bucket-part (card-of t) buckets b) 0 0) 255)) r
 
-  pub mark-other : (getD buckets at 0 ≡ 255 → ⊥) → not (eqb (getD (bucket-part (card-of t) buckets b) 0 0) 255) ≡ true
-  mark-other n = rw (mark-is, ne-eqb (getD buckets at 0) 255 n)
-
-  pub bucket-sent-on : getD buckets at 0 ≡ 255 → side-place (card-of t) side 1 ≡ bucket-place (card-of t) (bucket-part (card-of t) buckets b) side
-  unfolding bucket-place
-  bucket-sent-on e = rw (mark-is, eq-eqb (getD buckets at 0) 255 e)
-
-  module _ (ne : getD buckets at 0 ≡ 255 → ⊥) where
-    pub bucket-invalid : t .room < getD buckets at 0 → invalid ≡ bucket-place (card-of t) (bucket-part (card-of t) buckets b) side
-    unfolding bucket-place card-of
-    bucket-invalid h = rw (mark-is, ne-eqb (getD buckets at 0) 255 ne, lt-ltb (t .room) (getD buckets at 0) h)
-
-    pub bucket-among : getD buckets at 0 ≤ t .room
-        → among (take (bucket-size (card-of t) - 1) (drop (at + 1) buckets)) (getD buckets at 0) 1 ≡ bucket-place (card-of t) (bucket-part (card-of t) buckets b) side
+  module _ {side : List ℕ} where
+    pub sent-on : getD buckets at 0 ≡ 255 → {r : Place} → LooksAt t buckets side (side-place (card-of t) side 1) b false r → Read side r
     unfolding bucket-place
-    bucket-among h = let r : card-of t .room ≡ t .room = unfold card-of in refl in rw (mark-is, after-mark, ne-eqb (getD buckets at 0) 255 ne, r, le-ltb (t .room) (getD buckets at 0) h)
+    sent-on e l = rw (mark-is, eq-eqb (getD buckets at 0) 255 e) l
 
--- ---- room for the records of a bucket, and of the side store, in the parts that are lent on
-module _ (t : Settings) (ok : allowed t ≡ true) (w n : ℕ) (wide : w ≡ card-of t .width) where
-  pub bucket-room : (buckets : List ℕ) (from z : ℕ) → z ≡ bucket-size (card-of t) → from + (bucket-size (card-of t) - 1) ≤ length buckets → n ≤ t .room
-      → n * (w + 4) ≤ length (take (from + (z - 1) - from) (drop from buckets))
-  unfolding bucket-size record-size card-of
-  bucket-room buckets from z e inside few =
-      let most : n * (w + 4) ≤ t .room * (w + 4) = mul-le-mul-right (w + 4) few in
-      rw (length-take, length-drop) (omega (arith, most, wide, e, mul-comm (t .room) (w + 4), ap (λ (x : ℕ). (x + 4) * t .room) wide))
+    module _ (ne : getD buckets at 0 ≡ 255 → ⊥) where
+      pub bucket-invalid : t .room < getD buckets at 0 → Read side Invalid
+      unfolding bucket-place card-of
+      bucket-invalid h =
+          record {
+            looks = record { is = rw (mark-is, ne-eqb (getD buckets at 0) 255 ne, lt-ltb (t .room) (getD buckets at 0) h); inside = tt };
+            goes = tt;
+          }
 
-  pub side-room : (side : List ℕ) → length side ≡ side-length (card-of t) → n ≤ t .side-places → n * (w + 4) ≤ length (take (length side - 2) (drop 2 side))
-  unfolding side-length record-size card-of
-  side-room side size few =
-      let most : n * (w + 4) ≤ t .side-places * (w + 4) = mul-le-mul-right (w + 4) few in
-      rw (length-take, length-drop) (omega (arith, most, wide, size, mul-comm (t .side-places) (w + 4), ap (λ (x : ℕ). (x + 4) * t .side-places) wide))
+      pub bucket-among : getD buckets at 0 ≤ t .room → at + 1 + (bucket-size (card-of t) - 1) ≤ buckets-length (card-of t)
+          → Read side (Bucket (at + 1) (getD buckets at 0))
+      unfolding bucket-place
+      bucket-among h inside =
+          record {
+            looks = record {
+              is = rw (mark-is, after-mark, ne-eqb (getD buckets at 0) 255 ne, room-is t, le-ltb (t .room) (getD buckets at 0) h);
+              inside = (inside, h);
+            };
+            goes = (rw (mark-is, ne-eqb (getD buckets at 0) 255 ne), ap (λ (x : ℕ). x + 1) (m .start));
+          }
 
--- a part up to the end
-pub to-end : (side : List ℕ) → take (length side - 2) (drop 2 side) ≡ drop 2 side
-to-end side = take-all (length side - 2) (drop 2 side) (rw length-drop (omega arith))
+-- ---- what is compared may be scanned: a bucket after its mark, and the side store after its count
+pub bucket-scannable : {t : Settings} {buckets key : List ℕ} {from n : ℕ} → InBucket t buckets key from n
+    → AllScannable (take (bucket-size (card-of t) - 1) (drop from buckets)) n (t .room) key
+bucket-scannable {t} {buckets} {key} {from} p =
+    let wide : length key ≡ 13 = p .wide ∙ width-is t in
+    let r = ranges t (p .ok) in
+    record {
+      fits = rw (length-part from (bucket-size (card-of t) - 1) buckets (p .inside), wide, bucket-size-is t) (omega arith);
+      long = omega (arith, wide);
+      short = omega (arith, wide);
+      few = p .few;
+      some = r .room-low;
+      most = omega (arith, r .room-high);
+    }
+
+module _ {t : Settings} {side key : List ℕ} {n : ℕ} (p : InSide t side key n) where
+  pub side-counted : 2 ≤ length side
+  side-counted = omega (arith, bounds t (p .ok) .side-least, p .side-size)
+
+  pub side-scannable : Scannable (drop 2 side) n key × (n ≤ 4096)
+  side-scannable =
+      let wide : length key ≡ 13 = p .wide ∙ width-is t in
+      let size = p .side-size ∙ side-length-is t in
+      let r = ranges t (p .ok) in
+      (record { fits = rw (length-drop, wide, size) (omega (arith, p .few)); short = omega (arith, wide) }, omega (arith, p .few))
 
 -- ---- by the counters
 module _ (t : Settings) (ok : allowed t ≡ true) (h : ℕ) where
@@ -114,80 +147,110 @@ module _ (t : Settings) (ok : allowed t ≡ true) (h : ℕ) where
         numbers-below = λ key. numbers-of-below (card-of t .buckets) (t .k) h (let b = bounds t ok in omega arith);
       }
 
-  module _ (clipped buckets side key : List ℕ) where
-    abbrev above : Bool
-    above = any (λ b. ltb (t .top) (counter clipped b)) (numbers-of (card-of t .buckets) (t .k) h)
-
-    abbrev low : ℕ
-    low = least-count (card-at t h) (counter clipped) key
-
-    place-above : above ≡ true → invalid ≡ place (card-at t h) clipped buckets side key
-    unfolding place by-counters card-at card-of
-    place-above e = rw e
-
-    goes-above : above ≡ true → goes-to-bucket (card-at t h) clipped buckets key ≡ false
-    unfolding goes-to-bucket reads-bucket by-counters card-at card-of
-    goes-above e = rw e
-
-    module _ (none : above ≡ false) where
-      -- with no counter above T, the least tells whether one is zero and whether all are T
-      by-least : {X : Type 0} (refused absent side′ bucket : X)
-          → by-counters (card-at t h) (counter clipped) key refused absent side′ bucket ≡ cond (eqb low 0) absent (cond (eqb low (t .top)) side′ bucket)
-      unfolding by-counters card-at card-of least-count
-      by-least refused absent side′ bucket =
-          let ns = numbers-of (2 ^ t .p) (t .k) h in
-          rw (
-            none,
-            least-zero (counter clipped) (t .top) ns (let r = ranges t ok in omega arith),
-            all-cong (λ b. eqb (counter clipped b) (t .top)) (λ b. leb (t .top) (counter clipped b)) ns
-                (all-map (λ b q. not-above (t .top) (counter clipped b) q) ns (any-none (λ b. ltb (t .top) (counter clipped b)) ns none)),
-            least-top (counter clipped) (t .top) ns,
-          )
-
-      place-by-least : place (card-at t h) clipped buckets side key
-          ≡ cond (eqb low 0) nowhere (cond (eqb low (t .top)) (side-place (card-of t) side 0) (bucket-place (card-of t) (bucket-part (card-of t) buckets (chosen (card-at t h) (counter clipped) key)) side))
-      unfolding place card-at side-place bucket-place bucket-part bucket-size record-size
-      place-by-least = by-least _ _ _ _
-
-      goes-by-least : goes-to-bucket (card-at t h) clipped buckets key
-          ≡ cond (eqb low 0) false (cond (eqb low (t .top)) false (not (eqb (getD (bucket-part (card-of t) buckets (chosen (card-at t h) (counter clipped) key)) 0 0) 255)))
-      unfolding goes-to-bucket reads-bucket card-at bucket-part bucket-size record-size
-      goes-by-least =
-          rw (by-least false false false true)
-          (by-test (eqb low 0) (λ z. rw z) (λ z. rw z (by-test (eqb low (t .top)) (λ e. rw e) (λ e. rw e))))
-
-    not-all : (low ≡ t .top → ⊥) → all-top (card-at t h) (counter clipped) key ≡ false
+  -- unless the least is T, the chosen bucket is one of the card's
+  module _ (clipped key : List ℕ) (e : least-count (card-at t h) (counter clipped) key ≡ t .top → ⊥) where
+    not-all : all-top (card-at t h) (counter clipped) key ≡ false
     unfolding all-top least-count card-at card-of
-    not-all e = least-top (counter clipped) (t .top) (numbers-of (2 ^ t .p) (t .k) h) ∙ ne-eqb low (t .top) e
+    not-all = least-top (counter clipped) (t .top) (numbers-of (2 ^ t .p) (t .k) h) ∙ ne-eqb _ (t .top) e
 
-    -- the chosen bucket is one of the card's
-    pub chosen-there : (low ≡ t .top → ⊥) → chosen (card-at t h) (counter clipped) key < card-of t .buckets
+    chosen-there : chosen (card-at t h) (counter clipped) key < card-of t .buckets
     unfolding card-at
-    chosen-there e = chosen-below (card-at t h) sound-at (counter clipped) key (not-all e)
+    chosen-there = chosen-below (card-at t h) sound-at (counter clipped) key not-all
 
-  -- ---- what the code found of the counters is where the definition looks
-  module _ (clipped : List ℕ) (c : KeyCounters) (of : KeyCountersOf t h clipped c) where
-    pub key-counters-fit : KeyCountersFit t c
-    key-counters-fit = record { there = λ e. rw (of .bucket []) (chosen-there clipped [] [] [] (λ low. e (of .least [] ∙ low))) }
+-- a last test in the place of a bucket
+by-last : (s : Card) (c : KeyCounters) (x : Bool) → by-choice s c false false false x ≡ (by-choice s c false false false true && x)
+by-last s c x =
+    by-test (c .above) (λ a. rw a) (λ a. rw a (by-test (eqb (c .least .0) 0) (λ z. rw z)
+    (λ z. rw z (by-test (eqb (c .least .0) (s .top)) (λ e. rw e) (λ e. rw e)))))
 
-    module _ (buckets side key : List ℕ) where
-      pub place-by-is : place-by (card-of t) c buckets side ≡ place (card-at t h) clipped buckets side key
-      unfolding place-by card-of
-      place-by-is =
-          by-test (c .above) (λ a. rw a (place-above clipped buckets side key (sym (of .above) ∙ a)))
-          (λ a. rw (a, of .least key, of .bucket key, top-is t) (sym (place-by-least clipped buckets side key (sym (of .above) ∙ a))))
+-- ---- what the code found of the counters is where the definition looks
+module _ {t : Settings} {h : ℕ} {clipped : List ℕ} {c : KeyCounters} (ok : allowed t ≡ true) (of : KeyCountersOf t h clipped c) where
+  pub key-counters-fit : KeyCountersFit t c
+  key-counters-fit = record { there = λ e. rw (of .bucket []) (chosen-there t ok h clipped [] (λ low. e (of .least [] ∙ low))) }
 
-      pub goes-by-is : goes-by (card-of t) c buckets ≡ goes-to-bucket (card-at t h) clipped buckets key
-      unfolding goes-by card-of
-      goes-by-is =
-          by-test (c .above) (λ a. rw a (sym (goes-above clipped buckets side key (sym (of .above) ∙ a))))
-          (λ a. rw (a, of .least key, of .bucket key, top-is t) (sym (goes-by-least clipped buckets side key (sym (of .above) ∙ a))))
+  -- with no counter above T, the least tells whether one is zero and whether all are T
+  by-choice-is : (key : List ℕ) {X : Type 0} (refused absent side bucket : X)
+      → by-choice (card-of t) c refused absent side bucket ≡ by-counters (card-at t h) (counter clipped) key refused absent side bucket
+  unfolding by-counters card-at card-of least-count
+  by-choice-is key refused absent side bucket =
+      let ns = numbers-of (2 ^ t .p) (t .k) h in
+      by-test (c .above) (λ a. rw (a, sym (of .above) ∙ a))
+      (λ a. let none = sym (of .above) ∙ a in
+      rw (
+        a,
+        of .least key,
+        none,
+        least-zero (counter clipped) (t .top) ns (let r = ranges t ok in omega arith),
+        all-cong (λ b. eqb (counter clipped b) (t .top)) (λ b. leb (t .top) (counter clipped b)) ns
+            (all-map (λ b q. not-above (t .top) (counter clipped b) q) ns (any-none (λ b. ltb (t .top) (counter clipped b)) ns none)),
+        least-top (counter clipped) (t .top) ns,
+      ))
+
+  module _ (buckets side key : List ℕ) where
+    pub place-by-is : place-by (card-of t) c buckets side ≡ place (card-at t h) clipped buckets side key
+    unfolding place-by place card-at side-place bucket-place bucket-part bucket-size record-size
+    place-by-is = rw (of .bucket key) (by-choice-is key _ _ _ _)
+
+    goes-by-is : goes-by (card-of t) c buckets ≡ goes-to-bucket (card-at t h) clipped buckets key
+    unfolding goes-by goes-to-bucket reads-bucket card-at bucket-part bucket-size record-size
+    goes-by-is = rw (of .bucket key, ← by-choice-is key false false false true) (by-last (card-of t) c _)
+
+    pub looks-by : {r : Place} → LooksAt t buckets side (place-by (card-of t) c buckets side) (c .bucket) (goes-by (card-of t) c buckets) r
+        → LooksAt t buckets side (place (card-at t h) clipped buckets side key) (chosen (card-at t h) (counter clipped) key)
+        (goes-to-bucket (card-at t h) clipped buckets key) r
+    looks-by l = rw (← place-by-is, ← goes-by-is, ← of .bucket key) l
+
+pub places-of : {t : Settings} {clipped buckets side : List ℕ} → CheckedLookup t clipped buckets side → CheckedPlaces t buckets side
+places-of l = record { ok = l .ok; buckets-size = l .buckets-size; side-size = l .side-size }
+
+-- ---- the match over the place where a search looks: what each arm may compare, and that its answer is the whole search's
+pub record Looking (t : Settings) (buckets side key : List ℕ) (r : Place) (whole : plain.Answer) : Type 0 where
+  pub checked : CheckedPlaces t buckets side
+  pub wide : length key ≡ card-of t .width
+  pub inside : Inside t r
+  pub answers : answer-at (card-of t) key (place-of (card-of t) buckets side r) ≡ whole
+
+pub looking-by : {t : Settings} {buckets side key : List ℕ} {x : plain.Place} {r : Place} → CheckedPlaces t buckets side → length key ≡ card-of t .width
+    → Looks t buckets side x r → Looking t buckets side key r (answer-at (card-of t) key x)
+looking-by {t} {key = key} checked wide l = record { checked = checked; wide = wide; inside = l .inside; answers = ap (answer-at (card-of t) key) (l .is) }
+
+-- of a key with this H
+pub record LookingAt (t : Settings) (h : ℕ) (clipped buckets side key : List ℕ) (r : Place) : Type 0 where
+  pub looking : Looking t buckets side key r (search-areas (card-at t h) clipped buckets side key)
+
+pub looking-at : {t : Settings} (h : ℕ) {clipped buckets side key : List ℕ} {r : Place} → CheckedLookup t clipped buckets side
+    → length key ≡ card-of t .width → Looks t buckets side (place (card-at t h) clipped buckets side key) r → LookingAt t h clipped buckets side key r
+unfolding search-areas answer-at card-at
+looking-at h checked wide l = record { looking = looking-by (places-of checked) wide l }
+
+module _ {t : Settings} {buckets side key : List ℕ} {r : Place} {whole : plain.Answer} (l : Looking t buckets side key r whole) where
+  pub in-bucket : {from n : ℕ} → r ≡ Bucket from n → InBucket t buckets key from n
+  in-bucket e =
+      let i = subst (Inside t) e (l .inside) in
+      let size = l .checked .buckets-size in
+      record { ok = l .checked .ok; buckets-size = size; wide = l .wide; inside = rw size (i .0); few = i .1 }
+
+  pub in-side : {n read : ℕ} → r ≡ Side n read → InSide t side key n
+  in-side e =
+      let i = subst (Inside t) e (l .inside) in
+      record { ok = l .checked .ok; side-size = l .checked .side-size; wide = l .wide; few = i .0 }
+
+  pub answer-in : (arm : Place) → r ≡ arm → answer-at (card-of t) key (place-of (card-of t) buckets side arm) ≡ whole
+  answer-in arm e = ap (λ (x : Place). answer-at (card-of t) key (place-of (card-of t) buckets side x)) (sym e) ∙ l .answers
+
+  pub answer-refused : r ≡ Invalid → bare 5 ≡ whole
+  unfolding answer-at
+  answer-refused e = answer-in Invalid e
+
+  pub answer-absent : r ≡ Nowhere → bare 100 ≡ whole
+  unfolding answer-at
+  answer-absent e = answer-in Nowhere e
 
 -- ---- the answer of the place where a search of a key with this H ends
-module _ (t : Settings) (h : ℕ) (clipped buckets side key : List ℕ) where
-  pub search-is : (x : Place) → x ≡ place (card-at t h) clipped buckets side key → answer-at (card-of t) key x ≡ search-areas (card-at t h) clipped buckets side key
-  unfolding search-areas answer-at card-at
-  search-is x e = rw (← e)
+pub search-is : (t : Settings) (h : ℕ) (clipped buckets side key : List ℕ) (x : plain.Place) → x ≡ place (card-at t h) clipped buckets side key
+    → answer-at (card-of t) key x ≡ search-areas (card-at t h) clipped buckets side key
+unfolding search-areas answer-at card-at
+search-is t h clipped buckets side key x e = rw (← e)
 
 -- ---- with its own H, a key is looked for as the card says
 module _ (t : Settings) (clipped buckets side key : List ℕ) where

@@ -4,7 +4,10 @@ use mathlib.Core.List.{List, []}
 use Prim.Native.Nat.{ℕ}
 use lib.Dec.{eqb}
 use lib.ListN.{length}
+use denote.Ref.{RefT, now}
+use denote.Triple.Both.{Both}
 use Rattle.theory.specs.Lists.{all, has}
+use Rattle.theory.specs.Records.{records, find, comparisons}
 use Rattle.theory.specs.Settings as plain
 use Rattle.theory.specs.Layout.{Areas}
 use Rattle.theory.specs.Lookup as plain-lookup
@@ -22,9 +25,24 @@ abbrev pub answer-of : Answer → plain-lookup.Answer
 answer-of r =
     record { number = r .number; class = r .class; buckets-read = r .«buckets_read»; records-compared = r .«records_compared» }
 
+-- the answer of comparing n records, which stand at the start of a place, with so many buckets read
+abbrev pub compared : List ℕ → ℕ → List ℕ → ℕ → plain-lookup.Answer
+compared place n key read =
+    plain-lookup.answer (find key (records (length key) n place)) read (comparisons key (records (length key) n place))
+
 -- the three lookup areas as the areas of a call that is lent no others
 abbrev pub lookup-areas : List ℕ → List ℕ → List ℕ → Areas
 lookup-areas clipped buckets side = record { ledger = []; true-counts = []; clipped-counts = clipped; buckets = buckets; side-store = side }
+
+-- ---- as a contract speaks of them: a lent slice at entry and at exit; the lookup areas at entry; f of them and of the key
+abbrev Slices : Type 0
+Slices = Both (RefT (List ℕ)) (RefT (List ℕ))
+
+abbrev pub entry-lookup : Slices → Slices → Slices → Areas
+entry-lookup clipped buckets side = lookup-areas (now (clipped .entry)) (now (buckets .entry)) (now (side .entry))
+
+abbrev pub at-entry {ℓ} : {X : Type ℓ} → (List ℕ → List ℕ → List ℕ → List ℕ → X) → Slices → Slices → Slices → Slices → X
+at-entry f clipped buckets side key = f (now (clipped .entry)) (now (buckets .entry)) (now (side .entry)) (now (key .entry))
 
 -- "gets answer × 2^32 + class": the number of what a search call gives back
 abbrev pub driver-of : Reply → ℕ

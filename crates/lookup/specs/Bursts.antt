@@ -1,9 +1,10 @@
 -- A burst of searches: many keys, one after the other in a lent part, each with a number for its answer.
+use mathlib.Core.Path.{_≡_}
 use mathlib.Core.Bool.{cond, not, _&&_}
 use mathlib.Core.List.{List, [], map}
-use Prim.Native.Nat.{ℕ, _+_, _*_, _/_, _%_}
+use Prim.Native.Nat.{ℕ, _+_, _*_, _/_, _%_, _<_}
 use lib.Dec.{eqb, ltb}
-use lib.ListN.{length, take, drop}
+use lib.ListN.{length, take, drop, getD}
 use Rattle.theory.specs.Lists.{all, any, has, upto}
 use Rattle.theory.specs.Hash.{numbers-of}
 use Rattle.theory.specs.Settings as plain
@@ -16,16 +17,16 @@ use Rattle.lookup.specs.declared.counters.KeyCounters.{KeyCounters}
 use Rattle.lookup.specs.declared.judging.Judged.{Judged}
 use Rattle.lookup.specs.declared.judging.Judged.the-variants.{Ready, Refused}
 use Rattle.lookup.specs.Choosing.{card-at}
-use Rattle.lookup.specs.Places.{place-by}
+use Rattle.lookup.specs.Places.{CheckedPlaces, KeyCountersFit, place-by}
 use Rattle.lookup.specs.Answers.{lookup-areas}
 
 -- key j of a burst, of keys of w bytes
-abbrev pub key-at : ℕ → List ℕ → ℕ → List ℕ
-key-at w keys j = take w (drop (j * w) keys)
+abbrev pub burst-key : ℕ → List ℕ → ℕ → List ℕ
+burst-key w keys j = take w (drop (j * w) keys)
 
 -- a number for each key, from the first
-abbrev pub each : (ℕ → ℕ) → ℕ → List ℕ
-each f n = map f (upto 0 n)
+abbrev pub per-key : (ℕ → ℕ) → ℕ → List ℕ
+per-key f n = map f (upto 0 n)
 
 -- what is judged first: 1; 2, the length of the table or of a lookup area; 3, keys not of n times the key's bytes
 unfoldable pub judged-burst : List ℕ → plain.Settings → List ℕ → List ℕ → List ℕ → List ℕ → ℕ → Judged
@@ -45,6 +46,12 @@ abbrev pub unpacked-of : ℕ → KeyCounters
 unpacked-of x =
     record { above = ltb 4294967295 x; least = record { 0 = x % 4294967296 / 65536 }; bucket = x % 65536 }
 
+-- what the third pass asks: areas that are judged, a key for each number, and numbers that counters were packed into
+pub record ByPacked (t : plain.Settings) (buckets side keys answers : List ℕ) : Type 0 where
+  pub checked : CheckedPlaces t buckets side
+  pub keys-size : length keys ≡ length answers * plain.card-of t .width
+  pub fits : (j : ℕ) → j < length answers → KeyCountersFit t (unpacked-of (getD answers j 0))
+
 -- what the counters say of a key whose H is h
 unfoldable pub key-counters-at : plain.Settings → List ℕ → ℕ → KeyCounters
 key-counters-at t clipped h =
@@ -62,7 +69,7 @@ number-by t buckets side key x = driver-number (answer-at (plain.card-of t) key 
 unfoldable pub number-at : plain.Settings → List ℕ → List ℕ → List ℕ → List ℕ → ℕ → ℕ
 number-at t clipped buckets side key h = driver-number (search-areas (card-at t h) clipped buckets side key)
 
--- ---- what a burst gives on every input: refused, the answers are as they were; else each is the driver's number of its key, by the H that the table gives
+-- ---- what a burst gives on every input: refused, the answers are as they were; else each is the driver's number of its key, by the H of the table
 pub record Burst : Type 0 where
   pub number : ℕ
   pub answers : List ℕ
@@ -76,6 +83,7 @@ burst-of table t clipped buckets side keys before = by (judged-burst table t cli
         record {
           number = 0;
           answers =
-              each (λ j. number-at t clipped buckets side (key-at (plain.card-of t .width) keys j) (H-by table (key-at (plain.card-of t .width) keys j)))
+              per-key
+              (λ j. number-at t clipped buckets side (burst-key (plain.card-of t .width) keys j) (H-by table (burst-key (plain.card-of t .width) keys j)))
               (length before);
         }

@@ -2,7 +2,7 @@
 use mathlib.Core.Path.{_≡_}
 use mathlib.Core.Bool.{cond}
 use mathlib.Core.List.{List}
-use Prim.Native.Nat.{ℕ, _+_, _-_, _*_}
+use Prim.Native.Nat.{ℕ, _+_, _-_, _*_, _≤_}
 use lib.Dec.{eqb}
 use Rattle.theory.specs.Settings.{Settings, Card, card-of}
 use Rattle.theory.specs.Lookup.{RecordPlace, no-place, search-areas, record-place}
@@ -22,6 +22,12 @@ lies-at r = record { area = r .area; start = r .start }
 -- an answer with no place
 abbrev pub nowhere-of : Answer → Located
 nowhere-of a = record { answer = a; area = 0; start = 0 }
+
+-- the record found is the last of those compared, and its first byte is a small number
+pub record Placeable (a : Answer) (first size : ℕ) : Type 0 where
+  pub counted : a .number ≡ 0 → 1 ≤ a .«records_compared»
+  pub near : first ≤ 1000000
+  pub small : size ≤ 100
 
 -- an answer from records of a size, the first of which starts at a byte of an area
 abbrev pub located-from : Answer → ℕ → ℕ → ℕ → Located

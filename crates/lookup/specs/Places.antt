@@ -11,15 +11,15 @@ use Rattle.lookup.specs.declared.counters.KeyCounters.{KeyCounters}
 use Rattle.lookup.specs.declared.places.Place.{Place}
 use Rattle.lookup.specs.declared.places.Place.the-variants.{Invalid, Nowhere, Bucket, Side}
 
--- what the functions inside are lent: allowed settings, and lookup areas of their lengths
-pub record Lent (t : Settings) (clipped buckets side : List ℕ) : Type 0 where
+-- settings and lookup areas that are judged already: allowed settings, and areas of their lengths
+pub record CheckedLookup (t : Settings) (clipped buckets side : List ℕ) : Type 0 where
   pub ok : allowed t ≡ true
   pub clipped-size : length clipped ≡ clipped-length (card-of t)
   pub buckets-size : length buckets ≡ buckets-length (card-of t)
   pub side-size : length side ≡ side-length (card-of t)
 
 -- the same without the clipped counts, for what follows once the counters are read
-pub record Judged (t : Settings) (buckets side : List ℕ) : Type 0 where
+pub record CheckedPlaces (t : Settings) (buckets side : List ℕ) : Type 0 where
   pub ok : allowed t ≡ true
   pub buckets-size : length buckets ≡ buckets-length (card-of t)
   pub side-size : length side ≡ side-length (card-of t)
@@ -38,19 +38,17 @@ Inside t Nowhere = Unit {0}
 Inside t (Bucket from records) = (from + (bucket-size (card-of t) - 1) ≤ buckets-length (card-of t)) × (records ≤ t .room)
 Inside t (Side records read) = (records ≤ t .side-places) × (read ≤ 1)
 
--- where a search looks by what the counters of its key say: one above T, refused; the least zero, absent; the least T, the side store; otherwise the chosen bucket
+-- by what the counters of a key say: one above T, refused; the least zero, absent; the least T, the side store; otherwise the chosen bucket
+abbrev pub by-choice : {X : Type 0} → Card → KeyCounters → X → X → X → X → X
+by-choice s c refused absent side bucket = cond (c .above) refused (cond (eqb (c .least .0) 0) absent (cond (eqb (c .least .0) (s .top)) side bucket))
+
+-- where a search then looks, and whether it ends in a bucket, whose mark is not 255
 unfoldable pub place-by : Card → KeyCounters → List ℕ → List ℕ → plain.Place
 place-by s c buckets side =
-    cond (c .above) plain.invalid
-    (cond (eqb (c .least .0) 0) plain.nowhere
-    (cond (eqb (c .least .0) (s .top)) (plain.side-place s side 0) (plain.bucket-place s (plain.bucket-part s buckets (c .bucket)) side)))
+    by-choice s c plain.invalid plain.nowhere (plain.side-place s side 0) (plain.bucket-place s (plain.bucket-part s buckets (c .bucket)) side)
 
--- it then ends in a bucket, whose mark is not 255
 unfoldable pub goes-by : Card → KeyCounters → List ℕ → Bool
-goes-by s c buckets =
-    cond (c .above) false
-    (cond (eqb (c .least .0) 0) false
-    (cond (eqb (c .least .0) (s .top)) false (not (eqb (getD (plain.bucket-part s buckets (c .bucket)) 0 0) 255))))
+goes-by s c buckets = by-choice s c false false false (not (eqb (getD (plain.bucket-part s buckets (c .bucket)) 0 0) 255))
 
 -- a bucket that is read is one of the card's
 pub record KeyCountersFit (t : Settings) (c : KeyCounters) : Type 0 where
@@ -62,3 +60,38 @@ Goes s b in-bucket Invalid = Unit {0}
 Goes s b in-bucket Nowhere = Unit {0}
 Goes s b in-bucket (Bucket from records) = (in-bucket ≡ true) × (from ≡ b * bucket-size s + 1)
 Goes s b in-bucket (Side records read) = in-bucket ≡ false
+
+-- where the code looks is where the definition does, and inside the areas; and in bucket b or in the side store, as the test says
+pub record Looks (t : Settings) (buckets side : List ℕ) (x : plain.Place) (r : Place) : Type 0 where
+  pub is : place-of (card-of t) buckets side r ≡ x
+  pub inside : Inside t r
+
+pub record LooksAt (t : Settings) (buckets side : List ℕ) (x : plain.Place) (b : ℕ) (in-bucket : Bool) (r : Place) : Type 0 where
+  pub looks : Looks t buckets side x r
+  pub goes : Goes (card-of t) b in-bucket r
+
+-- what a look at the side store asks, with at most one bucket read before
+pub record SideRead (t : Settings) (side : List ℕ) (read : ℕ) : Type 0 where
+  pub ok : allowed t ≡ true
+  pub side-size : length side ≡ side-length (card-of t)
+  pub once : read ≤ 1
+
+-- ---- what comparing asks: a key of the width, n records that start at a byte of the buckets, or n records of the side store
+pub record InBucket (t : Settings) (buckets key : List ℕ) (from n : ℕ) : Type 0 where
+  pub ok : allowed t ≡ true
+  pub buckets-size : length buckets ≡ buckets-length (card-of t)
+  pub wide : length key ≡ card-of t .width
+  pub inside : from + (bucket-size (card-of t) - 1) ≤ length buckets
+  pub few : n ≤ t .room
+
+pub record InSide (t : Settings) (side key : List ℕ) (n : ℕ) : Type 0 where
+  pub ok : allowed t ≡ true
+  pub side-size : length side ≡ side-length (card-of t)
+  pub wide : length key ≡ card-of t .width
+  pub few : n ≤ t .side-places
+
+-- what a search by its counters asks: areas that are judged, and a key of the width
+pub record ByCounters (t : Settings) (c : KeyCounters) (buckets side key : List ℕ) : Type 0 where
+  pub checked : CheckedPlaces t buckets side
+  pub fits : KeyCountersFit t c
+  pub wide : length key ≡ card-of t .width

@@ -1,4 +1,4 @@
-// A burst of searches, in three passes over the answers: all hashes, then all choices, then the buckets, so that the reads of one key do not wait for another's.
+// A burst of searches, in three passes over the answers: all hashes, all choices, then the buckets, so that the reads of one key do not wait for another's.
 // The number of a single search without a table goes the same way, so that `searching::search_at` has one caller in the static library: the compiler
 // then makes one piece of it and the door with a lent table, which takes 0.9 of the time.
 use crate::counters::KeyCounters;
@@ -14,22 +14,22 @@ use crate::searching::compare_bucket;
 use crate::searching::compare_side;
 use crate::searching::driver_number;
 use memory::picks::pick64;
+use memory::records::key_at;
 use settings::Given;
 use settings::Settings;
 use settings::counts::ClippedCount;
 ghost use mathlib.Core.Path.{_≡_};
 ghost use mathlib.Core.Bool.{true};
-ghost use Prim.Native.Nat.{ℕ, _*_, _<_};
+ghost use Prim.Native.Nat.{_*_, _<_};
 ghost use Rattle.theory.specs.Lists.{has};
 ghost use lib.ListN.{length, getD};
 ghost use Rattle.theory.specs.Settings.{allowed, clipped-length};
 ghost use Rattle.theory.specs.Lookup as plain;
 ghost use Rattle.hash.specs.Table.{table-lengths, H-by};
 ghost use Rattle.settings.specs.Checked.{paper, given-of, card};
-ghost use Rattle.lookup.specs.Places as places;
-ghost use Rattle.lookup.specs.Places.{place-by, KeyCountersFit};
-ghost use Rattle.lookup.specs.Answers.{answer-of, search-of};
-ghost use Rattle.lookup.specs.Bursts.{key-at, each, packed-of, unpacked-of, key-counters-at, number-by, Burst, burst-of};
+ghost use Rattle.lookup.specs.Places.{place-by, ByCounters};
+ghost use Rattle.lookup.specs.Answers.{answer-of, at-entry, search-of};
+ghost use Rattle.lookup.specs.Bursts.{burst-key, per-key, packed-of, unpacked-of, key-counters-at, number-by, ByPacked, Burst, burst-of};
 
 // What the counters say, as one number, and back.
 fn packed(choice: KeyCounters) -> u64
@@ -57,7 +57,7 @@ fn search_chosen(
     side: &[u8],
     key: &[u8],
 ) -> Answer
-    requires { ⌜ places.Judged (paper s) (now buckets) (now side) × KeyCountersFit (paper s) choice × (length (now key) ≡ card s .width) ⌝ }
+    requires { ⌜ ByCounters (paper s) choice (now buckets) (now side) (now key) ⌝ }
     ensures { λ r. ⌜ answer-of r ≡ plain.answer-at (card s) (now (key .entry)) (place-by (card s) choice (now (buckets .entry)) (now (side .entry))) ⌝ }
 {
     let place = place_by(s, choice, buckets, side);
@@ -73,15 +73,13 @@ fn search_chosen(
 fn hash_all(s: Settings, table: &[u64], keys: &[u8], answers: &mut [u64])
     requires { ⌜ (has (length (now table)) (table-lengths (card s .width)) ≡ true)
         × (length (now keys) ≡ length (now answers) * card s .width) ⌝ }
-    ensures { λ _. ⌜ now (answers .exit) ≡ each (λ j. H-by (now (table .entry)) (key-at (card s .width) (now (keys .entry)) j)) (length (now (answers .entry))) ⌝ }
+    ensures { λ _. ⌜ now (answers .exit)
+        ≡ per-key (λ j. H-by (now (table .entry)) (burst-key (card s .width) (now (keys .entry)) j)) (length (now (answers .entry))) ⌝ }
 {
     let width = s.width();
     let mut i: usize = 0;
-    let mut at: usize = 0;
     while i < answers.len() {
-        let end = at + width;
-        answers[i] = hash::h_with_table(table, &keys[at..end]);
-        at = end;
+        answers[i] = hash::h_with_table(table, key_at(keys, i, width, width));
         i += 1;
     }
 }
@@ -89,7 +87,8 @@ fn hash_all(s: Settings, table: &[u64], keys: &[u8], answers: &mut [u64])
 // The second pass: what the counters say of each key, by its H.
 fn read_all_counters(s: Settings, clipped: &[u8], answers: &mut [u64])
     requires { ⌜ (allowed (paper s) ≡ true) × (length (now clipped) ≡ clipped-length (card s)) ⌝ }
-    ensures { λ _. ⌜ now (answers .exit) ≡ each (λ j. packed-of (key-counters-at (paper s) (now (clipped .entry)) (getD (now (answers .entry)) j 0))) (length (now (answers .entry))) ⌝ }
+    ensures { λ _. ⌜ now (answers .exit)
+        ≡ per-key (λ j. packed-of (key-counters-at (paper s) (now (clipped .entry)) (getD (now (answers .entry)) j 0))) (length (now (answers .entry))) ⌝ }
 {
     let n = answers.len();
     let mut i: usize = 0;
@@ -101,19 +100,16 @@ fn read_all_counters(s: Settings, clipped: &[u8], answers: &mut [u64])
 
 // The third pass: the driver's number of each key.
 fn answer_all(s: Settings, buckets: &[u8], side: &[u8], keys: &[u8], answers: &mut [u64])
-    requires { ⌜ places.Judged (paper s) (now buckets) (now side) × (length (now keys) ≡ length (now answers) * card s .width)
-        × ((j : ℕ) → j < length (now answers) → KeyCountersFit (paper s) (unpacked-of (getD (now answers) j 0))) ⌝ }
-    ensures { λ _. ⌜ now (answers .exit) ≡ each (λ j. number-by (paper s) (now (buckets .entry)) (now (side .entry))
-        (key-at (card s .width) (now (keys .entry)) j) (getD (now (answers .entry)) j 0)) (length (now (answers .entry))) ⌝ }
+    requires { ⌜ ByPacked (paper s) (now buckets) (now side) (now keys) (now answers) ⌝ }
+    ensures { λ _. ⌜ now (answers .exit) ≡ per-key (λ j. number-by (paper s) (now (buckets .entry)) (now (side .entry))
+        (burst-key (card s .width) (now (keys .entry)) j) (getD (now (answers .entry)) j 0)) (length (now (answers .entry))) ⌝ }
 {
     let width = s.width();
     let mut i: usize = 0;
-    let mut from: usize = 0;
     while i < answers.len() {
-        let to = from + width;
         let choice = unpacked(answers[i]);
-        answers[i] = driver_number(search_chosen(s, choice, buckets, side, &keys[from..to]));
-        from = to;
+        let key = key_at(keys, i, width, width);
+        answers[i] = driver_number(search_chosen(s, choice, buckets, side, key));
         i += 1;
     }
 }
@@ -129,8 +125,7 @@ pub fn search_burst(
     answers: &mut [u64],
 ) -> u32
     ensures { λ r. ⌜ _≡_ {A = Burst} (record { number = r; answers = now (answers .exit) })
-        (burst-of (now (table .entry)) (given-of given)
-        (now (clipped .entry)) (now (buckets .entry)) (now (side .entry)) (now (keys .entry)) (now (answers .entry))) ⌝ }
+        (at-entry (burst-of (now (table .entry)) (given-of given)) clipped buckets side keys (now (answers .entry))) ⌝ }
 {
     let n = answers.len();
     let judged = judge_burst(table, given, clipped, buckets, side, keys, n);
@@ -147,8 +142,7 @@ pub fn search_burst(
 
 // The driver's number of one key, hashed from the rows.
 pub fn search_number(given: Given, clipped: &[u8], buckets: &[u8], side: &[u8], key: &[u8]) -> u64
-    ensures { λ r. ⌜ r ≡ search-of (given-of given)
-        (now (clipped .entry)) (now (buckets .entry)) (now (side .entry)) (now (key .entry)) ⌝ }
+    ensures { λ r. ⌜ r ≡ at-entry (search-of (given-of given)) clipped buckets side key ⌝ }
 {
     let judged = judge(given, clipped, buckets, side, key);
     match judged {

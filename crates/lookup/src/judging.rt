@@ -9,7 +9,7 @@ ghost use Rattle.theory.specs.Lists.{all};
 ghost use Rattle.theory.specs.Settings.{allowed};
 ghost use Rattle.theory.specs.Calls.{lookup-lengths};
 ghost use Rattle.settings.specs.Checked.{paper, given-of, card};
-ghost use Rattle.lookup.specs.Answers.{lookup-areas, judged-of, judged-with-table};
+ghost use Rattle.lookup.specs.Answers.{entry-lookup, at-entry, judged-of, judged-with-table};
 ghost use Rattle.lookup.specs.Bursts.{judged-burst};
 
 pub enum Judged {
@@ -20,7 +20,7 @@ pub enum Judged {
 // The lookup areas have their lengths.
 pub fn areas_right(s: Settings, clipped: &[u8], buckets: &[u8], side: &[u8]) -> bool
     requires { ⌜ allowed (paper s) ≡ true ⌝ }
-    ensures { λ r. ⌜ r ≡ all (λ x. x) (lookup-lengths (card s) (lookup-areas (now (clipped .entry)) (now (buckets .entry)) (now (side .entry)))) ⌝ }
+    ensures { λ r. ⌜ r ≡ all (λ x. x) (lookup-lengths (card s) (entry-lookup clipped buckets side)) ⌝ }
 {
     lookup_lengths_right(s, clipped.len(), buckets.len(), side.len())
 }
@@ -28,7 +28,7 @@ pub fn areas_right(s: Settings, clipped: &[u8], buckets: &[u8], side: &[u8]) -> 
 // 2, the length of an area; 3, a key not of the card's width.
 fn judge_areas(s: Settings, clipped: &[u8], buckets: &[u8], side: &[u8], key: &[u8]) -> Judged
     requires { ⌜ allowed (paper s) ≡ true ⌝ }
-    ensures { λ r. ⌜ r ≡ judged-of (paper s) (now (clipped .entry)) (now (buckets .entry)) (now (side .entry)) (now (key .entry)) ⌝ }
+    ensures { λ r. ⌜ r ≡ at-entry (judged-of (paper s)) clipped buckets side key ⌝ }
 {
     if !areas_right(s, clipped, buckets, side) {
         return Judged::Refused(2);
@@ -41,8 +41,7 @@ fn judge_areas(s: Settings, clipped: &[u8], buckets: &[u8], side: &[u8], key: &[
 
 // 1, a setting out of range; then 2 and 3.
 pub fn judge(given: Given, clipped: &[u8], buckets: &[u8], side: &[u8], key: &[u8]) -> Judged
-    ensures { λ r. ⌜ r ≡ judged-of (given-of given)
-        (now (clipped .entry)) (now (buckets .entry)) (now (side .entry)) (now (key .entry)) ⌝ }
+    ensures { λ r. ⌜ r ≡ at-entry (judged-of (given-of given)) clipped buckets side key ⌝ }
 {
     let checked = Settings::new(given);
     let Checked::Allowed(s) = checked else {
@@ -60,8 +59,7 @@ pub fn judge_with_table(
     side: &[u8],
     key: &[u8],
 ) -> Judged
-    ensures { λ r. ⌜ r ≡ judged-with-table (now (table .entry)) (given-of given)
-        (now (clipped .entry)) (now (buckets .entry)) (now (side .entry)) (now (key .entry)) ⌝ }
+    ensures { λ r. ⌜ r ≡ at-entry (judged-with-table (now (table .entry)) (given-of given)) clipped buckets side key ⌝ }
 {
     let checked = Settings::new(given);
     let Checked::Allowed(s) = checked else {
@@ -83,8 +81,7 @@ pub fn judge_burst(
     keys: &[u8],
     n: usize,
 ) -> Judged
-    ensures { λ r. ⌜ r ≡ judged-burst (now (table .entry)) (given-of given)
-        (now (clipped .entry)) (now (buckets .entry)) (now (side .entry)) (now (keys .entry)) n ⌝ }
+    ensures { λ r. ⌜ r ≡ at-entry (judged-burst (now (table .entry)) (given-of given)) clipped buckets side keys n ⌝ }
 {
     let checked = Settings::new(given);
     let Checked::Allowed(s) = checked else {

@@ -12,14 +12,15 @@ use crate::searching::compare_side;
 use settings::Given;
 use settings::Settings;
 ghost use mathlib.Core.Path.{_≡_};
-ghost use Prim.Native.Nat.{_≤_};
 ghost use lib.ListN.{length};
 ghost use Rattle.settings.specs.Checked.{paper, given-of, card};
 ghost use Rattle.lookup.specs.Choosing.{card-at};
-ghost use Rattle.lookup.specs.Places.{Lent};
-ghost use Rattle.lookup.specs.Locating.{nowhere-of, located-from, LocatedAt, LocatedCall};
+ghost use Rattle.lookup.specs.Places.{CheckedLookup};
+ghost use Rattle.lookup.specs.Answers.{at-entry};
+ghost use Rattle.lookup.specs.Locating.{nowhere-of, Placeable, located-from, LocatedAt, LocatedCall};
 
-// The answer, and where the record lies: area 1 is the buckets, area 2 the side store, and start the byte of it where the record starts; nowhere is 0 and 0.
+// The answer, and where the record lies: area 1 is the buckets, area 2 the side store, and start the byte of it where the record starts; nowhere is 0
+// and 0.
 pub struct Located {
     pub answer: Answer,
     pub area: u64,
@@ -38,7 +39,7 @@ fn nowhere(answer: Answer) -> Located
 
 // The record found is the last of the records compared, the first of which starts at a byte of the area.
 fn with_place(answer: Answer, area: u64, first: usize, size: usize) -> Located
-    requires { ⌜ (answer .number ≡ 0 → 1 ≤ answer .«records_compared») × (first ≤ 1000000) × (size ≤ 100) ⌝ }
+    requires { ⌜ Placeable answer first size ⌝ }
     ensures { λ r. ⌜ r ≡ located-from answer area first size ⌝ }
 {
     let number = answer.number;
@@ -62,8 +63,8 @@ fn locate_at(
     side: &[u8],
     key: &[u8],
 ) -> Located
-    requires { ⌜ Lent (paper s) (now clipped) (now buckets) (now side) × (length (now key) ≡ card s .width) ⌝ }
-    ensures { λ r. ⌜ LocatedAt (card-at (paper s) h) (now (clipped .entry)) (now (buckets .entry)) (now (side .entry)) (now (key .entry)) r ⌝ }
+    requires { ⌜ CheckedLookup (paper s) (now clipped) (now buckets) (now side) × (length (now key) ≡ card s .width) ⌝ }
+    ensures { λ r. ⌜ at-entry (LocatedAt (card-at (paper s) h)) clipped buckets side key r ⌝ }
 {
     let size = s.record_size();
     let place = place_by(s, read_counters(s, h, clipped), buckets, side);
@@ -86,7 +87,7 @@ fn locate_at(
 
 // Search, with the place of the record.
 pub fn locate(given: Given, clipped: &[u8], buckets: &[u8], side: &[u8], key: &[u8]) -> Located
-    ensures { λ r. ⌜ LocatedCall (given-of given) (now (clipped .entry)) (now (buckets .entry)) (now (side .entry)) (now (key .entry)) r ⌝ }
+    ensures { λ r. ⌜ at-entry (LocatedCall (given-of given)) clipped buckets side key r ⌝ }
 {
     let judged = judge(given, clipped, buckets, side, key);
     match judged {

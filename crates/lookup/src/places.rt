@@ -2,20 +2,18 @@
 use crate::counters::KeyCounters;
 use crate::counters::read_counters;
 use settings::Settings;
-ghost use mathlib.Core.Path.{_≡_};
-ghost use mathlib.Core.Bool.{true, false, not};
+ghost use mathlib.Core.Bool.{false, not};
 ghost use mathlib.Core.List.{List};
-ghost use Prim.Native.Nat.{ℕ, _*_, _<_, _≤_};
+ghost use Prim.Native.Nat.{ℕ, _<_};
 ghost use lib.Dec.{eqb};
-ghost use lib.ListN.{length, getD};
-ghost use Rattle.theory.specs.Settings.{allowed, buckets-length, side-length};
+ghost use lib.ListN.{getD};
 ghost use Rattle.theory.specs.Lookup as plain;
 ghost use Rattle.settings.specs.Checked.{paper, card};
 ghost use Rattle.lookup.specs.Choosing.{card-at};
-ghost use Rattle.lookup.specs.Places.{Lent, Judged, place-of, place-by, Inside, KeyCountersFit, goes-by, Goes};
+ghost use Rattle.lookup.specs.Places.{CheckedLookup, CheckedPlaces, SideRead, place-by, KeyCountersFit, goes-by, Looks, LooksAt};
 
-// What a search comes to: refused with 5; absent by a zero counter; records of a bucket, which start at a byte of the buckets; records of the side store, with
-// so many buckets read.
+// What a search comes to: refused with 5; absent by a zero counter; records of a bucket, which start at a byte of the buckets; records of the side store,
+// with so many buckets read.
 pub enum Place {
     Invalid,
     Nowhere,
@@ -25,10 +23,9 @@ pub enum Place {
 
 // The side store is compared: 5 for a side count above S.
 fn side_place(s: Settings, side: &[u8], read: u32) -> Place
-    requires { ⌜ (allowed (paper s) ≡ true) × (length (now side) ≡ side-length (card s)) × (read ≤ 1) ⌝ }
-    ensures { λ r. ⌜ ((buckets : List ℕ) → place-of (card s) buckets (now (side .entry)) r
-        ≡ plain.side-place (card s) (now (side .entry)) read)
-        × Inside (paper s) r × ((b : ℕ) → Goes (card s) b false r) ⌝ }
+    requires { ⌜ SideRead (paper s) (now side) read ⌝ }
+    ensures { λ r. ⌜ ((buckets : List ℕ) (b : ℕ) → LooksAt (paper s) buckets (now (side .entry))
+        (plain.side-place (card s) (now (side .entry)) read) b false r) ⌝ }
 {
     let records = memory::numbers::count_at(side);
     if s.side_places < records {
@@ -39,12 +36,10 @@ fn side_place(s: Settings, side: &[u8], read: u32) -> Place
 
 // One bucket is read: mark 255 sends on to the side store, 5 for another mark above B.
 fn bucket_place(s: Settings, buckets: &[u8], bucket: usize, side: &[u8]) -> Place
-    requires { ⌜ (allowed (paper s) ≡ true) × (length (now side) ≡ side-length (card s))
-        × (length (now buckets) ≡ buckets-length (card s)) × (bucket < card s .buckets) ⌝ }
-    ensures { λ r. ⌜ (place-of (card s) (now (buckets .entry)) (now (side .entry)) r
-        ≡ plain.bucket-place (card s) (plain.bucket-part (card s) (now (buckets .entry)) bucket) (now (side .entry)))
-        × Inside (paper s) r
-        × Goes (card s) bucket (not (eqb (getD (plain.bucket-part (card s) (now (buckets .entry)) bucket) 0 0) 255)) r ⌝ }
+    requires { ⌜ CheckedPlaces (paper s) (now buckets) (now side) × (bucket < card s .buckets) ⌝ }
+    ensures { λ r. ⌜ LooksAt (paper s) (now (buckets .entry)) (now (side .entry))
+        (plain.bucket-place (card s) (plain.bucket-part (card s) (now (buckets .entry)) bucket) (now (side .entry)))
+        bucket (not (eqb (getD (plain.bucket-part (card s) (now (buckets .entry)) bucket) 0 0) 255)) r ⌝ }
 {
     let at = bucket * s.bucket_size();
     let mark = buckets[at] as usize;
@@ -62,10 +57,10 @@ fn bucket_place(s: Settings, buckets: &[u8], bucket: usize, side: &[u8]) -> Plac
 
 // "any counter of the key zero: absent; all equal to T: the side store is compared; otherwise the chosen bucket is read"
 pub fn place_by(s: Settings, choice: KeyCounters, buckets: &[u8], side: &[u8]) -> Place
-    requires { ⌜ Judged (paper s) (now buckets) (now side) × KeyCountersFit (paper s) choice ⌝ }
-    ensures { λ r. ⌜ (place-of (card s) (now (buckets .entry)) (now (side .entry)) r
-        ≡ place-by (card s) choice (now (buckets .entry)) (now (side .entry)))
-        × Inside (paper s) r × Goes (card s) (choice .bucket) (goes-by (card s) choice (now (buckets .entry))) r ⌝ }
+    requires { ⌜ CheckedPlaces (paper s) (now buckets) (now side) × KeyCountersFit (paper s) choice ⌝ }
+    ensures { λ r. ⌜ LooksAt (paper s) (now (buckets .entry)) (now (side .entry))
+        (place-by (card s) choice (now (buckets .entry)) (now (side .entry)))
+        (choice .bucket) (goes-by (card s) choice (now (buckets .entry))) r ⌝ }
 {
     if choice.above {
         return Place::Invalid;
@@ -82,10 +77,9 @@ pub fn place_by(s: Settings, choice: KeyCounters, buckets: &[u8], side: &[u8]) -
 
 // "It reads all counters of the key, then" looks by what they say.
 pub fn find_place(s: Settings, h: u64, clipped: &[u8], buckets: &[u8], side: &[u8]) -> Place
-    requires { ⌜ Lent (paper s) (now clipped) (now buckets) (now side) ⌝ }
-    ensures { λ r. ⌜ ((key : List ℕ) → place-of (card s) (now (buckets .entry)) (now (side .entry)) r
-        ≡ plain.place (card-at (paper s) h) (now (clipped .entry)) (now (buckets .entry)) (now (side .entry)) key)
-        × Inside (paper s) r ⌝ }
+    requires { ⌜ CheckedLookup (paper s) (now clipped) (now buckets) (now side) ⌝ }
+    ensures { λ r. ⌜ ((key : List ℕ) → Looks (paper s) (now (buckets .entry)) (now (side .entry))
+        (plain.place (card-at (paper s) h) (now (clipped .entry)) (now (buckets .entry)) (now (side .entry)) key) r) ⌝ }
 {
     place_by(s, read_counters(s, h, clipped), buckets, side)
 }

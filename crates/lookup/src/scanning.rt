@@ -1,10 +1,10 @@
 // Records compared from the first up to the equal one or the last.
 use memory::picks::pick;
 use settings::Settings;
-ghost use Prim.Native.Nat.{_+_, _*_, _≤_};
+ghost use Prim.Native.Nat.{_+_, _≤_};
 ghost use lib.ListN.{length};
 ghost use Rattle.theory.specs.Records.{class-width};
-ghost use Rattle.lookup.specs.Scanning.{HitOf};
+ghost use Rattle.lookup.specs.Scanning.{Scannable, AllScannable, HitOf};
 
 // Where the key's record starts, if it is there, and how many records were compared.
 pub struct Hit {
@@ -15,7 +15,7 @@ pub struct Hit {
 
 // The key among the first n records of a place.
 pub fn scan(place: &[u8], n: usize, key: &[u8]) -> Hit
-    requires { ⌜ (n * (length (now key) + class-width) ≤ length (now place)) × (length (now key) ≤ 64) ⌝ }
+    requires { ⌜ Scannable (now place) n (now key) ⌝ }
     ensures { λ r. ⌜ HitOf (length (now (key .entry))) n (now (place .entry)) (now (key .entry)) r ⌝ }
 {
     let width = key.len();
@@ -42,11 +42,12 @@ pub fn scan(place: &[u8], n: usize, key: &[u8]) -> Hit
     }
 }
 
-// The same where all places may be read: each is compared, from the last to the first, with no branch on what is equal; the first equal one counts if it is among
-// the first n. The offset is inside whatever is found, so that the caller may read there first and choose after.
+// The same where all places may be read: each is compared, from the last to the first, with no branch on what is equal; the first equal one counts if
+// it is among the first n. The offset is inside whatever is found, so that the caller may read there first and choose after.
 pub fn scan_all(place: &[u8], n: usize, room: usize, key: &[u8]) -> Hit
-    requires { ⌜ (room * (length (now key) + class-width) ≤ length (now place)) × (8 ≤ length (now key)) × (length (now key) ≤ 64) × (n ≤ room) × (1 ≤ room) × (room ≤ 4096) ⌝ }
-    ensures { λ r. ⌜ HitOf (length (now (key .entry))) n (now (place .entry)) (now (key .entry)) r × (r .at + (length (now (key .entry)) + class-width) ≤ length (now (place .entry))) ⌝ }
+    requires { ⌜ AllScannable (now place) n room (now key) ⌝ }
+    ensures { λ r. ⌜ HitOf (length (now (key .entry))) n (now (place .entry)) (now (key .entry)) r
+        × (r .at + (length (now (key .entry)) + class-width) ≤ length (now (place .entry))) ⌝ }
 {
     let width = key.len();
     let size = width + Settings::CLASS_WIDTH;

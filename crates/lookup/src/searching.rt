@@ -10,11 +10,9 @@ use memory::picks::pick32;
 use settings::Given;
 use settings::Settings;
 ghost use mathlib.Core.Path.{_≡_};
-ghost use mathlib.Core.Bool.{true};
-ghost use Prim.Native.Nat.{_+_, _-_, _*_, _≤_};
+ghost use Prim.Native.Nat.{_-_, _≤_};
 ghost use lib.ListN.{length, take, drop};
-ghost use Rattle.theory.specs.Records.{class-width, records, find, comparisons};
-ghost use Rattle.theory.specs.Settings.{allowed, bucket-size, buckets-length, side-length};
+ghost use Rattle.theory.specs.Settings.{bucket-size};
 ghost use Rattle.theory.specs.Lookup as plain;
 ghost use Rattle.theory.specs.Layout.{Areas};
 ghost use Rattle.theory.specs.Ledger.{Step, answered};
@@ -22,8 +20,9 @@ ghost use Rattle.theory.specs.Ledger as calls;
 ghost use Rattle.theory.specs.Calls.{perform};
 ghost use Rattle.settings.specs.Checked.{paper, given-of, card};
 ghost use Rattle.lookup.specs.Choosing.{card-at};
-ghost use Rattle.lookup.specs.Places.{Lent};
-ghost use Rattle.lookup.specs.Answers.{answer-of, lookup-areas, search-with};
+ghost use Rattle.lookup.specs.Places.{CheckedLookup, InBucket, InSide};
+ghost use Rattle.lookup.specs.Scanning.{Scannable, AllScannable};
+ghost use Rattle.lookup.specs.Answers.{answer-of, compared, entry-lookup, at-entry, search-with};
 
 // The answer's number (0 held, 100 absent, else the refusal), class, buckets read, records compared.
 pub struct Answer {
@@ -54,9 +53,8 @@ pub fn driver_number(a: Answer) -> u64
 
 // The answer of a scan of some records.
 fn compare(place: &[u8], n: usize, key: &[u8], read: u32) -> Answer
-    requires { ⌜ (n * (length (now key) + class-width) ≤ length (now place)) × (length (now key) ≤ 64) × (n ≤ 4096) ⌝ }
-    ensures { λ r. ⌜ answer-of r ≡ plain.answer (find (now (key .entry)) (records (length (now (key .entry))) n (now (place .entry)))) read
-        (comparisons (now (key .entry)) (records (length (now (key .entry))) n (now (place .entry)))) ⌝ }
+    requires { ⌜ Scannable (now place) n (now key) × (n ≤ 4096) ⌝ }
+    ensures { λ r. ⌜ answer-of r ≡ compared (now (place .entry)) n (now (key .entry)) read ⌝ }
 {
     let hit = scan(place, n, key);
     let compared = hit.compared as u32;
@@ -79,9 +77,8 @@ fn compare(place: &[u8], n: usize, key: &[u8], read: u32) -> Answer
 
 // The answer of a scan of all places of a bucket, with no branch on what was found: the class is read anyway, and kept or not.
 fn compare_all(place: &[u8], n: usize, room: usize, key: &[u8], read: u32) -> Answer
-    requires { ⌜ (room * (length (now key) + class-width) ≤ length (now place)) × (8 ≤ length (now key)) × (length (now key) ≤ 64) × (n ≤ room) × (1 ≤ room) × (room ≤ 4096) ⌝ }
-    ensures { λ r. ⌜ answer-of r ≡ plain.answer (find (now (key .entry)) (records (length (now (key .entry))) n (now (place .entry)))) read
-        (comparisons (now (key .entry)) (records (length (now (key .entry))) n (now (place .entry)))) ⌝ }
+    requires { ⌜ AllScannable (now place) n room (now key) ⌝ }
+    ensures { λ r. ⌜ answer-of r ≡ compared (now (place .entry)) n (now (key .entry)) read ⌝ }
 {
     let hit = scan_all(place, n, room, key);
     let at = hit.at + key.len();
@@ -96,8 +93,7 @@ fn compare_all(place: &[u8], n: usize, room: usize, key: &[u8], read: u32) -> An
 
 // The records of a bucket, which start after its mark.
 pub fn compare_bucket(s: Settings, buckets: &[u8], from: usize, n: usize, key: &[u8]) -> Answer
-    requires { ⌜ (allowed (paper s) ≡ true) × (length (now buckets) ≡ buckets-length (card s)) × (length (now key) ≡ card s .width)
-        × (from + (bucket-size (card s) - 1) ≤ length (now buckets)) × (n ≤ s .room) ⌝ }
+    requires { ⌜ InBucket (paper s) (now buckets) (now key) from n ⌝ }
     ensures { λ r. ⌜ answer-of r ≡ plain.answer-at (card s) (now (key .entry))
         (plain.among (take (bucket-size (card s) - 1) (drop from (now (buckets .entry)))) n 1) ⌝ }
 {
@@ -109,8 +105,7 @@ pub fn compare_bucket(s: Settings, buckets: &[u8], from: usize, n: usize, key: &
 
 // The records of the side store, which start after its count.
 pub fn compare_side(s: Settings, side: &[u8], n: usize, read: u32, key: &[u8]) -> Answer
-    requires { ⌜ (allowed (paper s) ≡ true) × (length (now side) ≡ side-length (card s)) × (length (now key) ≡ card s .width)
-        × (n ≤ s .«side_places») ⌝ }
+    requires { ⌜ InSide (paper s) (now side) (now key) n ⌝ }
     ensures { λ r. ⌜ answer-of r ≡ plain.answer-at (card s) (now (key .entry)) (plain.among (drop 2 (now (side .entry))) n read) ⌝ }
 {
     compare(&side[2..], n, key, read)
@@ -126,8 +121,8 @@ pub fn search_at(
     side: &[u8],
     key: &[u8],
 ) -> Answer
-    requires { ⌜ Lent (paper s) (now clipped) (now buckets) (now side) × (length (now key) ≡ card s .width) ⌝ }
-    ensures { λ r. ⌜ answer-of r ≡ plain.search-areas (card-at (paper s) h) (now (clipped .entry)) (now (buckets .entry)) (now (side .entry)) (now (key .entry)) ⌝ }
+    requires { ⌜ CheckedLookup (paper s) (now clipped) (now buckets) (now side) × (length (now key) ≡ card s .width) ⌝ }
+    ensures { λ r. ⌜ answer-of r ≡ at-entry (plain.search-areas (card-at (paper s) h)) clipped buckets side key ⌝ }
 {
     let place = find_place(s, h, clipped, buckets, side);
     match place {
@@ -140,8 +135,8 @@ pub fn search_at(
 
 // Search, whole by itself: the key is hashed from the rows.
 pub fn search(given: Given, clipped: &[u8], buckets: &[u8], side: &[u8], key: &[u8]) -> Answer
-    ensures { λ r. ⌜ _≡_ {A = Step Areas} (record { reply = answered (answer-of r); state = lookup-areas (now (clipped .entry)) (now (buckets .entry)) (now (side .entry)) })
-        (perform (given-of given) 0 (calls.search (now (key .entry))) (lookup-areas (now (clipped .entry)) (now (buckets .entry)) (now (side .entry)))) ⌝ }
+    ensures { λ r. ⌜ _≡_ {A = Step Areas} (record { reply = answered (answer-of r); state = entry-lookup clipped buckets side })
+        (perform (given-of given) 0 (calls.search (now (key .entry))) (entry-lookup clipped buckets side)) ⌝ }
 {
     let judged = judge(given, clipped, buckets, side, key);
     match judged {
@@ -162,8 +157,7 @@ pub fn search_with_table(
     side: &[u8],
     key: &[u8],
 ) -> Answer
-    ensures { λ r. ⌜ answer-of r ≡ search-with (now (table .entry)) (given-of given)
-        (now (clipped .entry)) (now (buckets .entry)) (now (side .entry)) (now (key .entry)) ⌝ }
+    ensures { λ r. ⌜ answer-of r ≡ at-entry (search-with (now (table .entry)) (given-of given)) clipped buckets side key ⌝ }
 {
     let judged = judge_with_table(table, given, clipped, buckets, side, key);
     match judged {

@@ -7,11 +7,11 @@ use settings::Settings;
 ghost use mathlib.Core.Path.{_≡_};
 ghost use mathlib.Core.Bool.{true, false, not, cond, _&&_};
 ghost use mathlib.Core.List.{List};
-ghost use Prim.Native.Nat.{ℕ, _+_, _*_, _≤_, _<_};
+ghost use Prim.Native.Nat.{ℕ, _+_, _≤_};
 ghost use lib.Dec.{eqb, ltb};
 ghost use lib.ListN.{length};
 ghost use Rattle.theory.specs.Lists.{any, upto, sum, filter};
-ghost use Rattle.theory.specs.Settings.{allowed, ledger-length, clipped-length, buckets-length, side-length};
+ghost use Rattle.theory.specs.Settings.{allowed, ledger-length, clipped-length, buckets-length};
 ghost use Rattle.theory.specs.Records.{count-of};
 ghost use Rattle.theory.specs.Layout.{Areas};
 ghost use Rattle.theory.specs.Lookup as plain;
@@ -19,8 +19,8 @@ ghost use Rattle.theory.specs.Ledger as ledgers;
 ghost use Rattle.theory.specs.Ledger.{Step, totalled};
 ghost use Rattle.theory.specs.Calls.{marks, lookup-invalid, tally-areas, perform};
 ghost use Rattle.settings.specs.Checked.{paper, given-of, card};
-ghost use Rattle.lookup.specs.Places.{Lent};
-ghost use Rattle.tally.specs.Tallies.{totals-of, read-areas};
+ghost use Rattle.lookup.specs.Places.{CheckedLookup, CheckedPlaces};
+ghost use Rattle.tally.specs.Tallies.{totals-of, Fillable, read-areas, entry-read};
 
 // The answer's number, records in buckets, records in the side store, buckets marked 255, fill.
 pub struct Totals {
@@ -70,13 +70,11 @@ fn marks_valid(s: Settings, buckets: &[u8]) -> bool
     let size = s.bucket_size();
     let room = s.room;
     let mut b: usize = 0;
-    let mut at: usize = 0;
     while b < m {
-        let mark = buckets[at] as usize;
+        let mark = buckets[b * size] as usize;
         if (room < mark) & (mark != 255) {
             return false;
         }
-        at += size;
         b += 1;
     }
     true
@@ -90,7 +88,8 @@ struct Marks {
 
 fn with_mark(sums: Marks, mark: u8) -> Marks
     requires { ⌜ (sums .«in_buckets» ≤ 2000000) × (sums .«marked_255» ≤ 2000000) ⌝ }
-    ensures { λ r. ⌜ (r .«in_buckets» ≡ sums .«in_buckets» + cond (eqb mark 255) 0 mark) × (r .«marked_255» ≡ sums .«marked_255» + cond (eqb mark 255) 1 0) ⌝ }
+    ensures { λ r. ⌜ (r .«in_buckets» ≡ sums .«in_buckets» + cond (eqb mark 255) 0 mark)
+        × (r .«marked_255» ≡ sums .«marked_255» + cond (eqb mark 255) 1 0) ⌝ }
 {
     if mark == 255 {
         return Marks {
@@ -116,10 +115,8 @@ fn sum_marks(s: Settings, buckets: &[u8]) -> Marks
         marked_255: 0,
     };
     let mut b: usize = 0;
-    let mut at: usize = 0;
     while b < m {
-        sums = with_mark(sums, buckets[at]);
-        at += size;
+        sums = with_mark(sums, buckets[b * size]);
         b += 1;
     }
     sums
@@ -127,8 +124,9 @@ fn sum_marks(s: Settings, buckets: &[u8]) -> Marks
 
 // "5, in what a search or tally reads, a clipped count above T, a mark above B other than 255, a side count above S"
 fn lookup_valid(s: Settings, clipped: &[u8], buckets: &[u8], side: &[u8]) -> bool
-    requires { ⌜ Lent (paper s) (now clipped) (now buckets) (now side) ⌝ }
-    ensures { λ r. ⌜ ((ledger : List ℕ) → r ≡ not (lookup-invalid (card s) (read-areas ledger (now (clipped .entry)) (now (buckets .entry)) (now (side .entry))))) ⌝ }
+    requires { ⌜ CheckedLookup (paper s) (now clipped) (now buckets) (now side) ⌝ }
+    ensures { λ r. ⌜ ((ledger : List ℕ) → r
+        ≡ not (lookup-invalid (card s) (read-areas ledger (now (clipped .entry)) (now (buckets .entry)) (now (side .entry))))) ⌝ }
 {
     if !counters_valid(s, clipped) {
         return false;
@@ -141,7 +139,7 @@ fn lookup_valid(s: Settings, clipped: &[u8], buckets: &[u8], side: &[u8]) -> boo
 
 // "100 × ledger count / m to the nearest whole number, a half going up"
 fn fill(n: usize, m: usize) -> u32
-    requires { ⌜ (n ≤ 65535) × (16 ≤ m) × (m ≤ 4096) ⌝ }
+    requires { ⌜ Fillable n m ⌝ }
     ensures { λ r. ⌜ r ≡ ledgers.fill-of n m ⌝ }
 {
     ((200 * n + m) / (2 * m)) as u32
@@ -149,10 +147,9 @@ fn fill(n: usize, m: usize) -> u32
 
 // The four numbers of areas within the rules.
 fn count_all(s: Settings, ledger: &[u8], buckets: &[u8], side: &[u8]) -> Totals
-    requires { ⌜ (allowed (paper s) ≡ true) × (length (now ledger) ≡ ledger-length (card s))
-        × (length (now buckets) ≡ buckets-length (card s)) × (length (now side) ≡ side-length (card s)) ⌝ }
-    ensures { λ r. ⌜ totals-of r ≡ ledgers.counted-totals (marks (card s) (now (buckets .entry))) (count-of (now (side .entry))) (count-of (now (ledger .entry)))
-        (card s .buckets) ⌝ }
+    requires { ⌜ CheckedPlaces (paper s) (now buckets) (now side) × (length (now ledger) ≡ ledger-length (card s)) ⌝ }
+    ensures { λ r. ⌜ totals-of r ≡ ledgers.counted-totals (marks (card s) (now (buckets .entry))) (count-of (now (side .entry)))
+        (count-of (now (ledger .entry))) (card s .buckets) ⌝ }
 {
     let sums = sum_marks(s, buckets);
     Totals {
@@ -166,8 +163,8 @@ fn count_all(s: Settings, ledger: &[u8], buckets: &[u8], side: &[u8]) -> Totals
 
 // Tally on allowed settings and areas of their lengths: 4, then 5, then the four numbers.
 fn tally_checked(s: Settings, ledger: &[u8], clipped: &[u8], buckets: &[u8], side: &[u8]) -> Totals
-    requires { ⌜ Lent (paper s) (now clipped) (now buckets) (now side) × (length (now ledger) ≡ ledger-length (card s)) ⌝ }
-    ensures { λ r. ⌜ totals-of r ≡ tally-areas (card s) (read-areas (now (ledger .entry)) (now (clipped .entry)) (now (buckets .entry)) (now (side .entry))) ⌝ }
+    requires { ⌜ CheckedLookup (paper s) (now clipped) (now buckets) (now side) × (length (now ledger) ≡ ledger-length (card s)) ⌝ }
+    ensures { λ r. ⌜ totals-of r ≡ tally-areas (card s) (entry-read ledger clipped buckets side) ⌝ }
 {
     if !ledger::valid(s, ledger) {
         return no_totals(4);
@@ -179,8 +176,8 @@ fn tally_checked(s: Settings, ledger: &[u8], clipped: &[u8], buckets: &[u8], sid
 }
 
 pub fn tally(given: Given, ledger: &[u8], clipped: &[u8], buckets: &[u8], side: &[u8]) -> Totals
-    ensures { λ r. ⌜ _≡_ {A = Step Areas} (record { reply = totalled (totals-of r); state = read-areas (now (ledger .entry)) (now (clipped .entry)) (now (buckets .entry)) (now (side .entry)) })
-        (perform (given-of given) 0 ledgers.tally (read-areas (now (ledger .entry)) (now (clipped .entry)) (now (buckets .entry)) (now (side .entry)))) ⌝ }
+    ensures { λ r. ⌜ _≡_ {A = Step Areas} (record { reply = totalled (totals-of r); state = entry-read ledger clipped buckets side })
+        (perform (given-of given) 0 ledgers.tally (entry-read ledger clipped buckets side)) ⌝ }
 {
     let checked = Settings::new(given);
     let Checked::Allowed(s) = checked else {

@@ -1,56 +1,41 @@
 -- `tally::counters_valid` meets its contract: whether a counter from bucket b on is above T is whether any is.
-use mathlib.Core.Path.{_≡_, ap, sym, _∙_}
-use mathlib.Core.List.{List, map}
-use Prim.Native.Nat.{ℕ, _-_, _≤_}
+use mathlib.Core.Path.{_≡_, sym, ap, _∙_}
+use Prim.Native.Nat.{_-_}
 use native.Mathlib.Omega.{arith}
-use lib.Dec.{ltb}
 use borrow.Author.Needs.{needs}
-use Rattle.theory.specs.Lists.{any, upto}
+use lib.Dec.{ltb}
 use Rattle.theory.specs.Lookup.{counter}
-use Rattle.settings.specs.Checked.{paper}
-use Rattle.tally.proofs.TallyLaws.{rest, rest-all, any-here, any-on, any-none-left, any-map, counter-in}
+use Rattle.tally.proofs.TallyLaws.{AnyLeft, any-start, any-hit, any-on, any-over, counter-in}
 use Rattle.tally.proofs.counters_valid.Statement.{statement}
 use Rattle.tally.proofs.counters_valid.Tie as tie
 
 abbrev Inv-loop : tie.InvT-loop
-Inv-loop clipped m top b₀ b = (b ≤ m) × (any (λ x. ltb top x) (map (counter clipped) (rest b m)) ≡ any (λ x. ltb top x) (map (counter clipped) (upto 0 m)))
+Inv-loop clipped m top b₀ b = AnyLeft (λ b. ltb top (counter clipped b)) m b
 
 abbrev μ-loop : tie.MeasureT-loop
 μ-loop clipped m top b₀ b = m - b
 
-loop-holds : tie.Need-loop-holds Inv-loop μ-loop
-loop-holds c = (omega arith, ap (λ (l : List ℕ). any (λ x. ltb (c .before .before .args .s .top) x) (map (counter (c .before .before .args .clipped .now)) l)) (rest-all (c .buckets .result)))
+-- ---- a counter is compared
+module _ (c : tie.After-above Inv-loop μ-loop) where
+  abbrev turn : tie.In-loop Inv-loop μ-loop
+  turn = c .before .before
+
+  abbrev start : tie.Start Inv-loop μ-loop
+  start = turn .before .before .before .before
+
+  passes : ltb (start .args .s .top) (counter (start .args .clipped .now) (turn .before .loop .b)) ≡ c .above .result
+  passes = ap (ltb (start .args .s .top)) (sym (c .before .counter .ensures .0)) ∙ sym (c .above .ensures)
 
 counter-requires : tie.Need-counter-requires Inv-loop μ-loop
 counter-requires c κs =
-    let start = c .before .before .before .before in
-    let buckets = c .before .before .buckets in
-    counter-in (paper (start .args .s)) (start .pre .0) (start .args .clipped .now) (c .before .loop .b) (buckets .result) (c .loop-test .taken) (buckets .ensures) (start .pre .1)
+    let counted = c .before .before in
+    let start = counted .before .before in
+    counter-in _ (start .args .clipped .now) _ _ (start .pre .0) (start .pre .1) (counted .buckets .ensures) (c .loop-test .taken)
 
 returns : tie.Need-returns Inv-loop μ-loop
 returns c =
-    let start = c .before .before .before .before .before .before .before in
-    let buckets = c .before .before .before .before .before .buckets in
-    let loop = c .before .before .before .before .loop in
-    let loop-test = c .before .before .before .loop-test in
-    let e = any-here (counter (start .args .clipped .now)) (λ x. ltb (start .args .s .top) x) (loop .b) (buckets .result) (loop-test .taken) (rw (← c .before .before .counter .ensures .0) (sym (c .before .above .ensures) ∙ c .if1 .taken)) (loop .inv .1) in
-    rw (← buckets .ensures, ← any-map (λ x. ltb (start .args .s .top) x) (counter (start .args .clipped .now)) (upto 0 (buckets .result)), e)
-
-loop-again : tie.Need-loop-again Inv-loop μ-loop
-loop-again c =
-    let start = c .before .before .before .before .before .before .before in
-    let buckets = c .before .before .before .before .before .buckets in
-    let loop = c .before .before .before .before .loop in
-    let loop-test = c .before .before .before .loop-test in
-    (omega arith, any-on (counter (start .args .clipped .now)) (λ x. ltb (start .args .s .top) x) (loop .b) (buckets .result) (loop-test .taken) (rw (← c .before .before .counter .ensures .0) (sym (c .before .above .ensures) ∙ c .if1 .left)) (loop .inv .1))
-
-returns-2 : tie.Need-returns-2 Inv-loop μ-loop
-returns-2 c =
-    let start = c .before .before .before .before in
-    let buckets = c .before .before .buckets in
-    let loop = c .before .loop in
-    let e = any-none-left (counter (start .args .clipped .now)) (λ x. ltb (start .args .s .top) x) (loop .b) (buckets .result) (c .loop-test .left) (loop .inv .1) in
-    rw (← buckets .ensures, ← any-map (λ x. ltb (start .args .s .top) x) (counter (start .args .clipped .now)) (upto 0 (buckets .result)), e)
+    let at = turn (c .before) in
+    rw (← at .before .before .buckets .ensures, any-hit (at .before .loop .inv) (at .loop-test .taken) (passes (c .before) ∙ c .if1 .taken))
 
 pub counters-valid-spec : {M : Type 1} → statement M
 counters-valid-spec =
@@ -59,11 +44,11 @@ counters-valid-spec =
     Inv-loop
     μ-loop
     (λ c κs. c .before .pre .0)
-    loop-holds
+    (λ c. any-start)
     counter-requires
     (λ c κs. search needs)
     returns
     (λ c. omega arith)
     (λ c. omega arith)
-    loop-again
-    returns-2)
+    (λ c. let at = turn (c .before) in any-on (at .before .loop .inv) (at .loop-test .taken) (passes (c .before) ∙ c .if1 .left))
+    (λ c. rw (← c .before .before .buckets .ensures, any-over (c .before .loop .inv) (c .loop-test .left))))

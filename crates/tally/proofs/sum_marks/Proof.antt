@@ -1,87 +1,73 @@
--- `tally::sum_marks` meets its contract: what is summed so far, with the marks from bucket b on, is the whole sum.
-use mathlib.Core.Path.{_≡_, ap, _∙_}
-use mathlib.Core.Bool.{not}
-use mathlib.Core.List.{List, map}
-use Prim.Native.Nat.{ℕ, _+_, _*_, _-_, _≤_, _<_}
-use native.Mathlib.Nat.{zero-add}
+-- `tally::sum_marks` meets its contract: what is summed are the marks of the buckets before b.
+use mathlib.Core.Path.{_≡_}
+use mathlib.Core.Bool.{Bool, true, false, cond}
+use mathlib.Core.List.{List}
+use Prim.Native.Nat.{ℕ, _*_, _-_, _≤_, _<_}
 use native.Mathlib.Omega.{arith}
 use lib.Dec.{eqb}
-use lib.ListN.{length, getD}
-use Rattle.theory.specs.Lists.{filter, sum, upto}
 use Rattle.settings.specs.Checked.{paper}
 use Rattle.settings.proofs.Laws.{bounds}
-use Rattle.tally.proofs.TallyLaws.{rest, rest-all, sum-on, sum-end, count-on, count-end, more-marks, more-255, not-255, mark-at, marks-are, mark-there}
+use Rattle.tally.proofs.TallyLaws.{sum-below, sum-more, sum-most, mark-at, Rows, mark-there, marks-sum, marks-count}
 use Rattle.tally.proofs.sum_marks.Statement.{statement}
 use Rattle.tally.proofs.sum_marks.Tie as tie
 
+-- what bucket b adds to the two sums
+abbrev records-of : List ℕ → ℕ → ℕ → ℕ
+records-of buckets size b = cond (eqb (mark-at buckets size b) 255) 0 (mark-at buckets size b)
+
+abbrev is-255 : List ℕ → ℕ → ℕ → ℕ
+is-255 buckets size b = cond (eqb (mark-at buckets size b) 255) 1 0
+
+record Summed (buckets : List ℕ) (m size in-buckets marked-255 b : ℕ) : Type 0 where
+  few : b ≤ m
+  records : in-buckets ≡ sum-below (records-of buckets size) b
+  marked : marked-255 ≡ sum-below (is-255 buckets size) b
+
 abbrev Inv-loop : tie.InvT-loop
-Inv-loop buckets m size sums₀ b₀ at₀ sums b at = (b ≤ m)
-    × (at ≡ b * size)
-    × (sums .«in_buckets» ≤ 255 * b)
-    × (sums .«marked_255» ≤ b)
-    × (sums .«in_buckets» + sum (filter (λ x. not (eqb x 255)) (map (mark-at buckets size) (rest b m))) ≡ sum (filter (λ x. not (eqb x 255)) (map (mark-at buckets size) (upto 0 m))))
-    × (sums .«marked_255» + length (filter (λ x. eqb x 255) (map (mark-at buckets size) (rest b m))) ≡ length (filter (λ x. eqb x 255) (map (mark-at buckets size) (upto 0 m))))
+Inv-loop buckets m size sums₀ b₀ sums b = Summed buckets m size (sums .«in_buckets») (sums .«marked_255») b
 
 abbrev μ-loop : tie.MeasureT-loop
-μ-loop buckets m size sums₀ b₀ at₀ sums b at = m - b
+μ-loop buckets m size sums₀ b₀ sums b = m - b
 
-loop-holds : tie.Need-loop-holds Inv-loop μ-loop
-loop-holds c =
-    let start = c .before .before .before in
-    let buckets = c .before .buckets in
-    (omega arith, omega arith, omega arith, omega arith, ap (λ (l : List ℕ). 0 + sum (filter (λ x. not (eqb x 255)) (map (mark-at (start .args .buckets .now) (c .bucket-size .result)) l))) (rest-all (buckets .result)) ∙ zero-add _, ap (λ (l : List ℕ). 0 + length (filter (λ x. eqb x 255) (map (mark-at (start .args .buckets .now) (c .bucket-size .result)) l))) (rest-all (buckets .result)) ∙ zero-add _)
+-- neither is more than a byte holds
+small : (t : Bool) (x y : ℕ) → x < 256 → y < 256 → cond t y x ≤ 255
+small true x y h k = omega arith
+small false x y h k = omega arith
 
-shared-slice-read-with-mark : tie.Need-shared-slice-read-with-mark Inv-loop μ-loop
-shared-slice-read-with-mark c =
-    let start = c .before .before .before .before .before .before in
-    let buckets = c .before .before .before .before .buckets in
-    let bucket-size = c .before .before .before .bucket-size in
-    let loop = c .before .before .loop in
-    let b = bounds (paper (start .args .s)) (start .pre .0) in omega (arith, (mark-there (paper (start .args .s)) (start .pre .0) (start .args .buckets .now) (loop .b) (buckets .result) (bucket-size .result) (c .before .loop-test .taken) (buckets .ensures) (bucket-size .ensures) (start .pre .1)), loop .inv .1, bucket-size .ensures)
+-- ---- how many buckets there are, and their size
+module _ (c : tie.After-bucket-size Inv-loop μ-loop) where
+  abbrev start : tie.Start Inv-loop μ-loop
+  start = c .before .before .before
+
+  rows : Rows (paper (start .args .s)) (start .args .buckets .now) (c .before .buckets .result) (c .bucket-size .result)
+  rows = record { ok = start .pre .0; long = start .pre .1; m-is = c .before .buckets .ensures; size-is = c .bucket-size .ensures }
 
 with-mark-requires : tie.Need-with-mark-requires Inv-loop μ-loop
 with-mark-requires c κs =
-    let start = c .before .before .before .before .before .before in
-    let buckets = c .before .before .before .before .buckets in
     let loop = c .before .before .loop in
-    let b = bounds (paper (start .args .s)) (start .pre .0) in (omega (arith, loop .inv .2, buckets .ensures), omega (arith, loop .inv .3, buckets .ensures))
-
-add-at : tie.Need-add-at Inv-loop μ-loop
-add-at c =
-    let start = c .before .before .before .before .before .before .before in
-    let buckets = c .before .before .before .before .before .buckets in
-    let bucket-size = c .before .before .before .before .bucket-size in
-    let loop = c .before .before .before .loop in
-    let loop-test = c .before .before .loop-test in
-    omega (arith, (mark-there (paper (start .args .s)) (start .pre .0) (start .args .buckets .now) (loop .b) (buckets .result) (bucket-size .result) (loop-test .taken) (buckets .ensures) (bucket-size .ensures) (start .pre .1)), loop .inv .1)
+    let at = c .before .before .before in
+    let few = bounds (paper (start at .args .s)) (start at .pre .0) .buckets-most in
+    let mark = mark-at (start at .args .buckets .now) (at .bucket-size .result) in
+    let byte : (b : ℕ) → mark b < 256 = λ b. c .shared-slice-known2 .given (b * at .bucket-size .result) .fits in
+    let records = sum-most (λ b. cond (eqb (mark b) 255) 0 (mark b)) 255 (λ b. small (eqb (mark b) 255) (mark b) 0 (byte b) (omega arith)) (loop .b) in
+    let marked = sum-most (λ b. cond (eqb (mark b) 255) 1 0) 255 (λ b. small (eqb (mark b) 255) 0 1 (omega arith) (omega arith)) (loop .b) in (
+      omega (arith, loop .inv .records, records, loop .inv .few, few, at .before .buckets .ensures),
+      omega (arith, loop .inv .marked, marked, loop .inv .few, few, at .before .buckets .ensures),
+    )
 
 loop-again : tie.Need-loop-again Inv-loop μ-loop
 loop-again c =
-    let start = c .before .before .before .before .before .before .before in
-    let shared-slice-known = c .before .before .before .before .before .before .shared-slice-known in
-    let buckets = c .before .before .before .before .before .buckets in
-    let bucket-size = c .before .before .before .before .bucket-size in
-    let loop = c .before .before .before .loop in
-    let loop-test = c .before .before .loop-test in
-    let x = getD (start .args .buckets .now) (loop .at) 0 in
-    let byte : x < 256 = (shared-slice-known .given (loop .at)) .fits in
-    let m = c .with-mark .ensures in (
-      omega arith,
-      omega (arith, loop .inv .1),
-      more-marks (loop .sums .«in_buckets») (c .with-mark .result .«in_buckets») (loop .b) x byte (m .0) (loop .inv .2),
-      more-255 (loop .sums .«marked_255») (c .with-mark .result .«marked_255») (loop .b) x (m .1) (loop .inv .3),
-      rw (m .0, loop .inv .1) (not-255 (loop .sums .«in_buckets») (mark-at (start .args .buckets .now) (bucket-size .result) (loop .b)) _ (sum-on (mark-at (start .args .buckets .now) (bucket-size .result)) (λ x. not (eqb x 255)) (loop .b) (buckets .result) (loop .sums .«in_buckets») (loop-test .taken) (loop .inv .4))),
-      rw (m .1, loop .inv .1) (count-on (mark-at (start .args .buckets .now) (bucket-size .result)) (λ x. eqb x 255) (loop .b) (buckets .result) (loop .sums .«marked_255») (loop-test .taken) (loop .inv .5)),
-    )
+    let loop = c .before .before .before .loop in record {
+      few = omega arith;
+      records = rw (sum-more, ← loop .inv .records) (c .with-mark .ensures .0);
+      marked = rw (sum-more, ← loop .inv .marked) (c .with-mark .ensures .1);
+    }
 
 returns : tie.Need-returns Inv-loop μ-loop
 returns c =
-    let start = c .before .before .before .before .before in
-    let buckets = c .before .before .before .buckets in
-    let bucket-size = c .before .before .bucket-size in
     let loop = c .before .loop in
-    rw (marks-are (paper (start .args .s)) (start .pre .0) (start .args .buckets .now), ← bucket-size .ensures, ← buckets .ensures)
-    (sum-end (mark-at (start .args .buckets .now) (bucket-size .result)) (λ x. not (eqb x 255)) (loop .b) (buckets .result) (loop .sums .«in_buckets») (c .loop-test .left) (loop .inv .4), count-end (mark-at (start .args .buckets .now) (bucket-size .result)) (λ x. eqb x 255) (loop .b) (buckets .result) (loop .sums .«marked_255») (c .loop-test .left) (loop .inv .5))
+    let all : loop .b ≡ c .before .before .before .buckets .result = omega (arith, loop .inv .few) in
+    rw (marks-sum (rows (c .before .before)), marks-count (rows (c .before .before)), ← all) (loop .inv .records, loop .inv .marked)
 
 pub sum-marks-spec : {M : Type 1} → statement M
 sum-marks-spec =
@@ -91,10 +77,10 @@ sum-marks-spec =
     μ-loop
     (λ c κs. c .before .pre .0)
     (λ c κs. c .before .before .pre .0)
-    loop-holds
-    shared-slice-read-with-mark
+    (λ c. record { few = omega arith; records = omega arith; marked = omega arith })
+    (λ c. omega (arith, mark-there (rows (c .before .before)) _ (c .loop-test .taken)))
+    (λ c. mark-there (rows (c .before .before .before)) _ (c .before .loop-test .taken) .0)
     with-mark-requires
-    add-at
     (λ c. omega arith)
     (λ c. omega arith)
     loop-again

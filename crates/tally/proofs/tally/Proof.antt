@@ -8,8 +8,7 @@ use Rattle.theory.specs.Settings.{Settings, allowed}
 use Rattle.settings.specs.declared.Settings as code
 use Rattle.settings.specs.Checked.{paper, given-of}
 use Rattle.settings.proofs.Laws.{allowed-arm, refused-arm, allowed-settings}
-use Rattle.tally.specs.Tallies.{totals-of}
-use Rattle.tally.proofs.TallyLaws.{tally-1, lengths-by, Checked, tally-2, tally-on, tally-checked}
+use Rattle.tally.proofs.TallyLaws.{tally-1, JudgedLengths, judged-by, tally-2, tally-on, tally-checked}
 use borrow.Author.Needs.{needs}
 use Rattle.tally.proofs.tally.Statement.{statement}
 use Rattle.tally.proofs.tally.Tie as tie
@@ -25,9 +24,7 @@ module _ (c : tie.After-new) where
 returns : tie.Need-returns
 returns c =
     let new = c .before .before .before in
-    let a = start new .args in
-    tally-1 (t new) (a .ledger .now) (a .clipped .now) (a .buckets .now) (a .side .now)
-    (refused-arm (t new) (new .new .result) (new .new .ensures) (c .before .enum-told .given .1)) (totals-of (c .no-totals .result)) (c .no-totals .ensures)
+    tally-1 (t new) _ _ _ _ (refused-arm (t new) (new .new .result) (new .new .ensures) (c .before .enum-told .given .1)) _ (c .no-totals .ensures)
 
 -- ---- the settings are allowed
 module _ (c : tie.After-known-told) where
@@ -48,22 +45,18 @@ module _ (c : tie.After-areas-right) where
   abbrev known : tie.After-known-told
   known = c .before .before
 
-  judged : Checked (t (new known)) (start (new known) .args .ledger .now) (start (new known) .args .clipped .now) (start (new known) .args .buckets .now)
-      (start (new known) .args .side .now) (s known) (eqb (length (start (new known) .args .ledger .now)) (c .before .ledger-length .result) && c .areas-right .result)
-  judged =
-      let a = start (new known) .args in
-      record {
-        ok = fine known .0;
-        same = fine known .1;
-        lengths-are = lengths-by (t (new known)) (a .ledger .now) (a .clipped .now) (a .buckets .now) (a .side .now) (s known) (fine known .1)
-            (c .before .ledger-length .result) (c .before .ledger-length .ensures) (c .areas-right .result) (c .areas-right .ensures);
-      }
+  abbrev at : tie.Start
+  at = start (new known)
+
+  judged : JudgedLengths (t (new known)) (at .args .ledger .now) (at .args .clipped .now) (at .args .buckets .now) (at .args .side .now) (s known)
+      (eqb (length (at .args .ledger .now)) (c .before .ledger-length .result) && c .areas-right .result)
+  judged = judged-by _ _ _ _ _ (s known) (fine known .0) (fine known .1) _ (c .before .ledger-length .ensures) _ (c .areas-right .ensures)
 
 returns-2 : tie.Need-returns-2
-returns-2 c = tally-2 _ _ _ _ _ (judged (c .before .before)) (not-true _ (c .before .if1 .taken)) (totals-of (c .no-totals2 .result)) (c .no-totals2 .ensures)
+returns-2 c = tally-2 _ _ _ _ _ (judged (c .before .before)) (not-true _ (c .before .if1 .taken)) _ (c .no-totals2 .ensures)
 
 returns-3 : tie.Need-returns-3
-returns-3 c = tally-on _ _ _ _ _ (judged (c .before .before)) (not-false _ (c .before .if1 .left)) (totals-of (c .tally-checked .result)) (c .tally-checked .ensures)
+returns-3 c = tally-on _ _ _ _ _ (judged (c .before .before)) (not-false _ (c .before .if1 .left)) _ (c .tally-checked .ensures)
 
 pub tally-spec : {M : Type 1} → statement M
 tally-spec =

@@ -1,92 +1,93 @@
 -- `lookup::judging::judge_burst` meets its contract: each refusal is the definition's, 3 by a division.
 use mathlib.Core.Path.{_≡_, sym, ap, ap₂, _∙_}
 use mathlib.Core.Bool.{Bool, true, _&&_}
+use mathlib.Core.List.{List}
 use Prim.Native.Nat.{ℕ, _*_, _/_, _%_}
 use native.Mathlib.Omega.{arith}
 use borrow.Author.Needs.{needs}
 use borrow.Author.Tests.{not-true, not-false}
 use lib.Dec.{eqb}
 use lib.ListN.{length}
+use Rattle.theory.specs.Lists.{has}
 use Rattle.theory.specs.Settings as plain
 use Rattle.theory.specs.Settings.{allowed, card-of}
-use Rattle.hash.proofs.TableLaws.{length-allowed}
-use Rattle.settings.specs.Checked.{paper, given-of}
-use Rattle.settings.proofs.Laws.{allowed-arm, allowed-settings, refused-arm, width-is}
-use Rattle.lookup.specs.declared.judging.Judged.{Judged}
+use Rattle.hash.specs.Table.{table-lengths}
+use Rattle.settings.specs.declared.Settings.{Settings}
+use Rattle.settings.specs.Checked.{paper, code, given-of}
+use Rattle.settings.proofs.Laws.{allowed-arm, refused-arm, width-is}
+use Rattle.lookup.specs.declared.judging.Judged.the-variants.{Ready}
 use Rattle.lookup.specs.Bursts.{judged-burst}
 use Rattle.lookup.proofs.BurstLaws.{whole-keys}
-use Rattle.lookup.proofs.JudgeLaws.{burst-lengths, burst-1, burst-2, burst-3, burst-ready}
+use Rattle.lookup.proofs.JudgeLaws.{lengths-right, table-right}
 use Rattle.lookup.proofs.judging.judge_burst.Statement.{statement}
 use Rattle.lookup.proofs.judging.judge_burst.Tie as tie
 
--- the settings as they are given
-abbrev given : tie.Start → plain.Settings
-given start =
-    given-of (start .args .given)
-
-returns : tie.Need-returns
-returns c =
-    let start = c .before .before .before .before .before .before .before .before in
-    burst-1 (start .args .table .now) (start .args .clipped .now) (start .args .buckets .now) (start .args .side .now) (start .args .keys .now) (start .args .n) (given start)
-    (refused-arm (given start) (c .before .before .new .result) (c .before .before .new .ensures) (c .enum-told .given .1))
-
--- ---- the settings are allowed
+-- ---- the settings are allowed, and the width of a key is known
 module _ (c : tie.After-width) where
+  abbrev checked : tie.After-checked
+  checked = c .before .before
+
   abbrev start : tie.Start
-  start = c .before .before .before .before .before .before .before .before .before .before
+  start = checked .before .before .before .before .before .before .before .before
 
-  abbrev s : plain.Settings
-  s = paper (c .before .before .checked .given .0 .0)
+  abbrev t : plain.Settings
+  t = given-of (start .args .given)
 
-  ok : allowed s ≡ true
-  ok = allowed-settings (given start) (c .before .before .before .before .new .result) (c .before .before .before .before .new .ensures) (c .before .before .checked .given .0 .0) (c .before .before .checked .given .1)
+  abbrev s : Settings
+  s = checked .checked .given .0 .0
 
-  same : s ≡ given start
-  same = allowed-arm (given start) (c .before .before .before .before .new .result) (c .before .before .before .before .new .ensures) (c .before .before .checked .given .0 .0) (c .before .before .checked .given .1) .1
+  abbrev keys : List ℕ
+  keys = start .args .keys .now
+
+  arm : (allowed t ≡ true) × (paper s ≡ t)
+  arm = let new = checked .before .before .new in allowed-arm t (new .result) (new .ensures) s (checked .checked .given .1)
 
   w-is : c .width .result ≡ 13
-  w-is = c .width .ensures ∙ width-is s
+  w-is = c .width .ensures ∙ width-is (paper s)
 
-  abbrev judged : plain.Settings → Judged
-  judged t = judged-burst (start .args .table .now) t (start .args .clipped .now) (start .args .buckets .now) (start .args .side .now) (start .args .keys .now) (start .args .n)
+  whole : eqb (length keys) (start .args .n * card-of t .width)
+      ≡ (eqb (length keys % c .width .result) 0 && eqb (length keys / c .width .result) (start .args .n))
+  whole =
+      ap (λ (w : ℕ). eqb (length keys) (start .args .n * w)) (ap (λ (u : plain.Settings). card-of u .width) (sym (arm .1)) ∙ sym (c .width .ensures))
+      ∙ sym (whole-keys (c .width .result) (length keys) (start .args .n) (omega (arith, w-is)))
 
 -- ---- the lengths are judged
 module _ (c : tie.After-areas-right) where
   abbrev known : tie.After-width
   known = c .before
 
-  abbrev right : Bool
-  right = burst-lengths (start known .args .table .now) (start known .args .clipped .now) (start known .args .buckets .now) (start known .args .side .now) (start known .args .keys .now)
-      (start known .args .n) (s known)
+  abbrev table : List ℕ
+  table = start known .args .table .now
 
-  lengths : (eqb (length (start known .args .table .now)) (known .width .result * 256) && c .areas-right .result) ≡ right
+  abbrev right : plain.Settings → Bool
+  right u = lengths-right u (start known .args .clipped .now) (start known .args .buckets .now) (start known .args .side .now)
+
+  lengths : (has (length table) (table-lengths (card-of (t known) .width)) && right (t known))
+      ≡ (eqb (length table) (known .width .result * 256) && c .areas-right .result)
   lengths =
-      ap₂ (λ (long r : Bool). long && r)
-      (ap (λ (w : ℕ). eqb (length (start known .args .table .now)) (w * 256)) (known .width .ensures) ∙ sym (length-allowed _ _)) (c .areas-right .ensures)
+      ap₂ (λ (long r : Bool). long && r) (table-right table {s = s known} (arm known .1) (known .width .ensures))
+      (ap right (sym (arm known .1)) ∙ sym (c .areas-right .ensures))
 
-  whole : (eqb (length (start known .args .keys .now) % known .width .result) 0 && eqb (length (start known .args .keys .now) / known .width .result) (start known .args .n))
-      ≡ eqb (length (start known .args .keys .now)) (start known .args .n * card-of (s known) .width)
-  whole =
-      whole-keys (known .width .result) (length (start known .args .keys .now)) (start known .args .n) (omega (arith, w-is known))
-      ∙ ap (λ (w : ℕ). eqb (length (start known .args .keys .now)) (start known .args .n * w)) (known .width .ensures)
+returns : tie.Need-returns
+unfolding judged-burst
+returns c = let new = c .before .before .new in rw (refused-arm _ (new .result) (new .ensures) (c .enum-told .given .1))
 
 returns-2 : tie.Need-returns-2
-returns-2 c =
-    let at = c .before in
-    let k = known at in
-    burst-2 _ _ _ _ _ _ (s k) (ok k) (sym (lengths at) ∙ not-true _ (c .if1 .taken)) ∙ ap (judged k) (same k)
+unfolding judged-burst
+returns-2 c = let at = c .before in rw (arm (known at) .0, lengths at ∙ not-true _ (c .if1 .taken))
 
 returns-3 : tie.Need-returns-3
+unfolding judged-burst
 returns-3 c =
     let at = c .before .before in
-    let k = known at in
-    burst-3 _ _ _ _ _ _ (s k) (ok k) (sym (lengths at) ∙ not-false _ (c .before .if1 .left)) (sym (whole at) ∙ not-true _ (c .if2 .taken)) ∙ ap (judged k) (same k)
+    rw (arm (known at) .0, lengths at ∙ not-false _ (c .before .if1 .left), whole (known at) ∙ not-true _ (c .if2 .taken))
 
 returns-4 : tie.Need-returns-4
+unfolding judged-burst
 returns-4 c =
     let at = c .before .before in
-    let k = known at in
-    burst-ready _ _ _ _ _ _ (s k) (ok k) (sym (lengths at) ∙ not-false _ (c .before .if1 .left)) (sym (whole at) ∙ not-false _ (c .if2 .left)) ∙ ap (judged k) (same k)
+    rw (arm (known at) .0, lengths at ∙ not-false _ (c .before .if1 .left), whole (known at) ∙ not-false _ (c .if2 .left))
+    (ap (λ (u : plain.Settings). Ready (code u)) (arm (known at) .1))
 
 pub judge-burst-spec : {M : Type 1} → statement M
 judge-burst-spec =
@@ -98,7 +99,7 @@ judge-burst-spec =
     returns
     (λ c κs. search needs)
     (λ c. omega (arith, w-is c))
-    (λ c κs. ok c)
+    (λ c κs. rw (arm c .1) (arm c .0))
     returns-2
     (λ c. omega (arith, w-is (known (c .before))))
     (λ c. omega (arith, w-is (known (c .before))))

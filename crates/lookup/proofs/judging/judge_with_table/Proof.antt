@@ -1,44 +1,63 @@
 -- `lookup::judging::judge_with_table` meets its contract: refusal 1, the table's length, then the areas' judgement.
-use mathlib.Core.Path.{_∙_}
+use mathlib.Core.Path.{_≡_, sym, ap, _∙_}
+use mathlib.Core.Bool.{true}
+use mathlib.Core.List.{List}
+use Prim.Native.Nat.{ℕ, _*_}
 use native.Mathlib.Omega.{arith}
+use borrow.Author.Needs.{needs}
+use borrow.Author.Tests.{eq-eqb, ne-eqb}
+use lib.Dec.{eqb}
+use lib.ListN.{length}
+use Rattle.theory.specs.Lists.{has}
+use Rattle.theory.specs.Settings as plain
+use Rattle.theory.specs.Settings.{allowed, card-of}
+use Rattle.hash.specs.Table.{table-lengths}
+use Rattle.settings.specs.declared.Settings.{Settings}
 use Rattle.settings.specs.Checked.{paper, given-of}
 use Rattle.settings.proofs.Laws.{allowed-arm, refused-arm, allowed-settings, width-most}
-use Rattle.lookup.proofs.JudgeLaws.{lent-1, lent-2, lent-on}
-use borrow.Author.Needs.{needs}
+use Rattle.lookup.specs.Answers.{judged-of, judged-with-table}
+use Rattle.lookup.proofs.JudgeLaws.{table-right, lent-judged}
 use Rattle.lookup.proofs.judging.judge_with_table.Statement.{statement}
 use Rattle.lookup.proofs.judging.judge_with_table.Tie as tie
 
-returns : tie.Need-returns
-returns c =
-    let start = c .before .before .before .before .before .before .before .before in
-    let new = c .before .before .new in
-    lent-1 (start .args .table .now) (given-of (start .args .given)) (start .args .clipped .now) (start .args .buckets .now) (start .args .side .now) (start .args .key .now) (refused-arm (given-of (start .args .given)) (new .result) (new .ensures) (c .enum-told .given .1))
+-- ---- the settings are allowed, and the width of a key is known
+module _ (c : tie.After-width) where
+  abbrev checked : tie.After-checked
+  checked = c .before .before
 
-mul-if1 : tie.Need-mul-if1
-mul-if1 c = omega (arith, c .width .ensures, width-most (paper (c .before .before .checked .given .0 .0)))
+  abbrev start : tie.Start
+  start = checked .before .before .before .before .before .before .before .before
+
+  abbrev t : plain.Settings
+  t = given-of (start .args .given)
+
+  abbrev s : Settings
+  s = checked .checked .given .0 .0
+
+  abbrev table : List ℕ
+  table = start .args .table .now
+
+  arm : (allowed t ≡ true) × (paper s ≡ t)
+  arm = let new = checked .before .before .new in allowed-arm t (new .result) (new .ensures) s (checked .checked .given .1)
+
+  long : has (length table) (table-lengths (card-of t .width)) ≡ eqb (length table) (c .width .result * 256)
+  long = table-right table {s = s} (arm .1) (c .width .ensures)
+
+returns : tie.Need-returns
+unfolding judged-with-table
+returns c = let new = c .before .before .new in rw (refused-arm _ (new .result) (new .ensures) (c .enum-told .given .1))
 
 returns-2 : tie.Need-returns-2
-returns-2 c =
-    let start = c .before .before .before .before .before .before .before .before .before .before .before in
-    let new = c .before .before .before .before .before .new in
-    let checked = c .before .before .before .checked in
-    let width = c .before .width in
-    let arm = allowed-arm (given-of (start .args .given)) (new .result) (new .ensures) (checked .given .0 .0) (checked .given .1) in lent-2 (start .args .table .now) (given-of (start .args .given)) (start .args .clipped .now) (start .args .buckets .now) (start .args .side .now) (start .args .key .now) (arm .0) (checked .given .0 .0) (arm .1) (width .result) (width .ensures) (c .if1 .taken)
-
-judge-areas-requires : tie.Need-judge-areas-requires
-judge-areas-requires c κs =
-    let start = c .before .before .before .before .before .before .before .before .before .before .before in
-    let new = c .before .before .before .before .before .new in
-    let checked = c .before .before .before .checked in
-    allowed-settings (given-of (start .args .given)) (new .result) (new .ensures) (checked .given .0 .0) (checked .given .1)
+unfolding judged-with-table
+returns-2 c = let at = c .before in rw (arm at .0, long at, ne-eqb _ _ (c .if1 .taken))
 
 returns-3 : tie.Need-returns-3
 returns-3 c =
-    let start = c .before .before .before .before .before .before .before .before .before .before .before .before in
-    let new = c .before .before .before .before .before .before .new in
-    let checked = c .before .before .before .before .checked in
-    let width = c .before .before .width in
-    let arm = allowed-arm (given-of (start .args .given)) (new .result) (new .ensures) (checked .given .0 .0) (checked .given .1) in c .judge-areas .ensures ∙ lent-on (start .args .table .now) (given-of (start .args .given)) (start .args .clipped .now) (start .args .buckets .now) (start .args .side .now) (start .args .key .now) (arm .0) (checked .given .0 .0) (arm .1) (width .result) (width .ensures) (c .before .if1 .left)
+    let at = c .before .before in
+    let args = start at .args in
+    c .judge-areas .ensures
+    ∙ ap (λ (u : plain.Settings). judged-of u (args .clipped .now) (args .buckets .now) (args .side .now) (args .key .now)) (arm at .1)
+    ∙ sym (lent-judged _ _ _ _ _ _ (long at ∙ eq-eqb _ _ (c .before .if1 .left)))
 
 pub judge-with-table-spec : {M : Type 1} → statement M
 judge-with-table-spec =
@@ -49,7 +68,7 @@ judge-with-table-spec =
     (λ c. search needs)
     returns
     (λ c κs. search needs)
-    mul-if1
+    (λ c. omega (arith, c .width .ensures, width-most (paper (s c))))
     returns-2
-    judge-areas-requires
+    (λ c κs. let new = checked (c .before) .before .before .new in allowed-settings _ (new .result) (new .ensures) _ (checked (c .before) .checked .given .1))
     returns-3)

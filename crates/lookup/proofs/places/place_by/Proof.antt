@@ -31,33 +31,27 @@ module _ (c : tie.After-is2) where
 
 returns : tie.Need-returns
 unfolding place-by goes-by
-returns c = (rw (c .if1 .taken), tt, tt)
+returns c = record { looks = record { is = rw (c .if1 .taken); inside = tt }; goes = tt }
 
 returns-2 : tie.Need-returns-2
 unfolding place-by goes-by
-returns-2 c = (rw (c .before .before .before .if1 .left, sym (c .before .is .ensures) ∙ c .if2 .taken), tt, tt)
+returns-2 c = record { looks = record { is = rw (c .before .before .before .if1 .left, sym (c .before .is .ensures) ∙ c .if2 .taken); inside = tt }; goes = tt }
 
 returns-3 : tie.Need-returns-3
 unfolding place-by goes-by
 returns-3 c =
     let at = c .before .before in
     let args = start at .args in
-    let found = c .side-place .ensures in
-    let top = all-top at ∙ c .before .if3 .taken in
-    (rw (none-above at, none-zero at, top) (found .0 (args .buckets .now)), found .1, rw (none-above at, none-zero at, top) (found .2 (args .choice .bucket)))
+    rw (none-above at, none-zero at, all-top at ∙ c .before .if3 .taken) (c .side-place .ensures (args .buckets .now) (args .choice .bucket))
 
 bucket-place-requires : tie.Need-bucket-place-requires
 bucket-place-requires c κs =
     let pre = start (c .before) .pre in
-    (pre .0 .ok, pre .0 .side-size, pre .0 .buckets-size, pre .1 .there (eqb-false _ _ (sym (c .before .is2 .ensures) ∙ c .if3 .left)))
+    (pre .0, pre .1 .there (eqb-false _ _ (sym (c .before .is2 .ensures) ∙ c .if3 .left)))
 
 returns-4 : tie.Need-returns-4
 unfolding place-by goes-by
-returns-4 c =
-    let at = c .before .before in
-    let found = c .bucket-place .ensures in
-    let top = all-top at ∙ c .before .if3 .left in
-    (rw (none-above at, none-zero at, top) (found .0), found .1, rw (none-above at, none-zero at, top) (found .2))
+returns-4 c = let at = c .before .before in rw (none-above at, none-zero at, all-top at ∙ c .before .if3 .left) (c .bucket-place .ensures)
 
 pub place-by-spec : {M : Type 1} → statement M
 place-by-spec =

@@ -1,64 +1,75 @@
 -- `lookup::scanning::scan_all` meets its contract: the loop keeps the first of the places behind it that has the key.
-use mathlib.Core.Path.{_≡_, refl, sym, subst}
+use mathlib.Core.Path.{_≡_, refl, sym, _∙_, subst}
+use mathlib.Core.List.{List}
 use Prim.Native.Nat.{ℕ, _+_, _-_, _*_, _≤_}
 use native.Mathlib.Omega.{arith}
 use lib.ListN.{length}
 use Rattle.theory.proofs.RecordPlaceLaws.{one-back}
-use Rattle.lookup.proofs.ScanLaws.{First, first-start, first-next, first-end, first-offset, place-inside, length-part}
+use Rattle.memory.proofs.SliceLaws.{length-lent}
+use Rattle.lookup.proofs.ScanLaws.{First, first-start, first-next, first-end, first-offset, place-inside}
 use Rattle.lookup.proofs.scanning.scan_all.Statement.{statement}
 use Rattle.lookup.proofs.scanning.scan_all.Tie as tie
 
+record Behind (place key : List ℕ) (n room left at first : ℕ) : Type 0 where
+  first-is : First key n place room left first
+  here : at ≡ left * (length key + 4)
+  few : left ≤ room
+
 abbrev Inv-loop : tie.InvT-loop
-Inv-loop place n room key width size left₀ at₀ first₀ left at first = First key (length key) n place room left first × (at ≡ left * (length key + 4)) × (left ≤ room)
+Inv-loop place n room key width size left₀ at₀ first₀ left at first = Behind place key n room left at first
 
 abbrev μ-loop : tie.MeasureT-loop
 μ-loop place n room key width size left₀ at₀ first₀ left at first = left
 
-loop-holds : tie.Need-loop-holds Inv-loop μ-loop
-loop-holds c = (first-start (c .before .before .args .key .now) (length (c .before .before .args .key .now)) (c .before .before .args .n) (c .before .before .args .place .now) (c .before .before .args .room) (c .before .before .pre .3), refl, omega arith)
+-- ---- a place is left to compare
+module _ (c : tie.In-loop Inv-loop μ-loop) where
+  abbrev start : tie.Start Inv-loop μ-loop
+  start = c .before .before .before .before
 
-sub-at : tie.Need-sub-at Inv-loop μ-loop
-sub-at c = omega (arith, c .before .loop .inv .1, one-back (c .before .loop .left) (length (c .before .before .before .before .args .key .now) + 4) (c .loop-test .taken))
+  abbrev size : ℕ
+  size = length (start .args .key .now) + 4
 
-add-end : tie.Need-add-end Inv-loop μ-loop
-add-end c = omega (arith, c .before .loop .inv .1, one-back (c .before .loop .left) (length (c .before .before .before .before .args .key .now) + 4) (c .loop-test .taken), place-inside (c .before .loop .left) (c .before .before .before .before .args .room) (length (c .before .before .before .before .args .key .now) + 4) (length (c .before .before .before .before .args .place .now)) (c .loop-test .taken) (c .before .loop .inv .2) (c .before .before .before .before .pre .0))
+  one-before : c .before .loop .at ≡ (c .before .loop .left - 1) * size + size
+  one-before = c .before .loop .inv .here ∙ one-back (c .before .loop .left) size (c .loop-test .taken)
 
-sub-same-words : tie.Need-sub-same-words Inv-loop μ-loop
-sub-same-words c = omega (arith, c .before .loop .inv .1, one-back (c .before .loop .left) (length (c .before .before .before .before .args .key .now) + 4) (c .loop-test .taken), place-inside (c .before .loop .left) (c .before .before .before .before .args .room) (length (c .before .before .before .before .args .key .now) + 4) (length (c .before .before .before .before .args .place .now)) (c .loop-test .taken) (c .before .loop .inv .2) (c .before .before .before .before .pre .0))
+  inside : c .before .loop .at ≤ length (start .args .place .now)
+  inside = omega (arith, one-before, place-inside (start .pre) (c .before .loop .left - 1) (omega (arith, c .before .loop .inv .few)))
 
-part-same-words-start : tie.Need-part-same-words-start Inv-loop μ-loop
-part-same-words-start c = omega (arith, c .before .loop .inv .1, one-back (c .before .loop .left) (length (c .before .before .before .before .args .key .now) + 4) (c .loop-test .taken), place-inside (c .before .loop .left) (c .before .before .before .before .args .room) (length (c .before .before .before .before .args .key .now) + 4) (length (c .before .before .before .before .args .place .now)) (c .loop-test .taken) (c .before .loop .inv .2) (c .before .before .before .before .pre .0))
+-- ---- all places are compared
+module _ (c : tie.After-loop Inv-loop μ-loop) where
+  abbrev begin : tie.Start Inv-loop μ-loop
+  begin = c .before .before .before .before
 
-part-same-words-end : tie.Need-part-same-words-end Inv-loop μ-loop
-part-same-words-end c = omega (arith, c .before .loop .inv .1, one-back (c .before .loop .left) (length (c .before .before .before .before .args .key .now) + 4) (c .loop-test .taken), place-inside (c .before .loop .left) (c .before .before .before .before .args .room) (length (c .before .before .before .before .args .key .now) + 4) (length (c .before .before .before .before .args .place .now)) (c .loop-test .taken) (c .before .loop .inv .2) (c .before .before .before .before .pre .0))
+  abbrev From : ℕ → Type 0
+  From left = First (begin .args .key .now) (begin .args .n) (begin .args .place .now) (begin .args .room) left (c .before .loop .first)
+
+  all : From 0
+  all =
+      let none : c .before .loop .left ≡ 0 = omega (arith, c .loop-test .left) in
+      subst From none (c .before .loop .inv .first-is)
 
 same-words-requires : tie.Need-same-words-requires Inv-loop μ-loop
-same-words-requires c κs = (sym (length-part (c .before .before .before .before .before .args .place .now) (c .before .before .loop .at - (length (c .before .before .before .before .before .args .key .now) + 4)) (length (c .before .before .before .before .before .args .key .now)) (omega (arith, c .before .before .loop .inv .1, one-back (c .before .before .loop .left) (length (c .before .before .before .before .before .args .key .now) + 4) (c .before .loop-test .taken), place-inside (c .before .before .loop .left) (c .before .before .before .before .before .args .room) (length (c .before .before .before .before .before .args .key .now) + 4) (length (c .before .before .before .before .before .args .place .now)) (c .before .loop-test .taken) (c .before .before .loop .inv .2) (c .before .before .before .before .before .pre .0)))), c .before .before .before .before .before .pre .1)
+same-words-requires c κs =
+    let at = c .before in
+    let key = start at .args .key .now in
+    let back = length-lent (at .before .loop .at - size at) (length key) (start at .args .place .now) (omega (arith, one-before at, inside at)) in
+    (sym back, start at .pre .long)
 
 loop-again : tie.Need-loop-again Inv-loop μ-loop
-loop-again c = (
-  rw (c .pick .ensures)
-      (first-next (c .before .before .before .before .before .before .before .args .key .now) (length (c .before .before .before .before .before .before .before .args .key .now)) (c .before .before .before .before .before .before .before .args .n) (c .before .before .before .before .before .before .before .args .place .now) (c .before .before .before .before .before .before .before .args .room) (c .before .before .before .before .loop .left) (c .before .before .before .before .loop .first) (c .before .before .before .before .loop .at) (c .before .same-words .result) (c .before .before .before .before .loop .inv .0) (c .before .before .before .loop-test .taken) (c .before .before .before .before .loop .inv .1) (c .before .same-words .ensures)),
-  omega (arith, c .before .before .before .before .loop .inv .1, one-back (c .before .before .before .before .loop .left) (length (c .before .before .before .before .before .before .before .args .key .now) + 4) (c .before .before .before .loop-test .taken)),
-  omega (arith, c .before .before .before .before .loop .inv .2),
-)
-
-mul-t18 : tie.Need-mul-t18 Inv-loop μ-loop
-mul-t18 c =
-    let m = first-offset (c .before .before .before .before .before .args .key .now) (length (c .before .before .before .before .before .args .key .now)) (c .before .before .before .before .before .args .n) (c .before .before .before .before .before .args .place .now) (c .before .before .before .before .before .args .room) (c .before .before .loop .first) (c .before .before .before .before .before .pre .3) (c .before .before .before .before .before .pre .4) (c .before .before .before .before .before .pre .0) in
-    rw (c .pick2 .ensures) (omega (arith, m))
-
-add-pick : tie.Need-add-pick Inv-loop μ-loop
-add-pick c = omega (arith, c .before .before .loop .inv .0 .high, c .before .before .before .before .before .pre .5)
+loop-again c =
+    let at = c .before .before .before in
+    let l = at .before .loop in record {
+      first-is = rw (c .pick .ensures)
+          (first-next (l .inv .first-is) (at .loop-test .taken) (l .at) (l .inv .here) (c .before .same-words .result) (c .before .same-words .ensures));
+      here = omega (arith, one-before at);
+      few = omega (arith, l .inv .few);
+    }
 
 returns : tie.Need-returns Inv-loop μ-loop
 returns c =
-    let e : c .before .before .before .loop .left ≡ 0 = omega (arith, c .before .before .loop-test .left) in
-    let g = subst (λ (x : ℕ). First (c .before .before .before .before .before .before .args .key .now) (length (c .before .before .before .before .before .before .args .key .now)) (c .before .before .before .before .before .before .args .n) (c .before .before .before .before .before .before .args .place .now) (c .before .before .before .before .before .before .args .room) x (c .before .before .before .loop .first)) e (c .before .before .before .loop .inv .0) in
-    rw (c .before .pick2 .ensures, c .pick3 .ensures) (
-      first-end (c .before .before .before .before .before .before .args .key .now) (length (c .before .before .before .before .before .before .args .key .now)) (c .before .before .before .before .before .before .args .n) (c .before .before .before .before .before .before .args .place .now) (c .before .before .before .before .before .before .args .room) (c .before .before .before .loop .first) g (c .before .before .before .before .before .before .pre .0) (c .before .before .before .before .before .before .pre .3),
-      first-offset (c .before .before .before .before .before .before .args .key .now) (length (c .before .before .before .before .before .before .args .key .now)) (c .before .before .before .before .before .before .args .n) (c .before .before .before .before .before .before .args .place .now) (c .before .before .before .before .before .before .args .room) (c .before .before .before .loop .first) (c .before .before .before .before .before .before .pre .3) (c .before .before .before .before .before .before .pre .4) (c .before .before .before .before .before .before .pre .0),
-    )
+    let done = c .before .before in
+    rw (c .before .pick2 .ensures, c .pick3 .ensures)
+    (first-end (begin done .pre) (done .before .loop .first) (all done), first-offset (begin done .pre) (done .before .loop .first))
 
 pub scan-all-spec : {M : Type 1} → statement M
 scan-all-spec =
@@ -66,21 +77,21 @@ scan-all-spec =
     (tie.spec
     Inv-loop
     μ-loop
-    (λ c. omega (arith, c .before .before .pre .2))
-    (λ c. omega (arith, c .before .before .pre .0))
-    loop-holds
+    (λ c. omega (arith, c .before .before .pre .short))
+    (λ c. omega (arith, c .before .before .pre .fits))
+    (λ c. record { first-is = first-start (c .before .before .pre); here = refl; few = omega arith })
     (λ c. omega (arith, c .loop-test .taken))
-    sub-at
-    add-end
-    sub-same-words
-    part-same-words-start
-    part-same-words-end
+    (λ c. omega (arith, one-before c))
+    (λ c. omega (arith, one-before c, inside c))
+    (λ c. omega (arith, one-before c, inside c))
+    (λ c. omega (arith, one-before c, inside c))
+    (λ c. omega (arith, one-before c, inside c))
     same-words-requires
     (λ c κs. tt)
     (λ c. omega (arith, c .before .before .before .loop-test .taken))
     loop-again
     (λ c κs. tt)
-    mul-t18
-    add-pick
+    (λ c. rw (c .pick2 .ensures) (omega (arith, first-offset (begin (c .before) .pre) (c .before .before .loop .first))))
+    (λ c. omega (arith, all (c .before) .high, begin (c .before) .pre .most))
     (λ c κs. tt)
     returns)

@@ -1,57 +1,49 @@
--- `lookup::searching::compare_bucket` meets its contract: the part that is lent on is the bucket after its mark, and the key as wide as the settings say is the key.
-use mathlib.Core.Path.{sym, _∙_}
-use Prim.Native.Nat.{_-_}
-use native.Mathlib.Nat.{add-sub-cancel-left}
+-- `lookup::searching::compare_bucket` meets its contract: the part that is lent on is the bucket after its mark, and a key of the width is the key.
+use mathlib.Core.Path.{_≡_, refl, sym, ap, _∙_}
+use Prim.Native.Nat.{ℕ, _+_, _-_}
 use native.Mathlib.Omega.{arith}
-use lib.ListN.{length}
-use lib.Seq.{take-all}
-use Rattle.theory.specs.Lookup.{answer-at}
-use Rattle.theory.proofs.SettingsLaws.{ranges}
-use Rattle.settings.specs.Checked.{paper}
-use Rattle.settings.proofs.Laws.{bounds, width-is, width-most}
-use Rattle.lookup.proofs.PlaceLaws.{bucket-room}
 use borrow.Author.Needs.{needs}
+use lib.ListN.{take, drop}
+use lib.Seq.{take-all}
+use Rattle.theory.specs.Settings.{bucket-size}
+use Rattle.theory.specs.Lookup.{answer-at}
+use Rattle.memory.proofs.SliceLaws.{lent-is}
+use Rattle.settings.specs.Checked.{paper, card}
+use Rattle.settings.proofs.Laws.{bounds}
+use Rattle.lookup.proofs.PlaceLaws.{bucket-scannable}
 use Rattle.lookup.proofs.searching.compare_bucket.Statement.{statement}
 use Rattle.lookup.proofs.searching.compare_bucket.Tie as tie
 
-sub-end : tie.Need-sub-end
-sub-end c = let b = bounds (paper (c .before .before .before .args .s)) (c .before .before .before .pre .0) in omega (arith, c .bucket-size .ensures)
+-- ---- the size of a bucket and the width of a key are known
+module _ (c : tie.After-width) where
+  abbrev start : tie.Start
+  start = c .before .before .before .before
 
-slice-aggregate-compare-all : tie.Need-slice-aggregate-compare-all
-slice-aggregate-compare-all c =
-    let whole = take-all (c .before .before .width .result) (c .before .before .before .before .before .before .args .key .now) (omega (arith, c .before .before .width .ensures, c .before .before .before .before .before .before .pre .2)) in
-    rw whole (c .before .before .width .ensures ∙ sym (c .before .before .before .before .before .before .pre .2))
+  abbrev from : ℕ
+  from = start .args .from
 
-compare-all-requires : tie.Need-compare-all-requires
-compare-all-requires c κs =
-    let whole = take-all (c .before .before .width .result) (c .before .before .before .before .before .before .args .key .now) (omega (arith, c .before .before .width .ensures, c .before .before .before .before .before .before .pre .2)) in
-    let r = ranges (paper (c .before .before .before .before .before .before .args .s)) (c .before .before .before .before .before .before .pre .0) in
-    rw whole (
-      bucket-room (paper (c .before .before .before .before .before .before .args .s)) (c .before .before .before .before .before .before .pre .0) (length (c .before .before .before .before .before .before .args .key .now)) (c .before .before .before .before .before .before .args .s .room) (c .before .before .before .before .before .before .pre .2) (c .before .before .before .before .before .before .args .buckets .now) (c .before .before .before .before .before .before .args .from) (c .before .before .before .bucket-size .result) (c .before .before .before .bucket-size .ensures) (c .before .before .before .before .before .before .pre .3) (omega arith),
-      omega (arith, c .before .before .before .before .before .before .pre .2, width-is (paper (c .before .before .before .before .before .before .args .s))),
-      omega (arith, c .before .before .before .before .before .before .pre .2, width-most (paper (c .before .before .before .before .before .before .args .s))),
-      c .before .before .before .before .before .before .pre .4,
-      r .room-low,
-      omega (arith, r .room-high),
-    )
+  whole : take (c .width .result) (start .args .key .now) ≡ start .args .key .now
+  whole = take-all (c .width .result) (start .args .key .now) (omega (arith, c .width .ensures, start .pre .wide))
+
+  part : take (from + (c .before .bucket-size .result - 1) - from) (drop from (start .args .buckets .now))
+      ≡ take (bucket-size (card (start .args .s)) - 1) (drop from (start .args .buckets .now))
+  part = lent-is from _ _ _ (start .args .buckets .now) _ refl (ap (λ (z : ℕ). z - 1) (c .before .bucket-size .ensures)) refl
 
 returns : tie.Need-returns
 unfolding answer-at
-returns c =
-    let whole = take-all (c .before .before .before .width .result) (c .before .before .before .before .before .before .before .args .key .now) (omega (arith, c .before .before .before .width .ensures, c .before .before .before .before .before .before .before .pre .2)) in
-    rw (c .compare-all .ensures, whole, c .before .before .before .before .before .before .before .pre .2, add-sub-cancel-left (c .before .before .before .before .before .before .before .args .from) (c .before .before .before .before .bucket-size .result - 1), c .before .before .before .before .bucket-size .ensures)
+returns c = let at = c .before .before .before in rw (c .compare-all .ensures, whole at, start at .pre .wide, part at)
 
 pub compare-bucket-spec : {M : Type 1} → statement M
 compare-bucket-spec =
     tie.close
     (tie.spec
     (λ c κs. search needs)
-    sub-end
+    (λ c. let start = c .before .before .before in let b = bounds (paper (start .args .s)) (start .pre .ok) in omega (arith, c .bucket-size .ensures))
     (λ c. search needs)
     (λ c κs. search needs)
     (λ c. search needs)
     (λ c. search needs)
     (λ c. search needs)
-    slice-aggregate-compare-all
-    compare-all-requires
+    (λ c. let at = c .before .before in rw (whole at) (at .width .ensures ∙ sym (start at .pre .wide)))
+    (λ c κs. let at = c .before .before in rw (whole at, part at) (bucket-scannable (start at .pre)))
     returns)

@@ -1,48 +1,23 @@
 -- `lookup::searching::search` meets its contract: the refusals are judged first, then the answer is that of the areas by the key's own H.
-use mathlib.Core.Path.{sym, ap, _∙_}
-use Rattle.theory.specs.Settings.{Settings, card-of}
-use Rattle.theory.specs.Lookup.{bare, search-areas}
+use mathlib.Core.Path.{sym, _∙_}
+use borrow.Author.Needs.{needs}
+use Rattle.settings.specs.declared.Settings.{Settings}
 use Rattle.settings.specs.Checked.{paper, given-of}
 use Rattle.settings.proofs.Laws.{width-is}
-use Rattle.lookup.specs.Answers.{answer-of}
-use Rattle.lookup.proofs.JudgeLaws.{refused-is, fine, passes, search-performs}
-use Rattle.lookup.proofs.PlaceLaws.{hashed}
-use borrow.Author.Needs.{needs}
+use Rattle.lookup.proofs.JudgeLaws.{Unrefused, unrefused, search-refused, search-answered}
 use Rattle.lookup.proofs.searching.search.Statement.{statement}
 use Rattle.lookup.proofs.searching.search.Tie as tie
 
-h-rows-requires : tie.Need-h-rows-requires
-h-rows-requires c κs =
-    let start = c .before .before .before .before .before .before .before .before in
-    let judge = c .before .before .before .judge in
-    let judged2 = c .before .judged2 in
-    let g = fine (given-of (start .args .given)) (start .args .clipped .now) (start .args .buckets .now) (start .args .side .now) (start .args .key .now) (judged2 .given .0 .0) (sym (judge .ensures) ∙ judged2 .given .1) in g .wide ∙ width-is (paper (judged2 .given .0 .0))
+-- ---- nothing is refused
+module _ (c : tie.After-judged2) where
+  abbrev start : tie.Start
+  start = c .before .before .before .before .before .before .before
 
-search-at-requires : tie.Need-search-at-requires
-search-at-requires c κs =
-    let start = c .before .before .before .before .before .before .before .before .before in
-    let judge = c .before .before .before .before .judge in
-    let judged2 = c .before .before .judged2 in
-    let g = fine (given-of (start .args .given)) (start .args .clipped .now) (start .args .buckets .now) (start .args .side .now) (start .args .key .now) (judged2 .given .0 .0) (sym (judge .ensures) ∙ judged2 .given .1) in (g .lent, g .wide)
+  abbrev s : Settings
+  s = c .judged2 .given .0 .0
 
-returns : tie.Need-returns
-returns c =
-    let start = c .before .before .before .before .before .before .before .before .before in
-    let judge = c .before .before .before .before .judge in
-    let judged = c .before .before .judged in
-    search-performs (given-of (start .args .given)) (start .args .clipped .now) (start .args .buckets .now) (start .args .side .now) (start .args .key .now) (answer-of (c .bare .result)) (refused-is (given-of (start .args .given)) (start .args .clipped .now) (start .args .buckets .now) (start .args .side .now) (start .args .key .now) bare (search-areas (card-of (given-of (start .args .given))) (start .args .clipped .now) (start .args .buckets .now) (start .args .side .now) (start .args .key .now)) (judged .given .0 .0) (sym (judge .ensures) ∙ judged .given .1) ∙ sym (c .bare .ensures))
-
-returns-2 : tie.Need-returns-2
-returns-2 c =
-    let start = c .before .before .before .before .before .before .before .before .before .before in
-    let judge = c .before .before .before .before .before .judge in
-    let judged2 = c .before .before .before .judged2 in
-    let h-rows = c .before .h-rows in
-    let e = sym (judge .ensures) ∙ judged2 .given .1 in
-    let g = fine (given-of (start .args .given)) (start .args .clipped .now) (start .args .buckets .now) (start .args .side .now) (start .args .key .now) (judged2 .given .0 .0) e in
-    search-performs (given-of (start .args .given)) (start .args .clipped .now) (start .args .buckets .now) (start .args .side .now) (start .args .key .now) (answer-of (c .search-at .result))
-    (passes (given-of (start .args .given)) (start .args .clipped .now) (start .args .buckets .now) (start .args .side .now) (start .args .key .now) (judged2 .given .0 .0) e bare (search-areas (card-of (given-of (start .args .given))) (start .args .clipped .now) (start .args .buckets .now) (start .args .side .now) (start .args .key .now))
-    ∙ sym (c .search-at .ensures ∙ hashed (paper (judged2 .given .0 .0)) (start .args .clipped .now) (start .args .buckets .now) (start .args .side .now) (start .args .key .now) (h-rows .result) (h-rows .ensures) ∙ ap (λ (t : Settings). search-areas (card-of t) (start .args .clipped .now) (start .args .buckets .now) (start .args .side .now) (start .args .key .now)) (g .same)))
+  right : Unrefused (given-of (start .args .given)) (start .args .clipped .now) (start .args .buckets .now) (start .args .side .now) (start .args .key .now) s
+  right = unrefused _ _ _ _ _ s (sym (c .before .before .judge .ensures) ∙ c .judged2 .given .1)
 
 pub search-spec : {M : Type 1} → statement M
 search-spec =
@@ -52,7 +27,7 @@ search-spec =
     (λ c. search needs)
     (λ c κs. search needs)
     (λ c. search needs)
-    h-rows-requires
-    search-at-requires
-    returns
-    returns-2)
+    (λ c κs. right (c .before) .wide ∙ width-is (paper (s (c .before))))
+    (λ c κs. let at = c .before .before in (right at .checked, right at .wide))
+    (λ c. let at = c .before .before in search-refused _ _ _ _ _ _ (sym (at .before .before .judge .ensures) ∙ at .judged .given .1) _ (c .bare .ensures))
+    (λ c. search-answered (right (c .before .before .before)) _ (c .before .h-rows .ensures) _ (c .search-at .ensures)))
