@@ -22,8 +22,8 @@ use Rattle.theory.proofs.SnapshotLaws.{head, snapshot-is, length-head}
 use Rattle.settings.specs.declared.Settings.{Settings}
 use Rattle.settings.specs.Checked.{paper, card}
 use Rattle.memory.proofs.SliceLaws.{back, tail-is, tail-back, length-tail}
-use Rattle.ledger.proofs.LedgerLaws.{records-room, records-are}
-use Rattle.ledger.proofs.LedgerEditLaws.{few, listed, ends-within}
+use Rattle.ledger.proofs.LedgerLaws.{records-room, records-are, room-for}
+use Rattle.ledger.proofs.LedgerEditLaws.{few, listed}
 use Rattle.writing.proofs.JudgedLaws.{Permitted}
 use Rattle.writing.proofs.LentRecordLaws.{lent-records, lent-room, short-by}
 use Rattle.snapshot.specs.Files.{put-at, CountedLedger, Saving}
@@ -76,7 +76,7 @@ module _ {s : Settings} {a : List ℕ} {n : ℕ} (k : CountedLedger s a n) where
   -- ---- the records' bytes after the head, with the size of one
   module _ {size : ℕ} (sized : size ≡ record-size (card s)) where
     pub end-within : 2 + size * n ≤ length a
-    end-within = ends-within (card s) a (k .valid .size) (k .valid .rules) size n sized (k .count)
+    end-within = rw sized (room-for (card s) a (k .valid .size) n many)
 
     copied : All Byte a → take (2 + size * n - 2) (drop 2 a) ≡ flat record-bytes (ledger-records (card s) a)
     unfolding record-size
