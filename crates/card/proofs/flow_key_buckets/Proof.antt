@@ -90,17 +90,5 @@ pub flow-key-buckets-spec : {M : Type 1} → statement M
 flow-key-buckets-spec =
     tie.close
     (tie.spec
-    (λ c κs. search needs)
-    (λ c. search needs)
-    (λ c. search needs)
-    returns
-    returns-2
-    returns-3
-    returns-4
-    (λ c κs. search needs)
-    write-hashes-requires
-    numbers-of-requires
-    (λ c κs. search needs)
-    (λ c. search needs)
-    (λ c. search needs)
-    returns-5)
+    (λ c κs. search needs) (λ c. search needs) (λ c. search needs) returns returns-2 returns-3 returns-4 (λ c κs. search needs) write-hashes-requires
+    numbers-of-requires (λ c κs. search needs) (λ c. search needs) (λ c. search needs) returns-5)

@@ -9,7 +9,5 @@ pub ports-cut-spec : {M : Type 1} → statement M
 ports-cut-spec =
     tie.close
     (tie.spec
-    (λ c κs. search needs)
-    (λ c κs. search needs)
-    (λ c. search needs)
+    (λ c κs. search needs) (λ c κs. search needs) (λ c. search needs)
     (λ c. unfold ports-cut after-header in rw (c .before .has-ports .ensures, c .header-length .ensures, length-drop)))

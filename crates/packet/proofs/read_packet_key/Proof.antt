@@ -39,8 +39,6 @@ read-packet-key-spec =
     tie.close
     (tie.spec
     (λ c. let args = c .before .before .before .args in keyed-3 (args .packet .now) (args .buffer .now) (c .if1 .taken))
-    (λ c κs. search needs)
-    returns-2
+    (λ c κs. search needs) returns-2
     (λ c κs. (unrefused-right (packet (c .before .before)) (none (c .before)), c .before .before .before .if1 .left))
-    (λ c. search needs)
-    returns-3)
+    (λ c. search needs) returns-3)

@@ -62,14 +62,7 @@ pub tally-spec : {M : Type 1} → statement M
 tally-spec =
     tie.close
     (tie.spec
-    (λ c κs. search needs)
-    (λ c. search needs)
-    (λ c. search needs)
-    (λ c κs. search needs)
-    returns
-    (λ c κs. ok c)
-    (λ c κs. ok (c .before))
-    (λ c κs. search needs)
-    returns-2
+    (λ c κs. search needs) (λ c. search needs) (λ c. search needs) (λ c κs. search needs) returns (λ c κs. ok c) (λ c κs. ok (c .before))
+    (λ c κs. search needs) returns-2
     (λ c κs. tally-checked _ _ _ _ _ (judged (c .before)) (not-false _ (c .if1 .left)))
     returns-3)

@@ -23,10 +23,7 @@ pub write-decimal-spec : {M : Type 1} → statement M
 write-decimal-spec =
     tie.close
     (tie.spec
-    (λ c κs. search needs)
-    (λ c. omega (arith, start c .pre, few-digits (known c)))
-    (λ c. sym (digits-front (known (c .before))))
-    (λ c. search needs)
+    (λ c κs. search needs) (λ c. omega (arith, start c .pre, few-digits (known c))) (λ c. sym (digits-front (known (c .before)))) (λ c. search needs)
     (λ c. search needs)
     (λ c κs. digits-front (known (c .before .before)) ∙ c .before .before .decimal .ensures .0 .1)
     (λ c. let copied = c .before .before in decimal-inside (known (spelled copied)) _ (copied .copy .ensures))

@@ -123,24 +123,9 @@ update-checked-spec =
     (tie.spec
     (λ c κs. search needs)
     (λ c. updated-3 _ _ _ _ (λ w. c .if1 .taken (w ∙ sym (c .before .width .ensures))))
-    (λ c κs. search needs)
-    (λ c κs. search needs)
+    (λ c κs. search needs) (λ c κs. search needs)
     (λ c κs. (c .record-size .ensures ∙ size-is (card-of (t (asked c))) ∙ ap (λ (w : ℕ). w + 4) (sym (wide c)), small c))
-    (λ c. search needs)
-    (λ c. in-64 (c .before .before .before))
-    (λ c. sym (in-buffer (c .before .before .before .before)))
-    judge-requires
-    (λ c. search needs)
-    (λ c. search needs)
-    returns-2
-    (λ c. search needs)
-    (λ c. in-64 (opened (judged (good c))))
-    (λ c. sym (in-buffer (opened (judged (good (c .before))))))
-    write-new-requires
-    (λ c. search needs)
-    (λ c. search needs)
-    (λ c. search needs)
-    (λ c. search needs)
-    (λ c. search needs)
-    (λ c. search needs)
-    returns-3)
+    (λ c. search needs) (λ c. in-64 (c .before .before .before)) (λ c. sym (in-buffer (c .before .before .before .before))) judge-requires
+    (λ c. search needs) (λ c. search needs) returns-2 (λ c. search needs) (λ c. in-64 (opened (judged (good c))))
+    (λ c. sym (in-buffer (opened (judged (good (c .before)))))) write-new-requires (λ c. search needs) (λ c. search needs) (λ c. search needs)
+    (λ c. search needs) (λ c. search needs) (λ c. search needs) returns-3)

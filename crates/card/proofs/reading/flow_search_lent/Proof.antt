@@ -9,6 +9,5 @@ pub flow-search-lent-spec : {M : Type 1} → statement M
 flow-search-lent-spec =
     tie.close
     (tie.spec
-    (λ c κs. search needs)
-    (λ c κs. search needs)
+    (λ c κs. search needs) (λ c κs. search needs)
     (λ c. c .driver-number .ensures ∙ ap driver-number (c .before .search-with-table .ensures)))

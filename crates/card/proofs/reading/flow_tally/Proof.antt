@@ -40,6 +40,4 @@ flow-tally-spec =
     (λ c. let made = c .before .before in tallied-2 (call made) (totals made) (c .before .if1 .left) (c .if2 .taken))
     (λ c. let made = c .before .before .before in
     tallied-refused (call made) (totals made) (c .before .before .if1 .left) (c .before .if2 .left) (c .if3 .taken))
-    (λ c κs. search needs)
-    (λ c. search needs)
-    returns-4)
+    (λ c κs. search needs) (λ c. search needs) returns-4)

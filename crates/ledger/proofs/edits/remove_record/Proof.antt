@@ -72,11 +72,5 @@ remove-record-spec =
     (λ c. omega (arith, remove-room (place c) (start c .pre .1)))
     (λ c. omega (arith, remove-room (place c) (start c .pre .1)))
     (λ c κs. let room = remove-room (place (c .before)) (start (c .before) .pre .1) in (omega arith, room .1))
-    (λ c. search needs)
-    (λ c. search needs)
-    (λ c. omega (arith, room-left (c .before .before)))
-    (λ c κs. search needs)
-    sub-write-number
-    write-number-requires
-    (λ c. search needs)
-    returns)
+    (λ c. search needs) (λ c. search needs) (λ c. omega (arith, room-left (c .before .before))) (λ c κs. search needs) sub-write-number
+    write-number-requires (λ c. search needs) returns)

@@ -23,11 +23,7 @@ search-chosen-spec =
     tie.close
     (tie.spec
     (λ c κs. let pre = c .before .before .before .pre in (pre .checked, pre .fits))
-    (λ c. search needs)
-    (λ c κs. search needs)
-    (λ c. search needs)
-    (λ c κs. search needs)
-    (λ c. search needs)
+    (λ c. search needs) (λ c κs. search needs) (λ c. search needs) (λ c κs. search needs) (λ c. search needs)
     (λ c κs. in-bucket (looking (c .before .before .before)) (c .before .place .given .1))
     (λ c. search needs)
     (λ c κs. in-side (looking (c .before .before .before)) (c .before .place2 .given .1))

@@ -70,21 +70,8 @@ pub read-counters-spec : {M : Type 1} → statement M
 read-counters-spec =
     tie.close
     (tie.spec
-    Inv-loop
-    μ-loop
-    (λ c κs. c .before .pre .0)
-    (λ c κs. tt)
-    (λ c. omega (arith, top-small (c .before)))
+    Inv-loop μ-loop (λ c κs. c .before .pre .0) (λ c κs. tt) (λ c. omega (arith, top-small (c .before)))
     (λ c. omega (arith, top-small (c .before), m-small (c .before) .0))
-    (λ c. so-far-start _ (c .zero .ensures))
-    (λ c. omega (arith, m-small (counted c) .1))
-    counter-requires
-    (λ c κs. tt)
+    (λ c. so-far-start _ (c .zero .ensures)) (λ c. omega (arith, m-small (counted c) .1)) counter-requires (λ c κs. tt)
     (λ c κs. (omega (arith, c .before .counter .ensures .1), omega (arith, below (c .before .before))))
-    (λ c κs. tt)
-    (λ c. omega arith)
-    (λ c. omega arith)
-    loop-again
-    (λ c κs. tt)
-    (λ c κs. tt)
-    returns)
+    (λ c κs. tt) (λ c. omega arith) (λ c. omega arith) loop-again (λ c κs. tt) (λ c κs. tt) returns)

@@ -60,16 +60,7 @@ pub fetch-spec : {M : Type 1} → statement M
 fetch-spec =
     tie.close
     (tie.spec
-    (λ c κs. search needs)
-    (λ c. search needs)
+    (λ c κs. search needs) (λ c. search needs)
     (λ c. fetched-none _ _ _ _ _ _ (c .before .before .locate .ensures) (c .before .if1 .taken) _ refl)
-    (λ c. search needs)
-    add-end-2
-    (λ c. search needs)
-    (λ c. search needs)
-    (λ c. omega (arith, in-buckets (c .before) (c .if2 .taken)))
-    returns-2
-    (λ c. search needs)
-    (λ c. search needs)
-    (λ c. omega (arith, in-side (c .before) (c .if2 .left)))
-    returns-3)
+    (λ c. search needs) add-end-2 (λ c. search needs) (λ c. search needs) (λ c. omega (arith, in-buckets (c .before) (c .if2 .taken))) returns-2
+    (λ c. search needs) (λ c. search needs) (λ c. omega (arith, in-side (c .before) (c .if2 .left))) returns-3)

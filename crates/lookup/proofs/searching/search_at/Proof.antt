@@ -19,12 +19,7 @@ pub search-at-spec : {M : Type 1} → statement M
 search-at-spec =
     tie.close
     (tie.spec
-    (λ c κs. search needs)
-    (λ c. search needs)
-    (λ c κs. search needs)
-    (λ c. search needs)
-    (λ c κs. search needs)
-    (λ c. search needs)
+    (λ c κs. search needs) (λ c. search needs) (λ c κs. search needs) (λ c. search needs) (λ c κs. search needs) (λ c. search needs)
     (λ c κs. in-bucket (at (c .before .before .before) .looking) (c .before .place .given .1))
     (λ c. search needs)
     (λ c κs. in-side (at (c .before .before .before) .looking) (c .before .place2 .given .1))

@@ -17,5 +17,4 @@ read-ports-spec =
     (tie.spec
     (λ c. sym (four (c .before .before .before .before)))
     (λ c κs. let start = c .before .before .before .before in start .pre .1 ∙ sym (four start))
-    (λ c. search needs)
-    (λ c. search needs))
+    (λ c. search needs) (λ c. search needs))

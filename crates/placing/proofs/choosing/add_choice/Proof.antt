@@ -23,9 +23,5 @@ add-choice-spec =
     (tie.spec
     (λ c. λ b. rw (c .if1 .taken, add-zero))
     (λ c. let h = c .before .pre .0 (c .if1 .left) in omega (arith, h))
-    (λ c. c .before .before .pre .0 (c .before .if1 .left))
-    add-choosers
-    mul-choosers-2
-    (λ c. c .before .before .pre .0 (c .before .if1 .left))
-    (λ c. search needs)
-    returns-2)
+    (λ c. c .before .before .pre .0 (c .before .if1 .left)) add-choosers mul-choosers-2 (λ c. c .before .before .pre .0 (c .before .if1 .left))
+    (λ c. search needs) returns-2)

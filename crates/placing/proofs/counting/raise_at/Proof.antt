@@ -107,23 +107,9 @@ pub raise-at-spec : {M : Type 1} → statement M
 raise-at-spec =
     tie.close
     (tie.spec
-    Inv-loop
-    μ-loop
-    (λ c κs. search needs)
+    Inv-loop μ-loop (λ c κs. search needs)
     (λ c. record { within = omega arith; rest-is = rest-start _; same = refl; so-far = record { each = λ b. sym (add-zero _) } })
-    (λ c. omega (arith, some (made c)))
-    (λ c κs. omega (arith, some (made c)))
-    (λ c κs. tt)
-    (λ c. omega (arith, small c))
-    (λ c. omega (arith, below (at c), few (made (at c))))
-    (λ c. there (at (c .before)))
-    (λ c κs. tt)
-    raised-requires
-    (λ c κs. tt)
+    (λ c. omega (arith, some (made c))) (λ c κs. omega (arith, some (made c))) (λ c κs. tt) (λ c. omega (arith, small c))
+    (λ c. omega (arith, below (at c), few (made (at c)))) (λ c. there (at (c .before))) (λ c κs. tt) raised-requires (λ c κs. tt)
     (λ c. let picked = c .before .before .before .before in omega (arith, below (at picked), few (made (at picked))))
-    (λ c. there (at (c .before .before .before .before)))
-    (λ c. omega arith)
-    (λ c. omega arith)
-    loop-again
-    (λ c. c .before .loop .inv .same)
-    returns)
+    (λ c. there (at (c .before .before .before .before))) (λ c. omega arith) (λ c. omega arith) loop-again (λ c. c .before .loop .inv .same) returns)

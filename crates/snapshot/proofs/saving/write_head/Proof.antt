@@ -60,6 +60,4 @@ write-head-spec =
     (λ c κs. let r = small (to-start (to-1 (to-2 (to-3 (c .before .before .before))))) in search needs)
     (λ c κs. let r = small (to-start (to-1 (to-2 (to-3 (to-4 (c .before .before .before)))))) in search needs)
     (λ c κs. let r = small (to-start (to-1 (to-2 (to-3 (to-4 (to-5 (c .before .before .before))))))) in search needs)
-    (λ c κs. search needs)
-    (λ c. search needs)
-    returns)
+    (λ c κs. search needs) (λ c. search needs) returns)

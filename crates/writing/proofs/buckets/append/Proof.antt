@@ -37,16 +37,6 @@ pub append-spec : {M : Type 1} → statement M
 append-spec =
     tie.close
     (tie.spec
-    (λ c. search needs)
-    (λ c κs. search needs)
-    (λ c. omega (arith, place c))
-    (λ c. omega (arith, place c))
-    (λ c. omega (arith, place c))
-    (λ c. search needs)
-    (λ c. search needs)
-    (λ c. omega (arith, place c))
-    (λ c κs. search needs)
-    (λ c. search needs)
-    (λ c. search needs)
-    (λ c. search needs)
-    returns)
+    (λ c. search needs) (λ c κs. search needs) (λ c. omega (arith, place c)) (λ c. omega (arith, place c)) (λ c. omega (arith, place c))
+    (λ c. search needs) (λ c. search needs) (λ c. omega (arith, place c)) (λ c κs. search needs) (λ c. search needs) (λ c. search needs)
+    (λ c. search needs) returns)

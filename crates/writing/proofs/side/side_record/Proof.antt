@@ -120,18 +120,6 @@ side-record-spec =
     (tie.spec
     (λ c. search needs)
     (λ c. omega (arith, entry (c .before) .pre .1, kept-length (entry (c .before) .pre .0)))
-    aside-requires
-    returns
-    (λ c κs. search needs)
-    (λ c. omega (arith, inside c))
-    (λ c. omega (arith, inside c))
-    (λ c. omega (arith, place c))
-    (λ c. search needs)
-    (λ c. search needs)
-    (λ c. place c)
-    (λ c. search needs)
-    (λ c. search needs)
-    (λ c. inside (c .before))
-    (λ c κs. search needs)
-    (λ c. search needs)
-    returns-2)
+    aside-requires returns (λ c κs. search needs) (λ c. omega (arith, inside c)) (λ c. omega (arith, inside c)) (λ c. omega (arith, place c))
+    (λ c. search needs) (λ c. search needs) (λ c. place c) (λ c. search needs) (λ c. search needs) (λ c. inside (c .before)) (λ c κs. search needs)
+    (λ c. search needs) returns-2)
