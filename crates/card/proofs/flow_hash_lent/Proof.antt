@@ -30,6 +30,4 @@ returns-4 c =
 
 pub flow-hash-lent-spec : {M : Type 1} → statement M
 flow-hash-lent-spec =
-    tie.close
-    (tie.spec
-    returns returns-2 returns-3 (λ c κs. search needs) (λ c. search needs) (λ c. search needs) returns-4)
+    tie.close (tie.spec returns returns-2 returns-3 (λ c κs. search needs) (λ c. search needs) (λ c. search needs) returns-4)

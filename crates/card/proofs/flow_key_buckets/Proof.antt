@@ -67,9 +67,6 @@ returns-4 c =
     let e = start known in
     key-buckets-3 (asked e) (key e) (hashes e) (numbers e) (told known .0) (c .before .before .if1 .left) (c .before .if2 .left) (c .if3 .taken)
 
-write-hashes-requires : tie.Need-write-hashes-requires
-write-hashes-requires c κs = let tested = c .before .before .before .before in (limits (tested .before) .p-high, tested .if1 .left)
-
 numbers-of-requires : tie.Need-numbers-of-requires
 numbers-of-requires c κs = let here = limits (c .before .before .before .before .before .before .before .before) in (omega arith, omega arith)
 
@@ -88,7 +85,6 @@ returns-5 c =
 
 pub flow-key-buckets-spec : {M : Type 1} → statement M
 flow-key-buckets-spec =
-    tie.close
-    (tie.spec
-    (λ c κs. search needs) (λ c. search needs) (λ c. search needs) returns returns-2 returns-3 returns-4 (λ c κs. search needs) write-hashes-requires
+    tie.close (tie.spec
+    (λ c κs. search needs) (λ c. search needs) (λ c. search needs) returns returns-2 returns-3 returns-4 (λ c κs. search needs) (λ c κs. let tested = c .before .before .before .before in (limits (tested .before) .p-high, tested .if1 .left))
     numbers-of-requires (λ c κs. search needs) (λ c. search needs) (λ c. search needs) returns-5)

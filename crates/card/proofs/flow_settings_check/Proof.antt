@@ -8,8 +8,6 @@ use Rattle.card.proofs.flow_settings_check.Tie as tie
 
 pub flow-settings-check-spec : {M : Type 1} → statement M
 flow-settings-check-spec =
-    tie.close
-    (tie.spec
-    (λ c κs. search needs) (λ c. search needs) (λ c. search needs)
+    tie.close (tie.spec (λ c κs. search needs) (λ c. search needs) (λ c. search needs)
     (λ c. ap number-of (sym (c .enum-told .given .1) ∙ c .before .before .new .ensures) ∙ settings-check _)
     (λ c. ap number-of (sym (c .enum-told2 .given .1) ∙ c .before .before .new .ensures) ∙ settings-check _))

@@ -16,13 +16,10 @@ one-shl p h = shl-exact {a = 1} 1 p 64 (lit< tt) (omega arith) ∙ one-mul (2 ^ 
 fits : (x p : ℕ) → p ≤ 12 → x % ((1 * 2 ^ p) % 2 ^ 64) < 2 ^ 16
 fits x p h = subst⁻¹ (λ (n : ℕ). x % n < 2 ^ 16) (one-shl p h) (lt-of-lt-of-le (mod-lt x (pow-pos p)) (pow-mono {i = p} {j = 16} (omega arith)))
 
-rem-result : tie.Need-rem-result
-rem-result c = subst⁻¹ (λ (n : ℕ). 0 < n) (one-shl (c .args .p) (omega arith)) (pow-pos (c .args .p))
-
 returns : tie.Need-returns
 unfolding hash
 returns c = ap (λ (n : ℕ). (c .args .h / 2 ^ (16 * c .args .j)) % n) (one-shl (c .args .p) (omega arith))
 
 pub hash-at-spec : {M : Type 1} → statement M
-hash-at-spec = tie.close (tie.spec (λ c. search needs) (λ c. search needs) (λ c. search needs) rem-result
+hash-at-spec = tie.close (tie.spec (λ c. search needs) (λ c. search needs) (λ c. search needs) (λ c. subst⁻¹ (λ (n : ℕ). 0 < n) (one-shl (c .args .p) (omega arith)) (pow-pos (c .args .p)))
     (λ c. record { fits = fits _ (c .args .p) (omega arith) }) returns)

@@ -22,9 +22,6 @@ Inv-loop h p k at₀ count₀ j₀ at count j =
 abbrev μ-loop : tie.MeasureT-loop
 μ-loop h p k at₀ count₀ j₀ at count j = k - j
 
-slice-aggregate-among : tie.Need-slice-aggregate-among Inv-loop μ-loop
-slice-aggregate-among c = let l = c .before .before .before .loop in sym (length-take-le (l .count) (l .at) (omega arith))
-
 loop-again : tie.Need-loop-again Inv-loop μ-loop
 loop-again c =
     let in-loop = c .before .before .before .before in
@@ -62,7 +59,6 @@ returns c =
 
 pub numbers-of-spec : {M : Type 1} → statement M
 numbers-of-spec =
-    tie.close
-    (tie.spec
-    Inv-loop μ-loop (λ c. (omega arith, omega arith, refl, refl, refl)) (λ c κs. search needs) (λ c. search needs) slice-aggregate-among
+    tie.close (tie.spec
+    Inv-loop μ-loop (λ c. (omega arith, omega arith, refl, refl, refl)) (λ c κs. search needs) (λ c. search needs) (λ c. let l = c .before .before .before .loop in sym (length-take-le (l .count) (l .at) (omega arith)))
     (λ c κs. search needs) (λ c. search needs) (λ c. search needs) (λ c. search needs) (λ c. search needs) (λ c. search needs) loop-again returns)

@@ -39,8 +39,6 @@ returns c =
 
 pub repeats-spec : {M : Type 1} → statement M
 repeats-spec =
-    tie.close
-    (tie.spec
-    Inv-loop μ-loop
+    tie.close (tie.spec Inv-loop μ-loop
     (λ c. record { within = omega arith; rest-is = rest-start _; so-far = refl })
     (λ c. c .before .before .pre) (λ c. omega arith) (λ c. omega arith) loop-again returns)

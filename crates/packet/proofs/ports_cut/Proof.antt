@@ -7,7 +7,5 @@ use Rattle.packet.proofs.ports_cut.Tie as tie
 
 pub ports-cut-spec : {M : Type 1} → statement M
 ports-cut-spec =
-    tie.close
-    (tie.spec
-    (λ c κs. search needs) (λ c κs. search needs) (λ c. search needs)
+    tie.close (tie.spec (λ c κs. search needs) (λ c κs. search needs) (λ c. search needs)
     (λ c. unfold ports-cut after-header in rw (c .before .has-ports .ensures, c .header-length .ensures, length-drop)))

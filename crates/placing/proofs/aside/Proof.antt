@@ -22,6 +22,4 @@ returns-2 c =
 
 pub aside-spec : {M : Type 1} → statement M
 aside-spec =
-    tie.close
-    (tie.spec
-    (λ c κs. search needs) returns (λ c. search needs) (λ c. search needs) (λ c. search needs) (λ c κs. search needs) returns-2)
+    tie.close (tie.spec (λ c κs. search needs) returns (λ c. search needs) (λ c. search needs) (λ c. search needs) (λ c κs. search needs) returns-2)

@@ -52,17 +52,13 @@ module _ (c : tie.After-areas-right) where
       (eqb (length (at .args .ledger .now)) (c .before .ledger-length .result) && c .areas-right .result)
   judged = judged-by _ _ _ _ _ (s known) (fine known .0) (fine known .1) _ (c .before .ledger-length .ensures) _ (c .areas-right .ensures)
 
-returns-2 : tie.Need-returns-2
-returns-2 c = tally-2 _ _ _ _ _ (judged (c .before .before)) (not-true _ (c .before .if1 .taken)) _ (c .no-totals2 .ensures)
-
 returns-3 : tie.Need-returns-3
 returns-3 c = tally-on _ _ _ _ _ (judged (c .before .before)) (not-false _ (c .before .if1 .left)) _ (c .tally-checked .ensures)
 
 pub tally-spec : {M : Type 1} → statement M
 tally-spec =
-    tie.close
-    (tie.spec
+    tie.close (tie.spec
     (λ c κs. search needs) (λ c. search needs) (λ c. search needs) (λ c κs. search needs) returns (λ c κs. ok c) (λ c κs. ok (c .before))
-    (λ c κs. search needs) returns-2
+    (λ c κs. search needs) (λ c. tally-2 _ _ _ _ _ (judged (c .before .before)) (not-true _ (c .before .if1 .taken)) _ (c .no-totals2 .ensures))
     (λ c κs. tally-checked _ _ _ _ _ (judged (c .before)) (not-false _ (c .if1 .left)))
     returns-3)

@@ -119,9 +119,7 @@ returns-3 c =
 
 pub update-checked-spec : {M : Type 1} → statement M
 update-checked-spec =
-    tie.close
-    (tie.spec
-    (λ c κs. search needs)
+    tie.close (tie.spec (λ c κs. search needs)
     (λ c. updated-3 _ _ _ _ (λ w. c .if1 .taken (w ∙ sym (c .before .width .ensures))))
     (λ c κs. search needs) (λ c κs. search needs)
     (λ c κs. (c .record-size .ensures ∙ size-is (card-of (t (asked c))) ∙ ap (λ (w : ℕ). w + 4) (sym (wide c)), small c))

@@ -7,7 +7,5 @@ use Rattle.card.proofs.reading.flow_search_lent.Tie as tie
 
 pub flow-search-lent-spec : {M : Type 1} → statement M
 flow-search-lent-spec =
-    tie.close
-    (tie.spec
-    (λ c κs. search needs) (λ c κs. search needs)
+    tie.close (tie.spec (λ c κs. search needs) (λ c κs. search needs)
     (λ c. c .driver-number .ensures ∙ ap driver-number (c .before .search-with-table .ensures)))

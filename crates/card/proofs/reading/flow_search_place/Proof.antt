@@ -7,7 +7,5 @@ use Rattle.card.proofs.reading.flow_search_place.Tie as tie
 
 pub flow-search-place-spec : {M : Type 1} → statement M
 flow-search-place-spec =
-    tie.close
-    (tie.spec
-    (λ c κs. search needs) (λ c κs. search needs) (λ c. search needs)
+    tie.close (tie.spec (λ c κs. search needs) (λ c κs. search needs) (λ c. search needs)
     (λ c. c .before .before .give-place .ensures ∙ placed _ _ _ _ _ _ _ (c .before .before .before .before .locate .ensures)))

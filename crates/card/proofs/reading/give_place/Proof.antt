@@ -44,7 +44,6 @@ returns-4 c =
 
 pub give-place-spec : {M : Type 1} → statement M
 give-place-spec =
-    tie.close
-    (tie.spec
+    tie.close (tie.spec
     (λ c κs. search needs) returns (λ c κs. search needs) (λ c κs. search needs) returns-2 (λ c κs. search needs) returns-3 (λ c. search needs)
     (λ c. search needs) (λ c κs. search needs) (λ c. search needs) returns-4)

@@ -9,6 +9,4 @@ returns c = four-stored (c .args .totals .now) (c .args .x .«in_buckets») (c .
 
 pub write-totals-spec : {M : Type 1} → statement M
 write-totals-spec =
-    tie.close
-    (tie.spec
-    (λ c. search needs) (λ c. search needs) (λ c. search needs) (λ c. search needs) (λ c. search needs) returns)
+    tie.close (tie.spec (λ c. search needs) (λ c. search needs) (λ c. search needs) (λ c. search needs) (λ c. search needs) returns)

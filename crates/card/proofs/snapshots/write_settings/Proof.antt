@@ -13,7 +13,5 @@ returns c =
 
 pub write-settings-spec : {M : Type 1} → statement M
 write-settings-spec =
-    tie.close
-    (tie.spec
-    (λ c. search needs) (λ c. search needs) (λ c. search needs) (λ c. search needs) (λ c. simp length-set (omega arith))
+    tie.close (tie.spec (λ c. search needs) (λ c. search needs) (λ c. search needs) (λ c. search needs) (λ c. simp length-set (omega arith))
     (λ c. simp length-set (omega arith)) (λ c. search needs) returns)

@@ -33,8 +33,6 @@ returns c =
 
 pub close-gap-spec : {M : Type 1} → statement M
 close-gap-spec =
-    tie.close
-    (tie.spec
-    Inv-loop μ-loop (λ c. omega arith)
+    tie.close (tie.spec Inv-loop μ-loop (λ c. omega arith)
     (λ c. record { after = omega arith; until = omega arith; long = refl; is = down-start (c .args .area .now) (c .args .size) (c .args .from) })
     (λ c. omega arith) (λ c. omega arith) (λ c. omega arith) (λ c. omega arith) (λ c. omega arith) loop-again (λ c. omega arith) returns)

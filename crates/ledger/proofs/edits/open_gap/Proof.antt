@@ -33,8 +33,6 @@ returns c =
 
 pub open-gap-spec : {M : Type 1} → statement M
 open-gap-spec =
-    tie.close
-    (tie.spec
-    Inv-loop μ-loop
+    tie.close (tie.spec Inv-loop μ-loop
     (λ c. record { after = omega arith; until = omega arith; long = refl; is = up-start (c .args .area .now) (c .args .size) (c .args .to) })
     (λ c. omega arith) (λ c. omega arith) (λ c. omega arith) (λ c. omega arith) (λ c. omega arith) loop-again (λ c. omega arith) returns)

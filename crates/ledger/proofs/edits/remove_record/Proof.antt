@@ -62,9 +62,7 @@ returns c =
 
 pub remove-record-spec : {M : Type 1} → statement M
 remove-record-spec =
-    tie.close
-    (tie.spec
-    (λ c κs. let start = c .before .before in has-count (card (start .args .s)) (start .args .ledger .now) (start .pre .0 .size))
+    tie.close (tie.spec (λ c κs. let start = c .before .before in has-count (card (start .args .s)) (start .args .ledger .now) (start .pre .0 .size))
     (λ c κs. search needs)
     (λ c. omega (arith, remove-room (place c) (start c .pre .1)))
     (λ c. omega (arith, remove-room (place c) (start c .pre .1)))

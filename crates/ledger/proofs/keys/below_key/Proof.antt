@@ -43,9 +43,7 @@ module _ (c : tie.Else1 Inv-loop μ-loop) where
 
 pub below-key-spec : {M : Type 1} → statement M
 below-key-spec =
-    tie.close
-    (tie.spec
-    Inv-loop μ-loop (λ c. (omega arith, refl)) (λ c. omega arith) (λ c. omega arith)
+    tie.close (tie.spec Inv-loop μ-loop (λ c. (omega arith, refl)) (λ c. omega arith) (λ c. omega arith)
     (λ c. sym (here (c .before .before .before) ∙ rw (lt-ltb _ _ (c .if1 .taken))))
     (λ c. omega arith) (λ c. omega arith)
     (λ c. sym (not-below (c .before .before .before) ∙ rw (ne-eqb _ _ (c .if2 .taken))))

@@ -66,9 +66,7 @@ returns-3 c =
 
 pub keys-rise-spec : {M : Type 1} → statement M
 keys-rise-spec =
-    tie.close
-    (tie.spec
-    Inv-loop μ-loop
+    tie.close (tie.spec Inv-loop μ-loop
     (λ c. let start = c .before .before in sym (rising-end (list start) 0 (omega (arith, long start))))
     (λ c. omega (arith, row-room (row (c .before .before) 0 (omega arith))))
     (λ c. omega arith) (λ c. (omega arith, refl)) (λ c. omega arith) (λ c κs. omega (arith, row-room (this c)))

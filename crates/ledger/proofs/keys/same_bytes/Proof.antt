@@ -34,9 +34,7 @@ module _ (c : tie.In-loop Inv-loop μ-loop) where
 
 pub same-bytes-spec : {M : Type 1} → statement M
 same-bytes-spec =
-    tie.close
-    (tie.spec
-    Inv-loop μ-loop (λ c. (omega arith, refl)) (λ c. omega arith) (λ c. omega arith)
+    tie.close (tie.spec Inv-loop μ-loop (λ c. (omega arith, refl)) (λ c. omega arith) (λ c. omega arith)
     (λ c. sym (here (c .before .before .before) ∙ rw (ne-eqb _ _ (c .if1 .taken))))
     (λ c. omega arith) (λ c. omega arith)
     (λ c. (omega arith, sym (here (c .before .before .before) ∙ rw (eq-eqb _ _ (c .if1 .left)))))

@@ -82,9 +82,7 @@ returns-2 c =
 
 pub find-spot-spec : {M : Type 1} → statement M
 find-spot-spec =
-    tie.close
-    (tie.spec
-    Inv-loop μ-loop (λ c. omega arith)
+    tie.close (tie.spec Inv-loop μ-loop (λ c. omega arith)
     (λ c. let start = c .before .before in halving-start (list start) (key start) (start .args .n) (long start) (start .pre .1))
     (λ c. omega (arith, halves c .order)) (λ c. omega (arith, middle-row c .listed)) (λ c κs. omega (arith, row-room (middle-row c)))
     (λ c κs. ap length (c .key-at .ensures) ∙ row-wide (middle-row (c .before)))

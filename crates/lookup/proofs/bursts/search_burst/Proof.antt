@@ -57,9 +57,7 @@ returns-2 c =
 
 pub search-burst-spec : {M : Type 1} → statement M
 search-burst-spec =
-    tie.close
-    (tie.spec
-    (λ c κs. search needs) (λ c. search needs) (λ c. search needs)
+    tie.close (tie.spec (λ c κs. search needs) (λ c. search needs) (λ c. search needs)
     (λ c κs. let right = right (c .before .before) in (right .table-size, right .keys-size))
     (λ c κs. let right = right (c .before .before .before .before .before .before) in (right .checked .ok, right .checked .clipped-size))
     answer-all-requires

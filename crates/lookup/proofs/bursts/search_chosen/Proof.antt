@@ -20,9 +20,7 @@ module _ (c : tie.After-place-by) where
 
 pub search-chosen-spec : {M : Type 1} → statement M
 search-chosen-spec =
-    tie.close
-    (tie.spec
-    (λ c κs. let pre = c .before .before .before .pre in (pre .checked, pre .fits))
+    tie.close (tie.spec (λ c κs. let pre = c .before .before .before .pre in (pre .checked, pre .fits))
     (λ c. search needs) (λ c κs. search needs) (λ c. search needs) (λ c κs. search needs) (λ c. search needs)
     (λ c κs. in-bucket (looking (c .before .before .before)) (c .before .place .given .1))
     (λ c. search needs)

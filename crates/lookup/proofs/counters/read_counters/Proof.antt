@@ -48,10 +48,6 @@ module _ (c : tie.In-loop Inv-loop μ-loop) where
       let pos : 0 < counted .buckets .result = omega (arith, p .1) in
       omega (arith, mod-lt (c .before .loop .rest) pos, p .0)
 
-counter-requires : tie.Need-counter-requires Inv-loop μ-loop
-counter-requires c κs =
-    counter-there (all (counted c)) _ (c .before .loop .j) _ (is-hash (c .before .loop .inv))
-
 loop-again : tie.Need-loop-again Inv-loop μ-loop
 loop-again c =
     let ranked = c .before in
@@ -68,10 +64,8 @@ returns c =
 
 pub read-counters-spec : {M : Type 1} → statement M
 read-counters-spec =
-    tie.close
-    (tie.spec
-    Inv-loop μ-loop (λ c κs. c .before .pre .0) (λ c κs. tt) (λ c. omega (arith, top-small (c .before)))
+    tie.close (tie.spec Inv-loop μ-loop (λ c κs. c .before .pre .0) (λ c κs. tt) (λ c. omega (arith, top-small (c .before)))
     (λ c. omega (arith, top-small (c .before), m-small (c .before) .0))
-    (λ c. so-far-start _ (c .zero .ensures)) (λ c. omega (arith, m-small (counted c) .1)) counter-requires (λ c κs. tt)
+    (λ c. so-far-start _ (c .zero .ensures)) (λ c. omega (arith, m-small (counted c) .1)) (λ c κs. counter-there (all (counted c)) _ (c .before .loop .j) _ (is-hash (c .before .loop .inv))) (λ c κs. tt)
     (λ c κs. (omega (arith, c .before .counter .ensures .1), omega (arith, below (c .before .before))))
     (λ c κs. tt) (λ c. omega arith) (λ c. omega arith) loop-again (λ c κs. tt) (λ c κs. tt) returns)

@@ -39,9 +39,6 @@ module _ (c : tie.Else1) where
   in-side : (found .area ≡ 1 → ⊥) → found .start + 17 ≤ length (start .args .side .now)
   in-side n = inside false (ne-eqb (found .area) 1 n)
 
-add-end-2 : tie.Need-add-end-2
-add-end-2 c = by-test (eqb (found c .area) 1) (λ e. omega (arith, inside c true e)) (λ e. omega (arith, inside c false e))
-
 returns-2 : tie.Need-returns-2
 returns-2 c =
     let at = c .before .before in
@@ -58,9 +55,7 @@ returns-3 c =
 
 pub fetch-spec : {M : Type 1} → statement M
 fetch-spec =
-    tie.close
-    (tie.spec
-    (λ c κs. search needs) (λ c. search needs)
+    tie.close (tie.spec (λ c κs. search needs) (λ c. search needs)
     (λ c. fetched-none _ _ _ _ _ _ (c .before .before .locate .ensures) (c .before .if1 .taken) _ refl)
-    (λ c. search needs) add-end-2 (λ c. search needs) (λ c. search needs) (λ c. omega (arith, in-buckets (c .before) (c .if2 .taken))) returns-2
+    (λ c. search needs) (λ c. by-test (eqb (found c .area) 1) (λ e. omega (arith, inside c true e)) (λ e. omega (arith, inside c false e))) (λ c. search needs) (λ c. search needs) (λ c. omega (arith, in-buckets (c .before) (c .if2 .taken))) returns-2
     (λ c. search needs) (λ c. search needs) (λ c. omega (arith, in-side (c .before) (c .if2 .left))) returns-3)

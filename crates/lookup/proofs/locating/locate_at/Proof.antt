@@ -111,8 +111,7 @@ returns-4 c =
 
 pub locate-at-spec : {M : Type 1} → statement M
 locate-at-spec =
-    tie.close
-    (tie.spec
+    tie.close (tie.spec
     (λ c κs. search needs) (λ c κs. search needs) place-by-requires (λ c. search needs) (λ c κs. search needs) (λ c κs. search needs)
     (λ c. search needs) (λ c κs. search needs) (λ c κs. search needs) (λ c. search needs)
     (λ c κs. in-bucket (found (c .before .before .before) .looking) (c .before .place .given .1))

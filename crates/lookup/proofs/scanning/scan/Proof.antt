@@ -49,8 +49,7 @@ loop-again c =
 
 pub scan-spec : {M : Type 1} → statement M
 scan-spec =
-    tie.close
-    (tie.spec
+    tie.close (tie.spec
     Inv-loop μ-loop (λ c. scanning-start (c .before .before .pre)) (λ c. omega (arith, inside c)) (λ c. omega arith) (λ c. omega (arith, inside c))
     (λ c. omega (arith, inside c)) same-key-requires
     (λ c. omega (arith, turn (c .before) .before .loop .inv .count))

@@ -73,9 +73,7 @@ returns c =
 
 pub scan-all-spec : {M : Type 1} → statement M
 scan-all-spec =
-    tie.close
-    (tie.spec
-    Inv-loop μ-loop (λ c. omega (arith, c .before .before .pre .short)) (λ c. omega (arith, c .before .before .pre .fits))
+    tie.close (tie.spec Inv-loop μ-loop (λ c. omega (arith, c .before .before .pre .short)) (λ c. omega (arith, c .before .before .pre .fits))
     (λ c. record { first-is = first-start (c .before .before .pre); here = refl; few = omega arith })
     (λ c. omega (arith, c .loop-test .taken)) (λ c. omega (arith, one-before c)) (λ c. omega (arith, one-before c, inside c))
     (λ c. omega (arith, one-before c, inside c)) (λ c. omega (arith, one-before c, inside c)) (λ c. omega (arith, one-before c, inside c))

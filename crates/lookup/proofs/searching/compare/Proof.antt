@@ -17,9 +17,7 @@ returns c =
 
 pub compare-spec : {M : Type 1} → statement M
 compare-spec =
-    tie.close
-    (tie.spec
-    (λ c κs. search needs) (λ c. search needs)
+    tie.close (tie.spec (λ c κs. search needs) (λ c. search needs)
     (λ c. omega (arith, c .before .before .before .scan .ensures .room (c .before .if1 .taken)))
     (λ c κs. omega (arith, c .before .before .before .scan .ensures .room (c .before .if1 .taken)))
     returns

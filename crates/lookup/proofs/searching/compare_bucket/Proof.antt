@@ -35,9 +35,7 @@ returns c = let at = c .before .before .before in rw (c .compare-all .ensures, w
 
 pub compare-bucket-spec : {M : Type 1} → statement M
 compare-bucket-spec =
-    tie.close
-    (tie.spec
-    (λ c κs. search needs)
+    tie.close (tie.spec (λ c κs. search needs)
     (λ c. let start = c .before .before .before in let b = bounds (paper (start .args .s)) (start .pre .ok) in omega (arith, c .bucket-size .ensures))
     (λ c. search needs) (λ c κs. search needs) (λ c. search needs) (λ c. search needs) (λ c. search needs)
     (λ c. let at = c .before .before in rw (whole at) (at .width .ensures ∙ sym (start at .pre .wide)))

@@ -17,8 +17,7 @@ module _ (c : tie.After-find-place) where
 
 pub search-at-spec : {M : Type 1} → statement M
 search-at-spec =
-    tie.close
-    (tie.spec
+    tie.close (tie.spec
     (λ c κs. search needs) (λ c. search needs) (λ c κs. search needs) (λ c. search needs) (λ c κs. search needs) (λ c. search needs)
     (λ c κs. in-bucket (at (c .before .before .before) .looking) (c .before .place .given .1))
     (λ c. search needs)

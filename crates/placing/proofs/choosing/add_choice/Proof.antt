@@ -6,12 +6,6 @@ use Rattle.placing.proofs.CountingLaws.{raise}
 use Rattle.placing.proofs.choosing.add_choice.Statement.{statement}
 use Rattle.placing.proofs.choosing.add_choice.Tie as tie
 
-add-choosers : tie.Need-add-choosers
-add-choosers c = omega (arith, c .before .before .pre .1 (c .before .before .args .choice .bucket))
-
-mul-choosers-2 : tie.Need-mul-choosers-2
-mul-choosers-2 c = let h = c .before .before .pre .0 (c .before .if1 .left) in omega (arith, h)
-
 returns-2 : tie.Need-returns-2
 returns-2 c =
     let args = c .before .before .args in
@@ -19,9 +13,7 @@ returns-2 c =
 
 pub add-choice-spec : {M : Type 1} → statement M
 add-choice-spec =
-    tie.close
-    (tie.spec
-    (λ c. λ b. rw (c .if1 .taken, add-zero))
+    tie.close (tie.spec (λ c. λ b. rw (c .if1 .taken, add-zero))
     (λ c. let h = c .before .pre .0 (c .if1 .left) in omega (arith, h))
-    (λ c. c .before .before .pre .0 (c .before .if1 .left)) add-choosers mul-choosers-2 (λ c. c .before .before .pre .0 (c .before .if1 .left))
+    (λ c. c .before .before .pre .0 (c .before .if1 .left)) (λ c. omega (arith, c .before .before .pre .1 (c .before .before .args .choice .bucket))) (λ c. let h = c .before .before .pre .0 (c .before .if1 .left) in omega (arith, h)) (λ c. c .before .before .pre .0 (c .before .if1 .left))
     (λ c. search needs) returns-2)

@@ -82,9 +82,7 @@ returns c =
 
 pub choose-at-spec : {M : Type 1} → statement M
 choose-at-spec =
-    tie.close
-    (tie.spec
-    Inv-loop μ-loop (λ c κs. search needs) (λ c. omega (arith, top-few c)) (λ c. omega (arith, top-few c, few c))
+    tie.close (tie.spec Inv-loop μ-loop (λ c κs. search needs) (λ c. omega (arith, top-few c)) (λ c. omega (arith, top-few c, few c))
     (λ c. record { within = omega arith; rest-is = rest-start _; so-far = refl })
     (λ c. omega (arith, some (made c))) (λ c. omega (arith, there c, few (made c)))
     (λ c. omega (arith, there (c .before), made (c .before) .buckets .ensures))

@@ -170,9 +170,7 @@ returns c = let loop = c .before .loop in chose-all _ _ _ _ _ _ _ _ (loop .kept)
 
 pub choose-more-spec : {M : Type 1} → statement M
 choose-more-spec =
-    tie.close
-    (tie.spec
-    Inv-loop μ-loop (λ c κs. search needs) (λ c κs. search needs) loop-holds halved
+    tie.close (tie.spec Inv-loop μ-loop (λ c κs. search needs) (λ c κs. search needs) loop-holds halved
     (λ c. sym (length-take-le (m (sized (c .before))) (work (c .before)) (halved (c .before))))
     (λ c κs. key-inside (sizes (sized (c .before))) _ _ (area (sized (c .before))) (start (sized (c .before)) .pre .there) (c .before .loop-test .taken))
     choose-requires (λ c κs. tt) (λ c. omega (arith, small c, few (sized (at c)))) (λ c. search needs)

@@ -105,9 +105,7 @@ returns c =
 
 pub raise-at-spec : {M : Type 1} → statement M
 raise-at-spec =
-    tie.close
-    (tie.spec
-    Inv-loop μ-loop (λ c κs. search needs)
+    tie.close (tie.spec Inv-loop μ-loop (λ c κs. search needs)
     (λ c. record { within = omega arith; rest-is = rest-start _; same = refl; so-far = record { each = λ b. sym (add-zero _) } })
     (λ c. omega (arith, some (made c))) (λ c κs. omega (arith, some (made c))) (λ c κs. tt) (λ c. omega (arith, small c))
     (λ c. omega (arith, below (at c), few (made (at c)))) (λ c. there (at (c .before))) (λ c κs. tt) raised-requires (λ c κs. tt)

@@ -8,12 +8,9 @@ use Rattle.settings.specs.Checked.{paper}
 use Rattle.settings.proofs.Settings.buckets.Statement.{statement}
 use Rattle.settings.proofs.Settings.buckets.Tie as tie
 
-shl-result : tie.Need-shl-result
-shl-result c = let limits = ranges (paper (c .args .self)) (c .pre) in omega arith
-
 returns : tie.Need-returns
 unfolding card-of
 returns c = let limits = ranges (paper (c .args .self)) (c .pre) in rw one-mul (mod-eq-of-lt (pow-lt {j = 64} (omega arith)))
 
 pub buckets-spec : {M : Type 1} → statement M
-buckets-spec = tie.close (tie.spec shl-result returns)
+buckets-spec = tie.close (tie.spec (λ c. let limits = ranges (paper (c .args .self)) (c .pre) in omega arith) returns)

@@ -143,8 +143,7 @@ returns-3 c =
 
 pub load-checked-spec : {M : Type 1} → statement M
 load-checked-spec =
-    tie.close
-    (tie.spec
+    tie.close (tie.spec
     (λ c κs. let pre = c .before .before .before .before .before .before .before .before .pre in (pre .ready .ok, head-long _ (pre .head)))
     (λ c κs. search needs) returns (λ c. omega (arith, long (c .before))) (λ c. omega (arith, long (c .before))) (λ c. search needs) count-at-requires
     (λ c κs. search needs) (λ c. long (judged (c .before))) (λ c. long (judged (c .before))) (λ c. search needs) (λ c. search needs)

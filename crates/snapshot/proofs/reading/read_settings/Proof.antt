@@ -19,7 +19,6 @@ returns c =
 
 pub read-settings-spec : {M : Type 1} → statement M
 read-settings-spec =
-    tie.close
-    (tie.spec
+    tie.close (tie.spec
     (λ c κs. search needs) (λ c κs. search needs) (λ c κs. search needs) (λ c κs. search needs) (λ c κs. search needs) (λ c κs. search needs)
     (λ c κs. search needs) returns)

@@ -60,9 +60,7 @@ returns-2 c =
 
 pub refusal-by-file-spec : {M : Type 1} → statement M
 refusal-by-file-spec =
-    tie.close
-    (tie.spec
-    (λ c. search needs) (λ c. search needs) (λ c. search needs) (λ c κs. search needs)
+    tie.close (tie.spec (λ c. search needs) (λ c. search needs) (λ c. search needs) (λ c κs. search needs)
     (λ c. let n = c .before .before in file-8 (t n) (file n) (count-is n) (c .if1 .taken))
     (λ c κs. search needs) (λ c. omega (arith, small c)) (λ c. omega (arith, small c)) returns-2 (λ c. search needs) (λ c. search needs)
     (λ c. search needs) (λ c κs. search needs)

@@ -113,8 +113,7 @@ returns c =
 
 pub place-new-spec : {M : Type 1} → statement M
 place-new-spec =
-    tie.close
-    (tie.spec
+    tie.close (tie.spec
     (λ c κs. search needs) (λ c. omega (arith, start c .pre .place)) (λ c κs. search needs) (λ c. omega (arith, after-within (around c)))
     (λ c. omega (arith, after-within (around c))) (λ c. from-within (around c)) (λ c κs. search needs) (λ c. omega (arith, in-kept c))
     (λ c. omega (arith, in-kept c)) (λ c. search needs) (λ c. search needs) (λ c. search needs)

@@ -112,9 +112,7 @@ returns c =
 
 pub write-new-spec : {M : Type 1} → statement M
 write-new-spec =
-    tie.close
-    (tie.spec
-    edit-ledger-requires
+    tie.close (tie.spec edit-ledger-requires
     (λ c. let e = e (c .before .before .before) in sym (length-take-le (e .args .plan .count) (e .args .kept .now) (plan-kept (e .pre .planned))))
     (λ c. has-two (listed c)) (λ c. has-two (listed (c .before))) (λ c. search needs) write-areas-requires (λ c. search needs) (λ c. search needs)
     (λ c. search needs) (λ c. search needs) (λ c. search needs) returns)

@@ -126,9 +126,7 @@ append-requires c κs =
 
 pub place-record-spec : {M : Type 1} → statement M
 place-record-spec =
-    tie.close
-    (tie.spec
-    (λ c. search needs) (λ c. is-kept (entry (c .before)))
+    tie.close (tie.spec (λ c. search needs) (λ c. is-kept (entry (c .before)))
     (λ c. omega (arith, choice-most (entry (c .before)), entry (c .before) .fits .m))
     (λ c κs. let laying = entry (c .before) .pre .0 in (laying .buckets, laying .work-length, choice-most (entry (c .before))))
     returns (λ c κs. search needs) (λ c. omega (arith, inside c)) (λ c. omega (arith, inside c)) (λ c κs. search needs)

@@ -50,9 +50,7 @@ returns c =
 
 pub write-clipped-spec : {M : Type 1} → statement M
 write-clipped-spec =
-    tie.close
-    (tie.spec
-    Inv-loop μ-loop
+    tie.close (tie.spec Inv-loop μ-loop
     (λ c. (omega arith, refl, clipped-none (c .before .before .args .top) (nth (c .before .before .args .counts .now))))
     (λ c. search needs) (λ c. search needs)
     (λ c. let h : 2 * c .before .loop .i < length (c .before .before .before .before .args .counts .now) = omega arith in search needs)
