@@ -21,22 +21,8 @@ use Rattle.hash.proofs.KeyHashLaws.{by-right}
 use Rattle.hash.proofs.DigitLaws.{table-entries-right}
 use Rattle.hash.proofs.TableLaws.{length-allowed}
 use Rattle.card.proofs.AreaLaws.{counted-is}
-use Rattle.card.specs.Doors.{
-  Filled,
-  refused,
-  filled,
-  settings-check-of,
-  lengths-of,
-  area-lengths-of,
-  hash-table-of,
-  hash-as,
-  hash-of,
-  hash-lent-of,
-  Numbered,
-  first-hashes,
-  counted,
-  key-buckets-of,
-}
+use Rattle.card.specs.Doors.{Filled, refused, filled, settings-check-of, lengths-of, area-lengths-of, hash-table-of, hash-as, hash-of, hash-lent-of}
+use Rattle.card.specs.Doors.{Numbered, first-hashes, counted, key-buckets-of}
 
 module _ (t : Settings) where
   -- the number of what checking the settings answers

@@ -6,19 +6,8 @@ use lib.Dec.{eqb}
 use lib.ListN.{length, replicate}
 use Rattle.theory.specs.Lists.{has, upto}
 use Rattle.theory.specs.Hash.{H, hash}
-use Rattle.theory.specs.Settings.{
-  Settings,
-  allowed,
-  Card,
-  card-of,
-  key-width,
-  ledger-length,
-  true-length,
-  clipped-length,
-  buckets-length,
-  side-length,
-  work-length,
-}
+use Rattle.theory.specs.Settings.{Settings, allowed, Card, card-of, key-width, ledger-length, true-length, clipped-length, buckets-length, side-length}
+use Rattle.theory.specs.Settings.{work-length}
 use Rattle.hash.specs.Digits.{table-length, table-entries}
 use Rattle.hash.specs.Table.{table-lengths, H-by}
 

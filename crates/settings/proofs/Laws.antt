@@ -7,18 +7,8 @@ use native.Mathlib.Nat.{suc-mul, mul-le-mul, mul-le-mul-right}
 use native.Mathlib.Omega.{arith}
 use lib.Pow.{pow-mono}
 use Rattle.theory.specs.Settings as plain
-use Rattle.theory.specs.Settings.{
-  allowed,
-  card-of,
-  record-size,
-  bucket-size,
-  ledger-length,
-  true-length,
-  clipped-length,
-  buckets-length,
-  side-length,
-  work-length,
-}
+use Rattle.theory.specs.Settings.{allowed, card-of, record-size, bucket-size, ledger-length, true-length, clipped-length, buckets-length, side-length}
+use Rattle.theory.specs.Settings.{work-length}
 use Rattle.theory.proofs.SettingsLaws.{ranges, sound}
 use Rattle.settings.specs.declared.Settings.{Settings}
 use Rattle.settings.specs.declared.Checked.{Checked}

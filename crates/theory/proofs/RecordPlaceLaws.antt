@@ -14,28 +14,8 @@ use Rattle.theory.specs.Lists.{any, all}
 use Rattle.theory.specs.Records.{Record, record-at, entries, records, count-of, same-key, find, comparisons, find-bytes}
 use Rattle.theory.specs.Settings.{Card, record-size, bucket-size, buckets-length, side-length}
 use Rattle.theory.specs.Placing.{all-top, chosen}
-use Rattle.theory.specs.Lookup.{
-  Answer,
-  answer,
-  counter,
-  Place,
-  invalid,
-  nowhere,
-  among,
-  no-place,
-  bucket-part,
-  side-place,
-  bucket-place,
-  by-counters,
-  reads-bucket,
-  goes-to-bucket,
-  place,
-  answer-at,
-  part-at,
-  search-areas,
-  fetch-areas,
-  record-place,
-}
+use Rattle.theory.specs.Lookup.{Answer, answer, counter, Place, invalid, nowhere, among, no-place, bucket-part, side-place, bucket-place, by-counters}
+use Rattle.theory.specs.Lookup.{reads-bucket, goes-to-bucket, place, answer-at, part-at, search-areas, fetch-areas, record-place}
 use Rattle.theory.proofs.ListLaws.{by-test, and-left, all-map, all-cong, any-none}
 use Rattle.theory.proofs.ByteLaws.{length-records}
 use Rattle.theory.proofs.SettingsLaws.{Sound}

@@ -54,5 +54,4 @@ returns-3 c =
 pub flow-area-lengths-spec : {M : Type 1} → statement M
 flow-area-lengths-spec =
     tie.close (tie.spec (λ c κs. search needs) (λ c. search needs) (λ c. search needs) returns returns-2
-    (λ c κs. (permitted (c .before .before), c .before .if1 .left))
-    (λ c. search needs) returns-3)
+    (λ c κs. (permitted (c .before .before), c .before .if1 .left)) (λ c. search needs) returns-3)

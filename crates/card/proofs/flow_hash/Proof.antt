@@ -24,5 +24,4 @@ returns-3 c =
     (hash-0 _ (start .args .key .now) (start .args .h .now) (if1 .left) (c .before .if2 .left))
 
 pub flow-hash-spec : {M : Type 1} → statement M
-flow-hash-spec =
-    tie.close (tie.spec returns returns-2 (λ c κs. search needs) (λ c. search needs) (λ c. search needs) returns-3)
+flow-hash-spec = tie.close (tie.spec returns returns-2 (λ c κs. search needs) (λ c. search needs) (λ c. search needs) returns-3)

@@ -29,5 +29,4 @@ returns-4 c =
     (hash-0 _ (args .key .now) (args .h .now) one (c .before .if3 .left) ∙ lent-long (args .lent .now) _ _ (c .before .before .before .if1 .left))
 
 pub flow-hash-lent-spec : {M : Type 1} → statement M
-flow-hash-lent-spec =
-    tie.close (tie.spec returns returns-2 returns-3 (λ c κs. search needs) (λ c. search needs) (λ c. search needs) returns-4)
+flow-hash-lent-spec = tie.close (tie.spec returns returns-2 returns-3 (λ c κs. search needs) (λ c. search needs) (λ c. search needs) returns-4)

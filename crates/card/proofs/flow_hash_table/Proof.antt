@@ -11,4 +11,5 @@ returns-2 c =
     rw (filled .fill-table .ensures) (hash-table-0 (tested .before .before .args .table .now) (tested .if1 .left))
 
 pub flow-hash-table-spec : {M : Type 1} → statement M
-flow-hash-table-spec = tie.close (tie.spec (λ c. hash-table-2 (c .before .before .args .table .now) (c .if1 .taken)) (λ c κs. search needs) (λ c. search needs) returns-2)
+flow-hash-table-spec =
+    tie.close (tie.spec (λ c. hash-table-2 (c .before .before .args .table .now) (c .if1 .taken)) (λ c κs. search needs) (λ c. search needs) returns-2)

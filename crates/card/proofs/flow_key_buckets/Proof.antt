@@ -85,6 +85,6 @@ returns-5 c =
 
 pub flow-key-buckets-spec : {M : Type 1} → statement M
 flow-key-buckets-spec =
-    tie.close (tie.spec
-    (λ c κs. search needs) (λ c. search needs) (λ c. search needs) returns returns-2 returns-3 returns-4 (λ c κs. search needs) (λ c κs. let tested = c .before .before .before .before in (limits (tested .before) .p-high, tested .if1 .left))
-    numbers-of-requires (λ c κs. search needs) (λ c. search needs) (λ c. search needs) returns-5)
+    tie.close (tie.spec (λ c κs. search needs) (λ c. search needs) (λ c. search needs) returns returns-2 returns-3 returns-4 (λ c κs. search needs)
+    (λ c κs. let tested = c .before .before .before .before in (limits (tested .before) .p-high, tested .if1 .left)) numbers-of-requires
+    (λ c κs. search needs) (λ c. search needs) (λ c. search needs) returns-5)

@@ -18,5 +18,4 @@ returns c =
     (rw (c5 .if-set5 .ensures, c6 .if-set6 .ensures, c7 .if-set7 .ensures, c .if-set8 .ensures, xor-zero-r))
 
 pub byte-rows-spec : {M : Type 1} → statement M
-byte-rows-spec =
-    tie.close (tie.spec (λ c κs. tt) (λ c κs. tt) (λ c κs. tt) (λ c κs. tt) (λ c κs. tt) (λ c κs. tt) (λ c κs. tt) (λ c κs. tt) returns)
+byte-rows-spec = tie.close (tie.spec (λ c κs. tt) (λ c κs. tt) (λ c κs. tt) (λ c κs. tt) (λ c κs. tt) (λ c κs. tt) (λ c κs. tt) (λ c κs. tt) returns)

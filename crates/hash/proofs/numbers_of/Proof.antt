@@ -59,6 +59,6 @@ returns c =
 
 pub numbers-of-spec : {M : Type 1} → statement M
 numbers-of-spec =
-    tie.close (tie.spec
-    Inv-loop μ-loop (λ c. (omega arith, omega arith, refl, refl, refl)) (λ c κs. search needs) (λ c. search needs) (λ c. let l = c .before .before .before .loop in sym (length-take-le (l .count) (l .at) (omega arith)))
-    (λ c κs. search needs) (λ c. search needs) (λ c. search needs) (λ c. search needs) (λ c. search needs) (λ c. search needs) loop-again returns)
+    tie.close (tie.spec Inv-loop μ-loop (λ c. (omega arith, omega arith, refl, refl, refl)) (λ c κs. search needs) (λ c. search needs)
+    (λ c. let l = c .before .before .before .loop in sym (length-take-le (l .count) (l .at) (omega arith))) (λ c κs. search needs) (λ c. search needs)
+    (λ c. search needs) (λ c. search needs) (λ c. search needs) (λ c. search needs) loop-again returns)

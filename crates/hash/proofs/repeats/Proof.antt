@@ -39,6 +39,5 @@ returns c =
 
 pub repeats-spec : {M : Type 1} → statement M
 repeats-spec =
-    tie.close (tie.spec Inv-loop μ-loop
-    (λ c. record { within = omega arith; rest-is = rest-start _; so-far = refl })
-    (λ c. c .before .before .pre) (λ c. omega arith) (λ c. omega arith) loop-again returns)
+    tie.close (tie.spec Inv-loop μ-loop (λ c. record { within = omega arith; rest-is = rest-start _; so-far = refl }) (λ c. c .before .before .pre)
+    (λ c. omega arith) (λ c. omega arith) loop-again returns)

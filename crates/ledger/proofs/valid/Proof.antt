@@ -94,7 +94,7 @@ returns-3 c =
 
 pub valid-spec : {M : Type 1} → statement M
 valid-spec =
-    tie.close (tie.spec
-    (λ c κs. has-two (c .before)) returns (λ c. has-two (c .before .before .before .before)) (λ c. has-two (c .before .before .before .before))
-    (λ c. search needs) (λ c κs. search needs) keys-rise-requires returns-2 (λ c κs. search needs) (λ c. omega (arith, after-records c))
-    (λ c. omega (arith, after-records c)) (λ c. after-records c) (λ c. after-records c) (λ c. search needs) (λ c κs. search needs) returns-3)
+    tie.close (tie.spec (λ c κs. has-two (c .before)) returns (λ c. has-two (c .before .before .before .before))
+    (λ c. has-two (c .before .before .before .before)) (λ c. search needs) (λ c κs. search needs) keys-rise-requires returns-2 (λ c κs. search needs)
+    (λ c. omega (arith, after-records c)) (λ c. omega (arith, after-records c)) (λ c. after-records c) (λ c. after-records c) (λ c. search needs)
+    (λ c κs. search needs) returns-3)

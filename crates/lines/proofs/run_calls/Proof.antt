@@ -107,7 +107,6 @@ returns c = ran-end _ _ _ _ _ _ _ _ _ _ (omega (arith, c .before .loop .inv .mos
 
 pub run-calls-spec : {M : Type 1} → statement M
 run-calls-spec =
-    tie.close (tie.spec
-    Inv-loop μ-loop (λ c. omega arith) loop-holds (λ c κs. omega arith) (λ c. omega arith) (λ c. omega arith) (λ c. omega arith) run-call-requires
-    (λ c. omega arith) (λ c. omega arith) (λ c. omega arith) (λ c. omega arith) loop-again (λ c. search needs) (λ c. search needs) (λ c. search needs)
-    (λ c. search needs) (λ c. search needs) (λ c. search needs) (λ c. search needs) returns)
+    tie.close (tie.spec Inv-loop μ-loop (λ c. omega arith) loop-holds (λ c κs. omega arith) (λ c. omega arith) (λ c. omega arith) (λ c. omega arith)
+    run-call-requires (λ c. omega arith) (λ c. omega arith) (λ c. omega arith) (λ c. omega arith) loop-again (λ c. search needs) (λ c. search needs)
+    (λ c. search needs) (λ c. search needs) (λ c. search needs) (λ c. search needs) (λ c. search needs) returns)

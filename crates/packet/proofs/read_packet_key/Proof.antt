@@ -37,6 +37,5 @@ returns-3 c =
 pub read-packet-key-spec : {M : Type 1} → statement M
 read-packet-key-spec =
     tie.close (tie.spec (λ c. let args = c .before .before .before .args in keyed-3 (args .packet .now) (args .buffer .now) (c .if1 .taken))
-    (λ c κs. search needs) returns-2
-    (λ c κs. (unrefused-right (packet (c .before .before)) (none (c .before)), c .before .before .before .if1 .left))
+    (λ c κs. search needs) returns-2 (λ c κs. (unrefused-right (packet (c .before .before)) (none (c .before)), c .before .before .before .if1 .left))
     (λ c. search needs) returns-3)

@@ -14,8 +14,7 @@ right c = sym (c .before .header-wrong .ensures) ∙ c .if1 .left
 
 pub refusal-spec : {M : Type 1} → statement M
 refusal-spec =
-    tie.close (tie.spec (λ c κs. search needs)
-    (λ c. unfold refusal-of in rw (sym (c .before .header-wrong .ensures) ∙ c .if1 .taken))
+    tie.close (tie.spec (λ c κs. search needs) (λ c. unfold refusal-of in rw (sym (c .before .header-wrong .ensures) ∙ c .if1 .taken))
     (λ c κs. header-right (c .before .before .before .args .packet .now) (right c))
     (λ c. unfold refusal-of in rw (right (c .before .before), sym (c .before .ports-cut .ensures) ∙ c .if2 .taken))
     (λ c. unfold refusal-of in rw (right (c .before .before), sym (c .before .ports-cut .ensures) ∙ c .if2 .left)))

@@ -29,9 +29,6 @@ module _ (c : tie.After-header-length) where
 
 pub write-ports-spec : {M : Type 1} → statement M
 write-ports-spec =
-    tie.close (tie.spec
-    (λ c κs. search needs) (λ c κs. search needs) (λ c. search needs) returns (λ c κs. search needs) (λ c. search needs) (λ c. search needs)
-    (λ c. search needs)
-    (λ c κs. (ports-fit (known (c .before .before)), start (c .before .before) .pre .1))
-    (λ c. search needs)
+    tie.close (tie.spec (λ c κs. search needs) (λ c κs. search needs) (λ c. search needs) returns (λ c κs. search needs) (λ c. search needs)
+    (λ c. search needs) (λ c. search needs) (λ c κs. (ports-fit (known (c .before .before)), start (c .before .before) .pre .1)) (λ c. search needs)
     (λ c. c .before .before .read-ports .ensures ∙ ports-lent (known (c .before .before .before .before .before))))

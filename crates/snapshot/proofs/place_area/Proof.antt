@@ -80,6 +80,5 @@ side-need-requires c κs =
 pub place-area-spec : {M : Type 1} → statement M
 place-area-spec =
     tie.close (tie.spec (λ c. start c .pre .choices) (λ c. sym (lent-long (c .before))) place-parts-requires (λ c. kept-back (placing c) .room)
-    (λ c. let place = placing (c .before) in sym (ap length (kept-back place .first) ∙ kept-back place .long))
-    side-need-requires (λ c. search needs) (λ c. search needs)
-    (λ c. let place = placing (c .before .before) in (c .side-need .ensures _ (placed place), placed place)))
+    (λ c. let place = placing (c .before) in sym (ap length (kept-back place .first) ∙ kept-back place .long)) side-need-requires (λ c. search needs)
+    (λ c. search needs) (λ c. let place = placing (c .before .before) in (c .side-need .ensures _ (placed place), placed place)))

@@ -26,10 +26,8 @@ returns c =
 pub count-all-spec : {M : Type 1} → statement M
 count-all-spec =
     tie.close (tie.spec (λ c κs. let pre = c .before .before .before .pre in (pre .0 .ok, pre .0 .buckets-size))
-    (λ c κs. omega (arith, start c .pre .0 .side-size, bound c .side-least))
-    (λ c. search needs)
-    (λ c κs. omega (arith, start (c .before) .pre .1, bound (c .before) .ledger-least))
-    (λ c κs. start (c .before .before) .pre .0 .ok)
+    (λ c κs. omega (arith, start c .pre .0 .side-size, bound c .side-least)) (λ c. search needs)
+    (λ c κs. omega (arith, start (c .before) .pre .1, bound (c .before) .ledger-least)) (λ c κs. start (c .before .before) .pre .0 .ok)
     (λ c κs. let b = bound (c .before .before .before) in record {
       few = omega (arith, c .before .count-at2 .ensures .1);
       least = omega (arith, c .buckets .ensures);

@@ -19,4 +19,5 @@ unfolding fill-of
 returns c = refl
 
 pub fill-spec : {M : Type 1} → statement M
-fill-spec = tie.close (tie.spec (λ c. search needs) (λ c. search needs) (λ c. search needs) (λ c. search needs) (λ c. quotient-fits _ _ (omega arith)) returns)
+fill-spec =
+    tie.close (tie.spec (λ c. search needs) (λ c. search needs) (λ c. search needs) (λ c. search needs) (λ c. quotient-fits _ _ (omega arith)) returns)

@@ -39,5 +39,4 @@ returns-3 c =
 pub lookup-valid-spec : {M : Type 1} → statement M
 lookup-valid-spec =
     tie.close (tie.spec (λ c κs. search needs) returns (λ c κs. search needs) returns-2
-    (λ c κs. let pre = start (c .before) .pre in omega (arith, pre .side-size, bounds _ (pre .ok) .side-least))
-    returns-3)
+    (λ c κs. let pre = start (c .before) .pre in omega (arith, pre .side-size, bounds _ (pre .ok) .side-least)) returns-3)

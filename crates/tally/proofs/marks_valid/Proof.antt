@@ -32,7 +32,6 @@ marks-valid-spec =
     tie.close (tie.spec Inv-loop μ-loop (λ c κs. c .before .pre .0) (λ c κs. c .before .before .pre .0) (λ c. any-start)
     (λ c. omega (arith, mark-there (rows (c .before .before)) _ (c .loop-test .taken)))
     (λ c. mark-there (rows (c .before .before .before)) _ (c .before .loop-test .taken) .0)
-    (λ c. let at = c .before .before in omega (arith, c .shared-slice-known2 .given (at .loop .b * at .before .bucket-size .result)))
-    returns (λ c. omega arith) (λ c. omega arith)
-    (λ c. let at = c .before .before in any-on (at .before .loop .inv) (at .loop-test .taken) (c .if1 .left))
+    (λ c. let at = c .before .before in omega (arith, c .shared-slice-known2 .given (at .loop .b * at .before .bucket-size .result))) returns
+    (λ c. omega arith) (λ c. omega arith) (λ c. let at = c .before .before in any-on (at .before .loop .inv) (at .loop-test .taken) (c .if1 .left))
     (λ c. rw (marks-any (rows (c .before .before)), any-over (c .before .loop .inv) (c .loop-test .left))))

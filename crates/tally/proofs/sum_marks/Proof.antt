@@ -74,5 +74,5 @@ sum-marks-spec =
     tie.close (tie.spec Inv-loop μ-loop (λ c κs. c .before .pre .0) (λ c κs. c .before .before .pre .0)
     (λ c. record { few = omega arith; records = omega arith; marked = omega arith })
     (λ c. omega (arith, mark-there (rows (c .before .before)) _ (c .loop-test .taken)))
-    (λ c. mark-there (rows (c .before .before .before)) _ (c .before .loop-test .taken) .0)
-    with-mark-requires (λ c. omega arith) (λ c. omega arith) loop-again returns)
+    (λ c. mark-there (rows (c .before .before .before)) _ (c .before .loop-test .taken) .0) with-mark-requires (λ c. omega arith) (λ c. omega arith)
+    loop-again returns)

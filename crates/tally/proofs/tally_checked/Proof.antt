@@ -55,5 +55,4 @@ returns-3 c = let judged = c .before .before in rw (c .count-all .ensures, rules
 pub tally-checked-spec : {M : Type 1} → statement M
 tally-checked-spec =
     tie.close (tie.spec (λ c κs. search needs) (λ c κs. search needs) returns (λ c κs. search needs) (λ c κs. search needs) returns-2
-    (λ c κs. let pre = start (at (c .before)) .pre in (places-of (pre .0), pre .1))
-    returns-3)
+    (λ c κs. let pre = start (at (c .before)) .pre in (places-of (pre .0), pre .1)) returns-3)

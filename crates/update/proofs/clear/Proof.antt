@@ -54,7 +54,6 @@ returns-3 c =
 pub clear-spec : {M : Type 1} → statement M
 clear-spec =
     tie.close (tie.spec (λ c κs. search needs) (λ c. search needs) (λ c. search needs)
-    (λ c. clears-1 _ _ (refused-arm _ _ (c .before .before .new .ensures) (c .enum-told .given .1)))
-    (λ c κs. permits (allowed-as c))
-    (λ c. clears-2 (allowed-as (c .before .before)) _ (c .before .lengths-right .ensures) (not-true _ (c .if1 .taken)))
-    clear-areas-requires (λ c. search needs) (λ c. search needs) (λ c. search needs) (λ c. search needs) (λ c. search needs) returns-3)
+    (λ c. clears-1 _ _ (refused-arm _ _ (c .before .before .new .ensures) (c .enum-told .given .1))) (λ c κs. permits (allowed-as c))
+    (λ c. clears-2 (allowed-as (c .before .before)) _ (c .before .lengths-right .ensures) (not-true _ (c .if1 .taken))) clear-areas-requires
+    (λ c. search needs) (λ c. search needs) (λ c. search needs) (λ c. search needs) (λ c. search needs) returns-3)

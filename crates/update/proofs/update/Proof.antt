@@ -84,7 +84,6 @@ returns-3 c =
 
 pub update-spec : {M : Type 1} → statement M
 update-spec =
-    tie.close (tie.spec
-    (λ c κs. search needs) (λ c. search needs) (λ c. search needs) returns (λ c κs. permits (allowed-as c)) (λ c κs. permits (allowed-as (c .before)))
-    returns-2 (λ c κs. search needs) (λ c. search needs) update-checked-requires (λ c. search needs) (λ c. search needs) (λ c. search needs)
-    (λ c. search needs) (λ c. search needs) (λ c. search needs) returns-3)
+    tie.close (tie.spec (λ c κs. search needs) (λ c. search needs) (λ c. search needs) returns (λ c κs. permits (allowed-as c))
+    (λ c κs. permits (allowed-as (c .before))) returns-2 (λ c κs. search needs) (λ c. search needs) update-checked-requires (λ c. search needs)
+    (λ c. search needs) (λ c. search needs) (λ c. search needs) (λ c. search needs) (λ c. search needs) returns-3)

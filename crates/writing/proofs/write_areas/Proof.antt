@@ -69,6 +69,5 @@ returns c =
 
 pub write-areas-spec : {M : Type 1} → statement M
 write-areas-spec =
-    tie.close (tie.spec
-    (λ c. sym (half-length (at-counts c))) copy-counts-requires (λ c. sym (half-length (at-clipped c))) write-clipped-requires (λ c κs. search needs)
-    (λ c κs. search needs) (λ c. search needs) (λ c. search needs) (λ c. search needs) (λ c. search needs) returns)
+    tie.close (tie.spec (λ c. sym (half-length (at-counts c))) copy-counts-requires (λ c. sym (half-length (at-clipped c))) write-clipped-requires
+    (λ c κs. search needs) (λ c κs. search needs) (λ c. search needs) (λ c. search needs) (λ c. search needs) (λ c. search needs) returns)

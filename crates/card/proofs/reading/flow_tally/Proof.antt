@@ -33,8 +33,7 @@ returns-4 c =
 
 pub flow-tally-spec : {M : Type 1} → statement M
 flow-tally-spec =
-    tie.close (tie.spec (λ c κs. search needs)
-    (λ c. tallied-1 (call (c .before)) (totals (c .before)) (c .if1 .taken))
+    tie.close (tie.spec (λ c κs. search needs) (λ c. tallied-1 (call (c .before)) (totals (c .before)) (c .if1 .taken))
     (λ c. let made = c .before .before in tallied-2 (call made) (totals made) (c .before .if1 .left) (c .if2 .taken))
     (λ c. let made = c .before .before .before in
     tallied-refused (call made) (totals made) (c .before .before .if1 .left) (c .before .if2 .left) (c .if3 .taken))

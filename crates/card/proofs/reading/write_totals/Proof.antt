@@ -8,5 +8,4 @@ returns : tie.Need-returns
 returns c = four-stored (c .args .totals .now) (c .args .x .«in_buckets») (c .args .x .«in_side») (c .args .x .«marked_255») (c .args .x .fill) (c .pre)
 
 pub write-totals-spec : {M : Type 1} → statement M
-write-totals-spec =
-    tie.close (tie.spec (λ c. search needs) (λ c. search needs) (λ c. search needs) (λ c. search needs) (λ c. search needs) returns)
+write-totals-spec = tie.close (tie.spec (λ c. search needs) (λ c. search needs) (λ c. search needs) (λ c. search needs) (λ c. search needs) returns)

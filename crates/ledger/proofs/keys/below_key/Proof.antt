@@ -44,10 +44,8 @@ module _ (c : tie.Else1 Inv-loop μ-loop) where
 pub below-key-spec : {M : Type 1} → statement M
 below-key-spec =
     tie.close (tie.spec Inv-loop μ-loop (λ c. (omega arith, refl)) (λ c. omega arith) (λ c. omega arith)
-    (λ c. sym (here (c .before .before .before) ∙ rw (lt-ltb _ _ (c .if1 .taken))))
-    (λ c. omega arith) (λ c. omega arith)
-    (λ c. sym (not-below (c .before .before .before) ∙ rw (ne-eqb _ _ (c .if2 .taken))))
-    (λ c. omega arith) (λ c. omega arith)
+    (λ c. sym (here (c .before .before .before) ∙ rw (lt-ltb _ _ (c .if1 .taken)))) (λ c. omega arith) (λ c. omega arith)
+    (λ c. sym (not-below (c .before .before .before) ∙ rw (ne-eqb _ _ (c .if2 .taken)))) (λ c. omega arith) (λ c. omega arith)
     (λ c. (omega arith, sym (not-below (c .before .before .before) ∙ rw (eq-eqb _ _ (c .if2 .left)))))
     (λ c. let at = c .before in
     sym (below-end (at .before .args .a .now) (at .before .args .b .now) (at .loop .i) (omega arith) (omega arith)) ∙ at .loop .inv .1))

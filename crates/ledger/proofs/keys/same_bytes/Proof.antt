@@ -35,8 +35,7 @@ module _ (c : tie.In-loop Inv-loop μ-loop) where
 pub same-bytes-spec : {M : Type 1} → statement M
 same-bytes-spec =
     tie.close (tie.spec Inv-loop μ-loop (λ c. (omega arith, refl)) (λ c. omega arith) (λ c. omega arith)
-    (λ c. sym (here (c .before .before .before) ∙ rw (ne-eqb _ _ (c .if1 .taken))))
-    (λ c. omega arith) (λ c. omega arith)
+    (λ c. sym (here (c .before .before .before) ∙ rw (ne-eqb _ _ (c .if1 .taken)))) (λ c. omega arith) (λ c. omega arith)
     (λ c. (omega arith, sym (here (c .before .before .before) ∙ rw (eq-eqb _ _ (c .if1 .left)))))
     (λ c. let at = c .before in
     sym (same-end (at .before .args .a .now) (at .before .args .b .now) (at .loop .i) (omega arith) (omega arith)) ∙ at .loop .inv .1))

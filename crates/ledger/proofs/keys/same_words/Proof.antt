@@ -43,7 +43,6 @@ returns c =
 pub same-words-spec : {M : Type 1} → statement M
 same-words-spec =
     tie.close (tie.spec Inv-loop μ-loop (λ c. omega (arith, c .before .before .pre .1))
-    (λ c κs. let pre = c .before .before .pre in (omega arith, omega arith))
-    (λ c. (omega arith, c .same-word .ensures))
-    (λ c κs. let pre = start (c .before) .pre in (omega arith, omega arith))
-    (λ c. omega (arith, c .before .loop-test .taken)) (λ c. omega (arith, c .before .loop-test .taken)) loop-again returns)
+    (λ c κs. let pre = c .before .before .pre in (omega arith, omega arith)) (λ c. (omega arith, c .same-word .ensures))
+    (λ c κs. let pre = start (c .before) .pre in (omega arith, omega arith)) (λ c. omega (arith, c .before .loop-test .taken))
+    (λ c. omega (arith, c .before .loop-test .taken)) loop-again returns)

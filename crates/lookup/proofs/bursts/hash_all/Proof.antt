@@ -48,7 +48,6 @@ loop-again c =
 
 pub hash-all-spec : {M : Type 1} → statement M
 hash-all-spec =
-    tie.close (tie.spec
-    Inv-loop μ-loop (λ c κs. search needs) (λ c. passed-none) (λ c κs. inside c) h-with-table-requires (λ c. omega arith) (λ c. omega arith)
-    (λ c. omega arith) (λ c. omega arith) loop-again (λ c. c .before .loop .inv .long)
+    tie.close (tie.spec Inv-loop μ-loop (λ c κs. search needs) (λ c. passed-none) (λ c κs. inside c) h-with-table-requires (λ c. omega arith)
+    (λ c. omega arith) (λ c. omega arith) (λ c. omega arith) loop-again (λ c. c .before .loop .inv .long)
     (λ c. rw (← c .before .before .width .ensures) (passed-all (c .before .loop .inv) (c .loop-test .left))))

@@ -56,6 +56,7 @@ returns-3 c =
 pub fetch-spec : {M : Type 1} → statement M
 fetch-spec =
     tie.close (tie.spec (λ c κs. search needs) (λ c. search needs)
-    (λ c. fetched-none _ _ _ _ _ _ (c .before .before .locate .ensures) (c .before .if1 .taken) _ refl)
-    (λ c. search needs) (λ c. by-test (eqb (found c .area) 1) (λ e. omega (arith, inside c true e)) (λ e. omega (arith, inside c false e))) (λ c. search needs) (λ c. search needs) (λ c. omega (arith, in-buckets (c .before) (c .if2 .taken))) returns-2
-    (λ c. search needs) (λ c. search needs) (λ c. omega (arith, in-side (c .before) (c .if2 .left))) returns-3)
+    (λ c. fetched-none _ _ _ _ _ _ (c .before .before .locate .ensures) (c .before .if1 .taken) _ refl) (λ c. search needs)
+    (λ c. by-test (eqb (found c .area) 1) (λ e. omega (arith, inside c true e)) (λ e. omega (arith, inside c false e))) (λ c. search needs)
+    (λ c. search needs) (λ c. omega (arith, in-buckets (c .before) (c .if2 .taken))) returns-2 (λ c. search needs) (λ c. search needs)
+    (λ c. omega (arith, in-side (c .before) (c .if2 .left))) returns-3)

@@ -23,5 +23,4 @@ returns-2 c =
 pub judge-spec : {M : Type 1} → statement M
 judge-spec =
     tie.close (tie.spec (λ c κs. search needs) (λ c. search needs) (λ c. search needs) returns
-    (λ c κs. let new = c .before .before .before .new in allowed-settings _ (new .result) (new .ensures) _ (c .before .checked .given .1))
-    returns-2)
+    (λ c κs. let new = c .before .before .before .new in allowed-settings _ (new .result) (new .ensures) _ (c .before .checked .given .1)) returns-2)

@@ -62,7 +62,6 @@ returns-3 c =
 pub judge-with-table-spec : {M : Type 1} → statement M
 judge-with-table-spec =
     tie.close (tie.spec (λ c κs. search needs) (λ c. search needs) (λ c. search needs) returns (λ c κs. search needs)
-    (λ c. omega (arith, c .width .ensures, width-most (paper (s c))))
-    returns-2
+    (λ c. omega (arith, c .width .ensures, width-most (paper (s c)))) returns-2
     (λ c κs. let new = checked (c .before) .before .before .new in allowed-settings _ (new .result) (new .ensures) _ (checked (c .before) .checked .given .1))
     returns-3)

@@ -111,10 +111,8 @@ returns-4 c =
 
 pub locate-at-spec : {M : Type 1} → statement M
 locate-at-spec =
-    tie.close (tie.spec
-    (λ c κs. search needs) (λ c κs. search needs) place-by-requires (λ c. search needs) (λ c κs. search needs) (λ c κs. search needs)
-    (λ c. search needs) (λ c κs. search needs) (λ c κs. search needs) (λ c. search needs)
-    (λ c κs. in-bucket (found (c .before .before .before) .looking) (c .before .place .given .1))
-    with-place-requires (λ c. search needs)
-    (λ c κs. in-side (found (c .before .before .before) .looking) (c .before .place2 .given .1))
-    with-place-requires-2 returns returns-2 returns-3 returns-4)
+    tie.close (tie.spec (λ c κs. search needs) (λ c κs. search needs) place-by-requires (λ c. search needs) (λ c κs. search needs)
+    (λ c κs. search needs) (λ c. search needs) (λ c κs. search needs) (λ c κs. search needs) (λ c. search needs)
+    (λ c κs. in-bucket (found (c .before .before .before) .looking) (c .before .place .given .1)) with-place-requires (λ c. search needs)
+    (λ c κs. in-side (found (c .before .before .before) .looking) (c .before .place2 .given .1)) with-place-requires-2 returns returns-2 returns-3
+    returns-4)

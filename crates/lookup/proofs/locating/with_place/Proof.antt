@@ -16,7 +16,5 @@ pub with-place-spec : {M : Type 1} → statement M
 with-place-spec =
     tie.close (tie.spec (λ c. search needs) (λ c κs. search needs)
     (λ c. rw (ne-eqb (c .before .before .before .args .answer .number) 0 (c .before .if1 .taken)) (c .nowhere .ensures))
-    (λ c. omega (arith, c .before .before .pre .counted (c .if1 .left)))
-    (λ c. omega (arith, few-before c, c .before .struct-known .given))
-    (λ c. omega (arith, few-before c, c .before .struct-known .given))
-    (λ c. rw (eq-eqb (c .before .before .args .answer .number) 0 (c .if1 .left))))
+    (λ c. omega (arith, c .before .before .pre .counted (c .if1 .left))) (λ c. omega (arith, few-before c, c .before .struct-known .given))
+    (λ c. omega (arith, few-before c, c .before .struct-known .given)) (λ c. rw (eq-eqb (c .before .before .args .answer .number) 0 (c .if1 .left))))

@@ -56,9 +56,7 @@ returns-3 c =
 pub bucket-place-spec : {M : Type 1} → statement M
 bucket-place-spec =
     tie.close (tie.spec (λ c κs. search needs) (λ c. omega (arith, inside c, few c)) (λ c. omega (arith, inside (c .before), some (c .before)))
-    (λ c. omega (arith, c .shared-slice-known3 .given (at (c .before))))
-    (λ c κs. search needs)
+    (λ c. omega (arith, c .shared-slice-known3 .given (at (c .before)))) (λ c κs. search needs)
     (λ c. let size = c .before .before .before in sent-on (mark size) (c .before .if1 .taken) (c .side-place .ensures (buckets size) (bucket size)))
     (λ c. bucket-invalid (mark (c .before .before .before .before)) (c .before .before .if1 .left) (c .if2 .taken))
-    (λ c. let size = c .before .before .before .before in omega (arith, inside size, some size, few size))
-    returns-3)
+    (λ c. let size = c .before .before .before .before in omega (arith, inside size, some size, few size)) returns-3)

@@ -13,5 +13,4 @@ returns c =
 pub find-place-spec : {M : Type 1} → statement M
 find-place-spec =
     tie.close (tie.spec (λ c κs. search needs)
-    (λ c κs. let pre = c .before .before .before .before .pre in (places-of pre, key-counters-fit (pre .ok) (c .read-counters .ensures)))
-    returns)
+    (λ c κs. let pre = c .before .before .before .before .pre in (places-of pre, key-counters-fit (pre .ok) (c .read-counters .ensures))) returns)

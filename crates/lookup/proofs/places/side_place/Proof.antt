@@ -18,5 +18,5 @@ returns-2 c =
 
 pub side-place-spec : {M : Type 1} → statement M
 side-place-spec =
-    tie.close
-    (tie.spec (λ c κs. let b = bounds (paper (c .before .args .s)) (c .before .pre .ok) in omega (arith, c .before .pre .side-size)) returns returns-2)
+    tie.close (tie.spec (λ c κs. let b = bounds (paper (c .before .args .s)) (c .before .pre .ok) in omega (arith, c .before .pre .side-size)) returns
+    returns-2)

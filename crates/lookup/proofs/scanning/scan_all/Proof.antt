@@ -74,12 +74,9 @@ returns c =
 pub scan-all-spec : {M : Type 1} → statement M
 scan-all-spec =
     tie.close (tie.spec Inv-loop μ-loop (λ c. omega (arith, c .before .before .pre .short)) (λ c. omega (arith, c .before .before .pre .fits))
-    (λ c. record { first-is = first-start (c .before .before .pre); here = refl; few = omega arith })
-    (λ c. omega (arith, c .loop-test .taken)) (λ c. omega (arith, one-before c)) (λ c. omega (arith, one-before c, inside c))
-    (λ c. omega (arith, one-before c, inside c)) (λ c. omega (arith, one-before c, inside c)) (λ c. omega (arith, one-before c, inside c))
-    same-words-requires (λ c κs. tt)
-    (λ c. omega (arith, c .before .before .before .loop-test .taken))
-    loop-again (λ c κs. tt)
+    (λ c. record { first-is = first-start (c .before .before .pre); here = refl; few = omega arith }) (λ c. omega (arith, c .loop-test .taken))
+    (λ c. omega (arith, one-before c)) (λ c. omega (arith, one-before c, inside c)) (λ c. omega (arith, one-before c, inside c))
+    (λ c. omega (arith, one-before c, inside c)) (λ c. omega (arith, one-before c, inside c)) same-words-requires (λ c κs. tt)
+    (λ c. omega (arith, c .before .before .before .loop-test .taken)) loop-again (λ c κs. tt)
     (λ c. rw (c .pick2 .ensures) (omega (arith, first-offset (begin (c .before) .pre) (c .before .before .loop .first))))
-    (λ c. omega (arith, all (c .before) .high, begin (c .before) .pre .most))
-    (λ c κs. tt) returns)
+    (λ c. omega (arith, all (c .before) .high, begin (c .before) .pre .most)) (λ c κs. tt) returns)

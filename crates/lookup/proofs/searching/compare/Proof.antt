@@ -19,6 +19,5 @@ pub compare-spec : {M : Type 1} → statement M
 compare-spec =
     tie.close (tie.spec (λ c κs. search needs) (λ c. search needs)
     (λ c. omega (arith, c .before .before .before .scan .ensures .room (c .before .if1 .taken)))
-    (λ c κs. omega (arith, c .before .before .before .scan .ensures .room (c .before .if1 .taken)))
-    returns
+    (λ c κs. omega (arith, c .before .before .before .scan .ensures .room (c .before .if1 .taken))) returns
     (λ c. let e = c .before .before .scan .ensures in rw (e .finds, e .compares, c .if1 .left)))

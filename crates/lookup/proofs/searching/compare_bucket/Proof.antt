@@ -39,5 +39,4 @@ compare-bucket-spec =
     (λ c. let start = c .before .before .before in let b = bounds (paper (start .args .s)) (start .pre .ok) in omega (arith, c .bucket-size .ensures))
     (λ c. search needs) (λ c κs. search needs) (λ c. search needs) (λ c. search needs) (λ c. search needs)
     (λ c. let at = c .before .before in rw (whole at) (at .width .ensures ∙ sym (start at .pre .wide)))
-    (λ c κs. let at = c .before .before in rw (whole at, part at) (bucket-scannable (start at .pre)))
-    returns)
+    (λ c κs. let at = c .before .before in rw (whole at, part at) (bucket-scannable (start at .pre))) returns)

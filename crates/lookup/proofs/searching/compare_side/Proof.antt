@@ -20,6 +20,5 @@ returns c =
 
 pub compare-side-spec : {M : Type 1} → statement M
 compare-side-spec =
-    tie.close (tie.spec
-    (λ c. omega (arith, side-counted (c .before .before .pre))) (λ c. omega (arith, side-counted (c .before .before .pre))) (λ c. search needs)
-    compare-requires returns)
+    tie.close (tie.spec (λ c. omega (arith, side-counted (c .before .before .pre))) (λ c. omega (arith, side-counted (c .before .before .pre)))
+    (λ c. search needs) compare-requires returns)

@@ -55,5 +55,4 @@ returns-2 c =
 pub search-with-table-spec : {M : Type 1} → statement M
 search-with-table-spec =
     tie.close (tie.spec (λ c κs. search needs) (λ c. search needs) (λ c κs. search needs) (λ c. search needs) h-with-table-requires
-    (λ c κs. let fine = right (c .before .before) in (fine .1 .checked, fine .1 .wide))
-    returns returns-2)
+    (λ c κs. let fine = right (c .before .before) in (fine .1 .checked, fine .1 .wide)) returns returns-2)

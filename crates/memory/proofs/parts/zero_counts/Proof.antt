@@ -25,5 +25,4 @@ zero-counts-spec =
     (λ c. omega (arith, long (c .before))) (λ c. omega (arith, long (c .before))) (λ c. omega (arith, long (c .before)))
     (λ c. omega (arith, long (c .before)))
     (λ c. let at = c .before in copied-more (at .loop .inv) 0 (sym (zero-at (length (at .before .args .counts .now)) (at .loop .i))) (omega (arith, long at)))
-    (λ c. omega (arith, long (c .before)))
-    (λ c. copied-all (c .before .loop .inv) (omega (arith, long (c .before)))))
+    (λ c. omega (arith, long (c .before))) (λ c. copied-all (c .before .loop .inv) (omega (arith, long (c .before)))))

@@ -6,7 +6,5 @@ use Rattle.memory.proofs.records.write_class.Tie as tie
 
 pub write-class-spec : {M : Type 1} → statement M
 write-class-spec =
-    tie.close (tie.spec
-    (λ c. search needs) (λ c. search needs) (λ c. search needs) (λ c. search needs) (λ c. search needs) (λ c. search needs) (λ c. search needs)
-    (λ c. search needs) (λ c. search needs)
-    (λ c. four-written (c .args .to .now) (c .args .class) (c .pre)))
+    tie.close (tie.spec (λ c. search needs) (λ c. search needs) (λ c. search needs) (λ c. search needs) (λ c. search needs) (λ c. search needs)
+    (λ c. search needs) (λ c. search needs) (λ c. search needs) (λ c. four-written (c .args .to .now) (c .args .class) (c .pre)))

@@ -6,5 +6,5 @@ use Rattle.packet.proofs.header.has_ports.Tie as tie
 
 pub has-ports-spec : {M : Type 1} → statement M
 has-ports-spec =
-    tie.close
-    (tie.spec (λ c κs. search needs) (λ c κs. search needs) (λ c. unfold has-ports in rw (c .protocol-has-ports .ensures, c .before .protocol .ensures)))
+    tie.close (tie.spec (λ c κs. search needs) (λ c κs. search needs)
+    (λ c. unfold has-ports in rw (c .protocol-has-ports .ensures, c .before .protocol .ensures)))

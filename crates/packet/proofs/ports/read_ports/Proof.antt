@@ -14,5 +14,4 @@ four c = length-take-le 4 (c .args .after .now) (omega arith)
 pub read-ports-spec : {M : Type 1} → statement M
 read-ports-spec =
     tie.close (tie.spec (λ c. sym (four (c .before .before .before .before)))
-    (λ c κs. let start = c .before .before .before .before in start .pre .1 ∙ sym (four start))
-    (λ c. search needs) (λ c. search needs))
+    (λ c κs. let start = c .before .before .before .before in start .pre .1 ∙ sym (four start)) (λ c. search needs) (λ c. search needs))

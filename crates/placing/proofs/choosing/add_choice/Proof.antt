@@ -13,7 +13,7 @@ returns-2 c =
 
 pub add-choice-spec : {M : Type 1} → statement M
 add-choice-spec =
-    tie.close (tie.spec (λ c. λ b. rw (c .if1 .taken, add-zero))
-    (λ c. let h = c .before .pre .0 (c .if1 .left) in omega (arith, h))
-    (λ c. c .before .before .pre .0 (c .before .if1 .left)) (λ c. omega (arith, c .before .before .pre .1 (c .before .before .args .choice .bucket))) (λ c. let h = c .before .before .pre .0 (c .before .if1 .left) in omega (arith, h)) (λ c. c .before .before .pre .0 (c .before .if1 .left))
+    tie.close (tie.spec (λ c. λ b. rw (c .if1 .taken, add-zero)) (λ c. let h = c .before .pre .0 (c .if1 .left) in omega (arith, h))
+    (λ c. c .before .before .pre .0 (c .before .if1 .left)) (λ c. omega (arith, c .before .before .pre .1 (c .before .before .args .choice .bucket)))
+    (λ c. let h = c .before .before .pre .0 (c .before .if1 .left) in omega (arith, h)) (λ c. c .before .before .pre .0 (c .before .if1 .left))
     (λ c. search needs) returns-2)

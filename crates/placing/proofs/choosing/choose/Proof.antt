@@ -10,4 +10,6 @@ returns c =
     c .choose-at .ensures _ (c .before .h-with-table .ensures .1 (right-for _ _ (start .pre .0) (start .args .key .now) (start .pre .2)))
 
 pub choose-spec : {M : Type 1} → statement M
-choose-spec = tie.close (tie.spec (λ c κs. let start = c .before .before .before in long-for _ _ (start .pre .0) (start .args .key .now) (start .pre .2)) (λ c κs. search needs) returns)
+choose-spec =
+    tie.close (tie.spec (λ c κs. let start = c .before .before .before in long-for _ _ (start .pre .0) (start .args .key .now) (start .pre .2))
+    (λ c κs. search needs) returns)

@@ -117,7 +117,6 @@ returns c =
 
 pub choose-parts-spec : {M : Type 1} → statement M
 choose-parts-spec =
-    tie.close (tie.spec
-    (λ c. search needs) (λ c. search needs) (λ c. sym (first-lent _ _ _ _ (start c .pre .0 .places))) choose-more-requires (λ c. search needs)
-    (λ c. search needs) (λ c. search needs) (λ c. search needs) choose-more-requires-2 (λ c. search needs) (λ c. search needs) (λ c. search needs)
-    (λ c. search needs) choose-more-requires-3 (λ c. search needs) (λ c. search needs) returns)
+    tie.close (tie.spec (λ c. search needs) (λ c. search needs) (λ c. sym (first-lent _ _ _ _ (start c .pre .0 .places))) choose-more-requires
+    (λ c. search needs) (λ c. search needs) (λ c. search needs) (λ c. search needs) choose-more-requires-2 (λ c. search needs) (λ c. search needs)
+    (λ c. search needs) (λ c. search needs) choose-more-requires-3 (λ c. search needs) (λ c. search needs) returns)

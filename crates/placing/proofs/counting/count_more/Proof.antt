@@ -103,5 +103,5 @@ pub count-more-spec : {M : Type 1} → statement M
 count-more-spec =
     tie.close (tie.spec Inv-loop μ-loop (λ c κs. search needs) (λ c κs. search needs) loop-holds
     (λ c κs. key-inside (sizes (c .before .before)) _ _ (area (c .before .before)) (start (c .before .before) .pre .there) (c .loop-test .taken))
-    (λ c κs. long-for _ _ (start (sized c) .pre .ready) (key c) (key-long c))
-    raise-at-requires (λ c. omega arith) (λ c. omega arith) loop-again (λ c. c .before .loop .inv .same) returns)
+    (λ c κs. long-for _ _ (start (sized c) .pre .ready) (key c) (key-long c)) raise-at-requires (λ c. omega arith) (λ c. omega arith) loop-again
+    (λ c. c .before .loop .inv .same) returns)

@@ -106,6 +106,4 @@ returns c =
     )
 
 pub count-parts-spec : {M : Type 1} → statement M
-count-parts-spec =
-    tie.close
-    (tie.spec count-more-requires count-more-requires-2 count-more-requires-3 (λ c. search needs) returns)
+count-parts-spec = tie.close (tie.spec count-more-requires count-more-requires-2 count-more-requires-3 (λ c. search needs) returns)

@@ -12,4 +12,5 @@ unfolding work-length
 returns c = rw (c .buckets .ensures)
 
 pub work-length-spec : {M : Type 1} → statement M
-work-length-spec = tie.close (tie.spec (λ c κs. search needs) (λ c. let limits = bounds (paper (c .before .args .self)) (c .before .pre) in omega arith) returns)
+work-length-spec =
+    tie.close (tie.spec (λ c κs. search needs) (λ c. let limits = bounds (paper (c .before .args .self)) (c .before .pre) in omega arith) returns)

@@ -61,8 +61,7 @@ returns-2 c =
 pub refusal-by-file-spec : {M : Type 1} → statement M
 refusal-by-file-spec =
     tie.close (tie.spec (λ c. search needs) (λ c. search needs) (λ c. search needs) (λ c κs. search needs)
-    (λ c. let n = c .before .before in file-8 (t n) (file n) (count-is n) (c .if1 .taken))
-    (λ c κs. search needs) (λ c. omega (arith, small c)) (λ c. omega (arith, small c)) returns-2 (λ c. search needs) (λ c. search needs)
-    (λ c. search needs) (λ c κs. search needs)
-    (λ c κs. rw (c .width .ensures) (lent-fits (full (c .before .before))))
-    (λ c. judged (c .before) false (not-true _ (c .if3 .taken))) (λ c. judged (c .before) true (not-false _ (c .if3 .left))))
+    (λ c. let n = c .before .before in file-8 (t n) (file n) (count-is n) (c .if1 .taken)) (λ c κs. search needs) (λ c. omega (arith, small c))
+    (λ c. omega (arith, small c)) returns-2 (λ c. search needs) (λ c. search needs) (λ c. search needs) (λ c κs. search needs)
+    (λ c κs. rw (c .width .ensures) (lent-fits (full (c .before .before)))) (λ c. judged (c .before) false (not-true _ (c .if3 .taken)))
+    (λ c. judged (c .before) true (not-false _ (c .if3 .left))))

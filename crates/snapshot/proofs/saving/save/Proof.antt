@@ -65,6 +65,6 @@ returns-3 c =
 pub save-spec : {M : Type 1} → statement M
 save-spec =
     tie.close (tie.spec (λ c κs. search needs) (λ c. search needs) (λ c. search needs)
-    (λ c. saves-1 _ _ _ _ (refused-arm _ _ (c .before .before .new .ensures) (c .enum-told .given .1)))
-    (λ c κs. permits (allowed-as c)) (λ c κs. permits (allowed-as (c .before))) returns-2 (λ c κs. search needs) (λ c. search needs)
-    save-checked-requires (λ c. search needs) (λ c. search needs) returns-3)
+    (λ c. saves-1 _ _ _ _ (refused-arm _ _ (c .before .before .new .ensures) (c .enum-told .given .1))) (λ c κs. permits (allowed-as c))
+    (λ c κs. permits (allowed-as (c .before))) returns-2 (λ c κs. search needs) (λ c. search needs) save-checked-requires (λ c. search needs)
+    (λ c. search needs) returns-3)

@@ -123,6 +123,5 @@ save-checked-spec =
     (λ c. saves-4 (start (c .before) .pre) _ (not-false _ (sym (c .before .valid .ensures) ∙ not-true _ (c .if1 .taken))))
     (λ c κs. has-two (c .before)) (λ c κs. search needs) (λ c. search needs) (λ c. has-two (judged (c .before .before .before)))
     (λ c. has-two (judged (c .before .before .before))) (λ c. search needs) place-area-requires (λ c. search needs) returns-2 (λ c κs. search needs)
-    (λ c. omega (arith, end c))
-    (λ c. omega (arith, end c, start (e c) .pre .whole, bounds (t (e c)) (start (e c) .pre .ready .ok) .ledger-most))
+    (λ c. omega (arith, end c)) (λ c. omega (arith, end c, start (e c) .pre .whole, bounds (t (e c)) (start (e c) .pre .ready .ok) .ledger-most))
     (λ c. search needs) returns-3 write-snapshot-requires (λ c. search needs) (λ c. search needs) returns-4)

@@ -51,11 +51,10 @@ returns c =
 
 pub write-head-spec : {M : Type 1} → statement M
 write-head-spec =
-    tie.close (tie.spec (λ c κs. search needs)
-    (λ c κs. let r = small (to-start (c .before .before .before)) in search needs)
+    tie.close (tie.spec (λ c κs. search needs) (λ c κs. let r = small (to-start (c .before .before .before)) in search needs)
     (λ c κs. let r = small (to-start (to-1 (c .before .before .before))) in search needs)
     (λ c κs. let r = small (to-start (to-1 (to-2 (c .before .before .before)))) in search needs)
     (λ c κs. let r = small (to-start (to-1 (to-2 (to-3 (c .before .before .before))))) in search needs)
     (λ c κs. let r = small (to-start (to-1 (to-2 (to-3 (to-4 (c .before .before .before)))))) in search needs)
-    (λ c κs. let r = small (to-start (to-1 (to-2 (to-3 (to-4 (to-5 (c .before .before .before))))))) in search needs)
-    (λ c κs. search needs) (λ c. search needs) returns)
+    (λ c κs. let r = small (to-start (to-1 (to-2 (to-3 (to-4 (to-5 (c .before .before .before))))))) in search needs) (λ c κs. search needs)
+    (λ c. search needs) returns)

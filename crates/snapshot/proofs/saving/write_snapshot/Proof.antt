@@ -55,7 +55,6 @@ returns c =
 
 pub write-snapshot-spec : {M : Type 1} → statement M
 write-snapshot-spec =
-    tie.close (tie.spec
-    (λ c. search needs) (λ c. sym (head-lent (c .before .before .before))) write-head-requires (λ c κs. search needs) (λ c. omega (arith, end c))
-    (λ c. omega (arith, end c)) (λ c. search needs) (λ c. search needs) (λ c. search needs) (λ c. search needs) (λ c. search needs)
-    (λ c. end (c .before)) copy-requires (λ c. search needs) returns)
+    tie.close (tie.spec (λ c. search needs) (λ c. sym (head-lent (c .before .before .before))) write-head-requires (λ c κs. search needs)
+    (λ c. omega (arith, end c)) (λ c. omega (arith, end c)) (λ c. search needs) (λ c. search needs) (λ c. search needs) (λ c. search needs)
+    (λ c. search needs) (λ c. end (c .before)) copy-requires (λ c. search needs) returns)
