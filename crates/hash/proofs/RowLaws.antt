@@ -39,8 +39,7 @@ first i r rs e = eqb-true r (xorshift64 (before i)) (and-left (eqb r (xorshift64
 
 rest : (i r : ℕ) (rs : List ℕ) → From i (r ∷ rs) → From (suc i) rs
 unfolding follow
-rest i r rs e =
-    subst (λ (s : ℕ). follow s rs ≡ true) (first i r rs e) (and-right (eqb r (xorshift64 (before i))) (follow r rs) e)
+rest i r rs e = subst (λ (s : ℕ). follow s rs ≡ true) (first i r rs e) (and-right (eqb r (xorshift64 (before i))) (follow r rs) e)
 
 pub from-drop : (n i : ℕ) (rs : List ℕ) → n ≤ length rs → From i rs → From (i + n) (drop n rs)
 from-drop zero i rs h e = subst (λ (k : ℕ). From k rs) (sym (add-zero i)) e

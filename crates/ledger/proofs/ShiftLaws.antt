@@ -64,12 +64,5 @@ module _ (a : List ℕ) (size : ℕ) where
         let there : from + size + (j - from) ≡ j + size = omega arith in
         let grown : take (j + 1 - from) (drop (from + size) a) ≡ take (j - from) (drop (from + size) a) ++ (getD a (j + size) 0 ∷ []) =
         rw (one, take-suc (drop (from + size) a) (j - from) 0 (rw length-drop (omega arith)), getD-drop, there) in
-        rw (
-          read,
-          split,
-          grown,
-          drop-cons a j 0 (omega arith),
-          set-at head (getD a j 0) (drop (suc j) a) (getD a (j + size) 0) j head-length,
-          add-one,
-        )
+        rw (read, split, grown, drop-cons a j 0 (omega arith), set-at head (getD a j 0) (drop (suc j) a) (getD a (j + size) 0) j head-length, add-one)
         (simp append-assoc)

@@ -38,10 +38,7 @@ module _ (w n k : ℕ) (input : List ℕ) (a : Areas) (empty : List ℕ) where
 
   pub ran-start : Ran 0 a empty 0
   ran-start =
-      record {
-        lines = rw (add-zero n, sub-zero k);
-        text = (refl, refl);
-      }
+      record { lines = rw (add-zero n, sub-zero k); text = (refl, refl) }
 
   -- the rest is the next call's line, and the rest after it
   rest-on : (i : ℕ) (b : Areas) → i < k

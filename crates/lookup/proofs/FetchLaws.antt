@@ -45,10 +45,7 @@ module _ (t : Settings) (clipped : List ℕ) (buckets side : RefT (List ℕ)) (k
 
   pub fetched-none : r .area ≡ 0 → (x : RefT (List ℕ)) → now x ≡ [] → FetchedCall t clipped buckets side key x
   fetched-none none x e =
-      record {
-        is = fetch-performs t clipped (now buckets) (now side) key (now x) (no-part none _ refl ∙ sym e);
-        lies = λ some. absurd (some e);
-      }
+      record { is = fetch-performs t clipped (now buckets) (now side) key (now x) (no-part none _ refl ∙ sym e); lies = λ some. absurd (some e) }
 
   -- ---- somewhere: the key is held, and its record lies there
   record Held : Type 0 where

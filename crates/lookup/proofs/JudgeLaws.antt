@@ -83,8 +83,7 @@ module _ (t : plain.Settings) (clipped buckets side key : List ℕ) where
   pub refused-is : {X : Type 0} (f : ℕ → X) (x : X) (n : ℕ) → judged-of t clipped buckets side key ≡ Refused n
       → (refused-or f x ≡ f n) × (1 ≤ n) × (n ≤ 3)
   unfolding judged-of key-wrong
-  refused-is f x n e =
-      refused-by (allowed t) (lengths-right t clipped buckets side) (eqb (length key) (card-of t .width)) (code t) n e f x
+  refused-is f x n e = refused-by (allowed t) (lengths-right t clipped buckets side) (eqb (length key) (card-of t .width)) (code t) n e f x
 
   -- ---- a search is `perform`'s, as soon as its answer is the refusal or what the areas give; likewise the second search call
   abbrev pub Searched : Answer → Type 0

@@ -61,8 +61,7 @@ module _ {t : Settings} {h : ℕ} {clipped buckets side key : List ℕ} {arm : P
   -- a number alone that is not 0
   pub located-nowhere : (n : ℕ) → (n ≡ 0 → ⊥) → bare n ≡ search-areas (card-at t h) clipped buckets side key → {a : Answer} → answer-of a ≡ bare n
       → {r : Located} → r ≡ nowhere-of a → Right r
-  located-nowhere n some whole is e =
-      rw e (located-none (is ∙ whole) (λ z. some (sym (ap (λ (x : plain.Answer). x .number) is) ∙ z)))
+  located-nowhere n some whole is e = rw e (located-none (is ∙ whole) (λ z. some (sym (ap (λ (x : plain.Answer). x .number) is) ∙ z)))
 
 -- ---- by the call
 module _ (t : Settings) (clipped buckets side key : List ℕ) where

@@ -155,12 +155,7 @@ module _ {k : List ℕ} {n : ℕ} {a : List ℕ} {room : ℕ} where
     unfolding records entries
     first-start =
         let e : n - room ≡ 0 = omega (arith, fits .few) in
-        record {
-          low = omega arith;
-          high = omega arith;
-          finds = rw (e, le-ltb room n (fits .few));
-          compares = rw (le-ltb room n (fits .few), e);
-        }
+        record { low = omega arith; high = omega arith; finds = rw (e, le-ltb room n (fits .few)); compares = rw (le-ltb room n (fits .few), e) }
 
     -- place i is inside
     pub place-inside : (i : ℕ) → i < room → i * (length k + 4) + (length k + 4) ≤ length a

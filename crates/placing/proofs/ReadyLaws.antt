@@ -66,8 +66,4 @@ module _ (s : Settings) (t : List ℕ) (ready : Ready s t) where
 -- the table that a call makes is the right one
 pub ready : (s : Settings) → allowed (paper s) ≡ true → (t : List ℕ) → TableFor 13 t → length t ≡ table-length 8 13 → Ready s t
 ready s ok t right long =
-    record {
-      ok = ok;
-      right = rw (width-is (paper s)) right;
-      long = rw (width-is (paper s), long) (length-allowed (table-length 8 13) 13);
-    }
+    record { ok = ok; right = rw (width-is (paper s)) right; long = rw (width-is (paper s), long) (length-allowed (table-length 8 13) 13) }

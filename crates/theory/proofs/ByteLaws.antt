@@ -128,10 +128,7 @@ module _ (w : ℕ) where
   record-fits : (a : List ℕ) → w + 4 ≤ length a → All Byte a → Fit w (record-at w a)
   unfolding record-at
   record-fits a h b =
-      record {
-        wide = length-take-le w a (omega arith);
-        small = number-below (drop w a) (all-drop Byte w a b) 4 (rw length-drop (omega arith));
-      }
+      record { wide = length-take-le w a (omega arith); small = number-below (drop w a) (all-drop Byte w a b) 4 (rw length-drop (omega arith)) }
 
   pub records-fit : (n : ℕ) (a : List ℕ) → n * (w + 4) ≤ length a → All Byte a → All (Fit w) (records w n a)
   unfolding records

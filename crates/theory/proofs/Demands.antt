@@ -45,8 +45,7 @@ right-width s k e = rw (eq-eqb (length k) (s .width) e)
 module _ (s : Card) (a : Areas) (z : Sized s a) where
   pub lookup-lengths-right : all (λ x. x) (lookup-lengths s a) ≡ true
   unfolding lookup-lengths
-  lookup-lengths-right =
-      rw (eq-eqb _ _ (z .clipped-counts), eq-eqb _ _ (z .buckets), eq-eqb _ _ (z .side-store))
+  lookup-lengths-right = rw (eq-eqb _ _ (z .clipped-counts), eq-eqb _ _ (z .buckets), eq-eqb _ _ (z .side-store))
 
   pub all-lengths-right : all (λ x. x) (all-lengths s a) ≡ true
   unfolding all-lengths

@@ -46,8 +46,7 @@ decimal-digit (suc n) h = rw (lt-ltb (suc n) 10 h)
 pub decimal-more : (n : ℕ) → 10 ≤ n → decimal n ≡ decimal (n / 10) ++ ((48 + n % 10) ∷ [])
 unfolding decimal digits-of
 decimal-more zero h = absurd (omega arith)
-decimal-more (suc n) h =
-    rw (le-ltb (suc n) 10 h, digits-enough n (suc n / 10) (suc n / 10) (omega arith) (omega arith))
+decimal-more (suc n) h = rw (le-ltb (suc n) 10 h, digits-enough n (suc n / 10) (suc n / 10) (omega arith) (omega arith))
 
 -- a number below 10^k has at most k digits
 pub decimal-length : (k n : ℕ) → n < 10 ^ suc k → length (decimal n) ≤ suc k

@@ -47,8 +47,7 @@ any-fresh p seen (x ∷ xs) =
 
 has-least : (f : ℕ → ℕ) (t x : ℕ) (l : List ℕ) → has x l ≡ true → least t (map f l) ≤ f x
 has-least f t x [] h = absurd (true≢false (sym h))
-has-least f t x (y ∷ ys) h =
-    by-test (eqb x y) (λ q. rw (eqb-true x y q) (omega arith)) (λ q. omega (arith, has-least f t x ys (rw q at h)))
+has-least f t x (y ∷ ys) h = by-test (eqb x y) (λ q. rw (eqb-true x y q) (omega arith)) (λ q. omega (arith, has-least f t x ys (rw q at h)))
 
 min-swap : (a x b : ℕ) → min a (min x b) ≡ min (min x a) b
 min-swap a x b = omega arith

@@ -39,22 +39,14 @@ head t n = settings-count ∷ t .p ∷ t .k ∷ t .room ∷ t .top ∷ t .capaci
 
 abbrev settings-in : List ℕ → Settings
 settings-in h =
-    record {
-      p = getD h 1 0;
-      k = getD h 2 0;
-      room = getD h 3 0;
-      top = getD h 4 0;
-      capacity = getD h 5 0;
-      side-places = getD h 6 0;
-    }
+    record { p = getD h 1 0; k = getD h 2 0; room = getD h 3 0; top = getD h 4 0; capacity = getD h 5 0; side-places = getD h 6 0 }
 
 abbrev words : List ℕ → List ℕ
 words f = entries 2 word 8 f
 
 words-are : (f : List ℕ) → words f ≡ count-of f ∷ setting f 0 ∷ setting f 1 ∷ setting f 2 ∷ setting f 3 ∷ setting f 4 ∷ setting f 5 ∷ file-count f ∷ []
 unfolding entries file-count
-words-are f =
-    rw (drop-drop 2 2 f, drop-drop 2 4 f, drop-drop 2 6 f, drop-drop 2 8 f, drop-drop 2 10 f, drop-drop 2 12 f)
+words-are f = rw (drop-drop 2 2 f, drop-drop 2 4 f, drop-drop 2 6 f, drop-drop 2 8 f, drop-drop 2 10 f, drop-drop 2 12 f)
 
 pub snapshot-is : (t : Settings) (l : List Record) → snapshot t l ≡ flat (to-bytes 2) (head t (length l)) ++ flat record-bytes l
 unfolding snapshot section
@@ -171,13 +163,7 @@ module _ (t : Settings) (ledger : List ℕ) (w : ℕ) (target : List ℕ) (done 
       let c = passed (λ (x : Saved). x .number) (ledger-invalid (card-of t) ledger) (λ q. omega arith) (b .1) in
       let d = passed (λ (x : Saved). x .number) (side-short (card-of t) flows) (λ q. omega arith) (c .1) in
       let e = passed (λ (x : Saved). x .number) (not (eqb (length target) (16 + record-size (card-of t) * length flows))) (λ q. omega arith) (d .1) in
-      record {
-        ok = not-false (allowed t) (a .0);
-        lengths = not-false _ (b .0);
-        valid = c .0;
-        need = d .0;
-        wrote = rw (a .0, b .0, c .0, d .0, e .0);
-      }
+      record { ok = not-false (allowed t) (a .0); lengths = not-false _ (b .0); valid = c .0; need = d .0; wrote = rw (a .0, b .0, c .0, d .0, e .0) }
 
 pub load-save : LoadSave
 load-save t ledger w target done bytes a z =

@@ -19,6 +19,6 @@ abbrev μ-loop : tie.MeasureT-loop
 pub run-blocks-spec : {M : Type 1} → statement M
 run-blocks-spec =
     tie.close (tie.spec Inv-loop μ-loop (λ c. (refl, refl, refl, refl, refl, refl)) (λ c. omega arith) (λ c. omega arith) (λ c κs. omega arith)
-    (λ c. search needs) (λ c. search needs) (λ c. search needs) (λ c. search needs) (λ c. search needs) (λ c. search needs) (λ c. tt)
-    (λ c. omega arith) (λ c. omega arith) (λ c. (search needs, search needs, search needs, search needs, search needs, search needs))
-    (λ c. search needs) (λ c. search needs) (λ c. search needs) (λ c. search needs) (λ c. search needs) (λ c. search needs) (λ c. tt))
+    (λ c. search needs) (λ c. search needs) (λ c. search needs) (λ c. search needs) (λ c. search needs) (λ c. search needs) (λ c. tt) (λ c. omega arith)
+    (λ c. omega arith) (λ c. (search needs, search needs, search needs, search needs, search needs, search needs)) (λ c. search needs) (λ c. search needs)
+    (λ c. search needs) (λ c. search needs) (λ c. search needs) (λ c. search needs) (λ c. tt))

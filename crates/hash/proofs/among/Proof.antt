@@ -38,5 +38,5 @@ returns-2 c =
 
 pub among-spec : {M : Type 1} → statement M
 among-spec =
-    tie.close (tie.spec Inv-loop μ-loop (λ c. (omega arith, refl)) (λ c. search needs) (λ c. search needs) returns (λ c. search needs)
-    (λ c. search needs) loop-again returns-2)
+    tie.close (tie.spec Inv-loop μ-loop (λ c. (omega arith, refl)) (λ c. search needs) (λ c. search needs) returns (λ c. search needs) (λ c. search needs)
+    loop-again returns-2)

@@ -47,8 +47,8 @@ returns c =
 
 pub h-rows-spec : {M : Type 1} → statement M
 h-rows-spec =
-    tie.close (tie.spec (λ c. search needs) (λ c κs. tt) (λ c. search needs) (λ c κs. tt) (λ c. search needs) (λ c κs. tt) (λ c. search needs)
-    (λ c κs. tt) (λ c. search needs) (λ c κs. tt) (λ c. search needs) (λ c κs. tt) (λ c. search needs) (λ c κs. tt) (λ c. search needs) (λ c κs. tt)
+    tie.close (tie.spec (λ c. search needs) (λ c κs. tt) (λ c. search needs) (λ c κs. tt) (λ c. search needs) (λ c κs. tt) (λ c. search needs) (λ c κs. tt)
+    (λ c. search needs) (λ c κs. tt) (λ c. search needs) (λ c κs. tt) (λ c. search needs) (λ c κs. tt) (λ c. search needs) (λ c κs. tt)
     (λ c. omega (arith, start c .pre)) (λ c κs. tt) (λ c. omega (arith, start (c .before .before) .pre)) (λ c κs. tt)
     (λ c. omega (arith, start (c .before .before .before .before) .pre)) (λ c κs. tt)
     (λ c. omega (arith, start (c .before .before .before .before .before .before) .pre)) (λ c κs. tt)

@@ -23,5 +23,5 @@ returns c = ap (λ (n : ℕ). (c .args .h / 2 ^ (16 * c .args .j)) % n) (one-shl
 pub hash-at-spec : {M : Type 1} → statement M
 hash-at-spec =
     tie.close (tie.spec (λ c. search needs) (λ c. search needs) (λ c. search needs)
-    (λ c. subst⁻¹ (λ (n : ℕ). 0 < n) (one-shl (c .args .p) (omega arith)) (pow-pos (c .args .p)))
-    (λ c. record { fits = fits _ (c .args .p) (omega arith) }) returns)
+    (λ c. subst⁻¹ (λ (n : ℕ). 0 < n) (one-shl (c .args .p) (omega arith)) (pow-pos (c .args .p))) (λ c. record { fits = fits _ (c .args .p) (omega arith) })
+    returns)

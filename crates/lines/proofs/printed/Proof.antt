@@ -11,8 +11,8 @@ returns c key =
 
 pub printed-spec : {M : Type 1} → statement M
 printed-spec =
-    tie.close (tie.spec (λ c. search needs) (λ c. search needs) (λ c κs. search needs) returns (λ c. search needs) (λ c. search needs)
-    (λ c κs. search needs) (λ c. search needs) (λ c. search needs)
+    tie.close (tie.spec (λ c. search needs) (λ c. search needs) (λ c κs. search needs) returns (λ c. search needs) (λ c. search needs) (λ c κs. search needs)
+    (λ c. search needs) (λ c. search needs)
     (λ c key. printed-answer _ _ _ key _ _ _ (c .enum-told2 .given .1) (c .before .before .before .reply .given .1) refl)
     (λ c key. let told = c .before .before in
     printed-answer _ _ _ key _ _ _ (told .kind .given .1) (told .before .before .before .reply .given .1) (c .updated .ensures key))

@@ -24,8 +24,7 @@ returns c =
 
 pub write-key-spec : {M : Type 1} → statement M
 write-key-spec =
-    tie.close (tie.spec (λ c. search needs) (λ c. sym (length-take-le 4 (c .before .before .before .args .key .now) (omega arith)))
-    (λ c. search needs) (λ c. search needs) (λ c. search needs) (λ c κs. simp (length-take, length-drop) (omega arith)) (λ c. search needs)
-    (λ c. search needs) (λ c. search needs) (λ c. search needs) (λ c. search needs) (λ c. search needs) (λ c κs. search needs) (λ c. search needs)
-    (λ c. search needs) (λ c. search needs) (λ c κs. search needs) (λ c κs. search needs) (λ c. search needs) (λ c. simp length-set (omega arith))
-    returns)
+    tie.close (tie.spec (λ c. search needs) (λ c. sym (length-take-le 4 (c .before .before .before .args .key .now) (omega arith))) (λ c. search needs)
+    (λ c. search needs) (λ c. search needs) (λ c κs. simp (length-take, length-drop) (omega arith)) (λ c. search needs) (λ c. search needs)
+    (λ c. search needs) (λ c. search needs) (λ c. search needs) (λ c. search needs) (λ c κs. search needs) (λ c. search needs) (λ c. search needs)
+    (λ c. search needs) (λ c κs. search needs) (λ c κs. search needs) (λ c. search needs) (λ c. simp length-set (omega arith)) returns)

@@ -21,5 +21,4 @@ returns-2 c =
     rw (other, getD-drop (args .m) (args .work .now) (args .choice) 0, room-is (paper (args .s))) (rw (c .before .wide-count2 .ensures, bucket .ensures))
 
 pub aside-spec : {M : Type 1} → statement M
-aside-spec =
-    tie.close (tie.spec (λ c κs. search needs) returns (λ c. search needs) (λ c. search needs) (λ c. search needs) (λ c κs. search needs) returns-2)
+aside-spec = tie.close (tie.spec (λ c κs. search needs) returns (λ c. search needs) (λ c. search needs) (λ c. search needs) (λ c κs. search needs) returns-2)

@@ -90,5 +90,5 @@ returns c =
 
 pub place-parts-spec : {M : Type 1} → statement M
 place-parts-spec =
-    tie.close (tie.spec (λ c κs. search needs) (λ c. search needs) (λ c. sym (half (c .before .before .before))) count-parts-requires
-    choose-parts-requires (λ c. search needs) (λ c. search needs) returns)
+    tie.close (tie.spec (λ c κs. search needs) (λ c. search needs) (λ c. sym (half (c .before .before .before))) count-parts-requires choose-parts-requires
+    (λ c. search needs) (λ c. search needs) returns)

@@ -54,7 +54,7 @@ returns c =
 
 pub side-need-spec : {M : Type 1} → statement M
 side-need-spec =
-    tie.close (tie.spec Inv-loop μ-loop (λ c. record { within = omega arith; few = omega arith; counted = refl }) (λ c. search needs)
-    (λ c. omega arith) (λ c κs. let p = c .before .before .before .before .before .pre in (p .1, p .2, p .3 (c .before .before .loop .i)))
-    (λ c κs. tt) (λ c. omega (arith, c .pick .ensures, one-bound (c .before .aside .result), c .before .before .before .before .loop .inv .few))
-    (λ c. omega arith) (λ c. omega arith) loop-again returns)
+    tie.close (tie.spec Inv-loop μ-loop (λ c. record { within = omega arith; few = omega arith; counted = refl }) (λ c. search needs) (λ c. omega arith)
+    (λ c κs. let p = c .before .before .before .before .before .pre in (p .1, p .2, p .3 (c .before .before .loop .i))) (λ c κs. tt)
+    (λ c. omega (arith, c .pick .ensures, one-bound (c .before .aside .result), c .before .before .before .before .loop .inv .few)) (λ c. omega arith)
+    (λ c. omega arith) loop-again returns)

@@ -39,7 +39,6 @@ returns c =
 
 pub counters-valid-spec : {M : Type 1} → statement M
 counters-valid-spec =
-    tie.close (tie.spec Inv-loop μ-loop (λ c κs. c .before .pre .0) (λ c. any-start) counter-requires (λ c κs. search needs) returns
-    (λ c. omega arith) (λ c. omega arith)
-    (λ c. let at = turn (c .before) in any-on (at .before .loop .inv) (at .loop-test .taken) (passes (c .before) ∙ c .if1 .left))
+    tie.close (tie.spec Inv-loop μ-loop (λ c κs. c .before .pre .0) (λ c. any-start) counter-requires (λ c κs. search needs) returns (λ c. omega arith)
+    (λ c. omega arith) (λ c. let at = turn (c .before) in any-on (at .before .loop .inv) (at .loop-test .taken) (passes (c .before) ∙ c .if1 .left))
     (λ c. rw (← c .before .before .buckets .ensures, any-over (c .before .loop .inv) (c .loop-test .left))))

@@ -57,7 +57,6 @@ returns-3 c = tally-on _ _ _ _ _ (judged (c .before .before)) (not-false _ (c .b
 
 pub tally-spec : {M : Type 1} → statement M
 tally-spec =
-    tie.close (tie.spec (λ c κs. search needs) (λ c. search needs) (λ c. search needs) (λ c κs. search needs) returns (λ c κs. ok c)
-    (λ c κs. ok (c .before)) (λ c κs. search needs)
-    (λ c. tally-2 _ _ _ _ _ (judged (c .before .before)) (not-true _ (c .before .if1 .taken)) _ (c .no-totals2 .ensures))
+    tie.close (tie.spec (λ c κs. search needs) (λ c. search needs) (λ c. search needs) (λ c κs. search needs) returns (λ c κs. ok c) (λ c κs. ok (c .before))
+    (λ c κs. search needs) (λ c. tally-2 _ _ _ _ _ (judged (c .before .before)) (not-true _ (c .before .if1 .taken)) _ (c .no-totals2 .ensures))
     (λ c κs. tally-checked _ _ _ _ _ (judged (c .before)) (not-false _ (c .if1 .left))) returns-3)

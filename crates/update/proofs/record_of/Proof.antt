@@ -31,5 +31,5 @@ returns c =
 
 pub record-of-spec : {M : Type 1} → statement M
 record-of-spec =
-    tie.close (tie.spec (λ c κs. search needs) (λ c. search needs) (λ c. sym (lent (c .before)))
-    (λ c κs. lent (c .before) ∙ start (c .before) .pre .0) returns)
+    tie.close (tie.spec (λ c κs. search needs) (λ c. search needs) (λ c. sym (lent (c .before))) (λ c κs. lent (c .before) ∙ start (c .before) .pre .0)
+    returns)

@@ -119,10 +119,8 @@ returns-3 c =
 
 pub update-checked-spec : {M : Type 1} → statement M
 update-checked-spec =
-    tie.close (tie.spec (λ c κs. search needs) (λ c. updated-3 _ _ _ _ (λ w. c .if1 .taken (w ∙ sym (c .before .width .ensures))))
-    (λ c κs. search needs) (λ c κs. search needs)
-    (λ c κs. (c .record-size .ensures ∙ size-is (card-of (t (asked c))) ∙ ap (λ (w : ℕ). w + 4) (sym (wide c)), small c)) (λ c. search needs)
-    (λ c. in-64 (c .before .before .before)) (λ c. sym (in-buffer (c .before .before .before .before))) judge-requires (λ c. search needs)
-    (λ c. search needs) returns-2 (λ c. search needs) (λ c. in-64 (opened (judged (good c))))
-    (λ c. sym (in-buffer (opened (judged (good (c .before)))))) write-new-requires (λ c. search needs) (λ c. search needs) (λ c. search needs)
-    (λ c. search needs) (λ c. search needs) (λ c. search needs) returns-3)
+    tie.close (tie.spec (λ c κs. search needs) (λ c. updated-3 _ _ _ _ (λ w. c .if1 .taken (w ∙ sym (c .before .width .ensures)))) (λ c κs. search needs)
+    (λ c κs. search needs) (λ c κs. (c .record-size .ensures ∙ size-is (card-of (t (asked c))) ∙ ap (λ (w : ℕ). w + 4) (sym (wide c)), small c))
+    (λ c. search needs) (λ c. in-64 (c .before .before .before)) (λ c. sym (in-buffer (c .before .before .before .before))) judge-requires (λ c. search needs)
+    (λ c. search needs) returns-2 (λ c. search needs) (λ c. in-64 (opened (judged (good c)))) (λ c. sym (in-buffer (opened (judged (good (c .before))))))
+    write-new-requires (λ c. search needs) (λ c. search needs) (λ c. search needs) (λ c. search needs) (λ c. search needs) (λ c. search needs) returns-3)

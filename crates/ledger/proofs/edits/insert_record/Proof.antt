@@ -58,8 +58,7 @@ returns c = λ x q.
 
 pub insert-record-spec : {M : Type 1} → statement M
 insert-record-spec =
-    tie.close (tie.spec
-    (λ c κs. let start = c .before .before .before in has-count (card (start .args .s)) (start .args .ledger .now) (start .pre .0 .size))
+    tie.close (tie.spec (λ c κs. let start = c .before .before .before in has-count (card (start .args .s)) (start .args .ledger .now) (start .pre .0 .size))
     (λ c κs. search needs) (λ c. omega (arith, insert-room (place c) (start c .pre .1))) (λ c. omega (arith, insert-room (place c) (start c .pre .1)))
     (λ c. omega (arith, insert-room (place c) (start c .pre .1))) (λ c. omega (arith, insert-room (place c) (start c .pre .1)))
     (λ c. omega (arith, insert-room (place c) (start c .pre .1)))

@@ -35,5 +35,5 @@ returns c = λ x q.
 
 pub replace-record-spec : {M : Type 1} → statement M
 replace-record-spec =
-    tie.close (tie.spec (λ c κs. search needs) (λ c. omega (arith, room c)) (λ c. omega (arith, room c)) (λ c. omega (arith, room c))
-    (λ c. search needs) (λ c. search needs) (λ c. room c) (λ c κs. search needs) (λ c. search needs) returns)
+    tie.close (tie.spec (λ c κs. search needs) (λ c. omega (arith, room c)) (λ c. omega (arith, room c)) (λ c. omega (arith, room c)) (λ c. search needs)
+    (λ c. search needs) (λ c. room c) (λ c κs. search needs) (λ c. search needs) returns)

@@ -65,6 +65,5 @@ loop-again c =
 pub answer-all-spec : {M : Type 1} → statement M
 answer-all-spec =
     tie.close (tie.spec Inv-loop μ-loop (λ c κs. search needs) (λ c. passed-none) (λ c. omega arith) (λ c. omega arith) (λ c κs. search needs)
-    (λ c κs. inside (hand c)) search-chosen-requires (λ c κs. search needs) (λ c. omega arith) (λ c. omega arith) (λ c. omega arith)
-    (λ c. omega arith) loop-again (λ c. c .before .loop .inv .long)
-    (λ c. rw (← c .before .before .width .ensures) (passed-all (c .before .loop .inv) (c .loop-test .left))))
+    (λ c κs. inside (hand c)) search-chosen-requires (λ c κs. search needs) (λ c. omega arith) (λ c. omega arith) (λ c. omega arith) (λ c. omega arith)
+    loop-again (λ c. c .before .loop .inv .long) (λ c. rw (← c .before .before .width .ensures) (passed-all (c .before .loop .inv) (c .loop-test .left))))

@@ -44,6 +44,6 @@ loop-again c =
 
 pub read-all-counters-spec : {M : Type 1} → statement M
 read-all-counters-spec =
-    tie.close (tie.spec Inv-loop μ-loop (λ c. passed-none) (λ c. omega arith) (λ c. omega arith) (λ c κs. search needs) (λ c κs. small c)
-    (λ c. omega arith) (λ c. omega arith) (λ c. omega arith) (λ c. omega arith) loop-again (λ c. c .before .loop .inv .long)
+    tie.close (tie.spec Inv-loop μ-loop (λ c. passed-none) (λ c. omega arith) (λ c. omega arith) (λ c κs. search needs) (λ c κs. small c) (λ c. omega arith)
+    (λ c. omega arith) (λ c. omega arith) (λ c. omega arith) loop-again (λ c. c .before .loop .inv .long)
     (λ c. passed-all (c .before .loop .inv) (omega (arith, c .before .loop .inv .long))))

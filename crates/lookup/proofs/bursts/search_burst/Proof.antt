@@ -59,6 +59,5 @@ pub search-burst-spec : {M : Type 1} → statement M
 search-burst-spec =
     tie.close (tie.spec (λ c κs. search needs) (λ c. search needs) (λ c. search needs)
     (λ c κs. let right = right (c .before .before) in (right .table-size, right .keys-size))
-    (λ c κs. let right = right (c .before .before .before .before .before .before) in (right .checked .ok, right .checked .clipped-size))
-    answer-all-requires (λ c. burst-refused _ _ _ _ _ _ _ _ (sym (c .before .before .before .judge-burst .ensures) ∙ c .before .judged .given .1))
-    (λ c. search needs) returns-2)
+    (λ c κs. let right = right (c .before .before .before .before .before .before) in (right .checked .ok, right .checked .clipped-size)) answer-all-requires
+    (λ c. burst-refused _ _ _ _ _ _ _ _ (sym (c .before .before .before .judge-burst .ensures) ∙ c .before .judged .given .1)) (λ c. search needs) returns-2)

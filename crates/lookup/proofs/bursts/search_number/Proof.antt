@@ -60,5 +60,5 @@ pub search-number-spec : {M : Type 1} → statement M
 search-number-spec =
     tie.close (tie.spec (λ c κs. search needs) (λ c. search needs) (λ c κs. search needs) (λ c κs. search needs) (λ c. search needs)
     (λ c κs. right (c .before) .wide ∙ width-is (paper (s (c .before)))) (λ c. search needs) (λ c. search needs)
-    (λ c κs. let right = right (c .before .before .before) in (right .checked .ok, right .checked .clipped-size)) (λ c. search needs)
-    answer-all-requires (λ c. search needs) returns returns-2)
+    (λ c κs. let right = right (c .before .before .before) in (right .checked .ok, right .checked .clipped-size)) (λ c. search needs) answer-all-requires
+    (λ c. search needs) returns returns-2)

@@ -65,7 +65,7 @@ returns c =
 pub read-counters-spec : {M : Type 1} → statement M
 read-counters-spec =
     tie.close (tie.spec Inv-loop μ-loop (λ c κs. c .before .pre .0) (λ c κs. tt) (λ c. omega (arith, top-small (c .before)))
-    (λ c. omega (arith, top-small (c .before), m-small (c .before) .0)) (λ c. so-far-start _ (c .zero .ensures))
-    (λ c. omega (arith, m-small (counted c) .1)) (λ c κs. counter-there (all (counted c)) _ (c .before .loop .j) _ (is-hash (c .before .loop .inv)))
-    (λ c κs. tt) (λ c κs. (omega (arith, c .before .counter .ensures .1), omega (arith, below (c .before .before)))) (λ c κs. tt) (λ c. omega arith)
-    (λ c. omega arith) loop-again (λ c κs. tt) (λ c κs. tt) returns)
+    (λ c. omega (arith, top-small (c .before), m-small (c .before) .0)) (λ c. so-far-start _ (c .zero .ensures)) (λ c. omega (arith, m-small (counted c) .1))
+    (λ c κs. counter-there (all (counted c)) _ (c .before .loop .j) _ (is-hash (c .before .loop .inv))) (λ c κs. tt)
+    (λ c κs. (omega (arith, c .before .counter .ensures .1), omega (arith, below (c .before .before)))) (λ c κs. tt) (λ c. omega arith) (λ c. omega arith)
+    loop-again (λ c κs. tt) (λ c κs. tt) returns)

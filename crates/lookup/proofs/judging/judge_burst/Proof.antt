@@ -92,5 +92,5 @@ returns-4 c =
 pub judge-burst-spec : {M : Type 1} → statement M
 judge-burst-spec =
     tie.close (tie.spec (λ c κs. search needs) (λ c. search needs) (λ c. search needs) returns (λ c κs. search needs) (λ c. omega (arith, w-is c))
-    (λ c κs. rw (arm c .1) (arm c .0)) returns-2 (λ c. omega (arith, w-is (known (c .before)))) (λ c. omega (arith, w-is (known (c .before))))
-    returns-3 returns-4)
+    (λ c κs. rw (arm c .1) (arm c .0)) returns-2 (λ c. omega (arith, w-is (known (c .before)))) (λ c. omega (arith, w-is (known (c .before)))) returns-3
+    returns-4)

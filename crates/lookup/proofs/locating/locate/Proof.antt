@@ -28,5 +28,5 @@ returns c =
 pub locate-spec : {M : Type 1} → statement M
 locate-spec =
     tie.close (tie.spec (λ c κs. search needs) (λ c. search needs) (λ c κs. search needs) (λ c κs. search needs) (λ c. search needs)
-    (λ c κs. right (c .before) .wide ∙ width-is (paper (s (c .before)))) (λ c κs. let at = c .before .before in (right at .checked, right at .wide))
-    returns (λ c. call-located (right (c .before .before .before)) _ (c .before .h-rows .ensures) (c .locate-at .ensures)))
+    (λ c κs. right (c .before) .wide ∙ width-is (paper (s (c .before)))) (λ c κs. let at = c .before .before in (right at .checked, right at .wide)) returns
+    (λ c. call-located (right (c .before .before .before)) _ (c .before .h-rows .ensures) (c .locate-at .ensures)))

@@ -75,11 +75,7 @@ with-place-requires c κs =
 with-place-requires-2 : tie.Need-with-place-requires-2
 with-place-requires-2 c κs =
     let at = c .before .before .before .before in
-    record {
-      counted = one-compared (card-of (t at)) (key at) _ _ (c .compare-side .ensures);
-      near = omega arith;
-      small = omega (arith, size-is at);
-    }
+    record { counted = one-compared (card-of (t at)) (key at) _ _ (c .compare-side .ensures); near = omega arith; small = omega (arith, size-is at) }
 
 returns : tie.Need-returns
 returns c =
@@ -111,8 +107,7 @@ returns-4 c =
 
 pub locate-at-spec : {M : Type 1} → statement M
 locate-at-spec =
-    tie.close (tie.spec (λ c κs. search needs) (λ c κs. search needs) place-by-requires (λ c. search needs) (λ c κs. search needs)
-    (λ c κs. search needs) (λ c. search needs) (λ c κs. search needs) (λ c κs. search needs) (λ c. search needs)
+    tie.close (tie.spec (λ c κs. search needs) (λ c κs. search needs) place-by-requires (λ c. search needs) (λ c κs. search needs) (λ c κs. search needs)
+    (λ c. search needs) (λ c κs. search needs) (λ c κs. search needs) (λ c. search needs)
     (λ c κs. in-bucket (found (c .before .before .before) .looking) (c .before .place .given .1)) with-place-requires (λ c. search needs)
-    (λ c κs. in-side (found (c .before .before .before) .looking) (c .before .place2 .given .1)) with-place-requires-2 returns returns-2 returns-3
-    returns-4)
+    (λ c κs. in-side (found (c .before .before .before) .looking) (c .before .place2 .given .1)) with-place-requires-2 returns returns-2 returns-3 returns-4)

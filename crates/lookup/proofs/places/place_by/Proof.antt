@@ -55,5 +55,4 @@ returns-4 c = let at = c .before .before in rw (none-above at, none-zero at, all
 
 pub place-by-spec : {M : Type 1} → statement M
 place-by-spec =
-    tie.close (tie.spec returns (λ c κs. search needs) returns-2 (λ c κs. search needs) (λ c κs. search needs) returns-3 bucket-place-requires
-    returns-4)
+    tie.close (tie.spec returns (λ c κs. search needs) returns-2 (λ c κs. search needs) (λ c κs. search needs) returns-3 bucket-place-requires returns-4)

@@ -52,5 +52,5 @@ scan-spec =
     tie.close (tie.spec Inv-loop μ-loop (λ c. scanning-start (c .before .before .pre)) (λ c. omega (arith, inside c)) (λ c. omega arith)
     (λ c. omega (arith, inside c)) (λ c. omega (arith, inside c)) same-key-requires (λ c. omega (arith, turn (c .before) .before .loop .inv .count))
     (λ c. let at = turn (c .before) in scanning-hit (at .before .loop .inv) (at .loop-test .taken) (sym (equal (c .before)) ∙ c .if1 .taken))
-    (λ c. omega arith) (λ c. omega (arith, turn (c .before) .before .loop .inv .count)) (λ c. omega (arith, inside (turn (c .before))))
-    (λ c. omega arith) loop-again (λ c. scanning-end (c .before .loop .inv) (omega arith)))
+    (λ c. omega arith) (λ c. omega (arith, turn (c .before) .before .loop .inv .count)) (λ c. omega (arith, inside (turn (c .before)))) (λ c. omega arith)
+    loop-again (λ c. scanning-end (c .before .loop .inv) (omega arith)))

@@ -17,8 +17,8 @@ module _ (c : tie.After-find-place) where
 
 pub search-at-spec : {M : Type 1} → statement M
 search-at-spec =
-    tie.close (tie.spec (λ c κs. search needs) (λ c. search needs) (λ c κs. search needs) (λ c. search needs) (λ c κs. search needs)
-    (λ c. search needs) (λ c κs. in-bucket (at (c .before .before .before) .looking) (c .before .place .given .1)) (λ c. search needs)
+    tie.close (tie.spec (λ c κs. search needs) (λ c. search needs) (λ c κs. search needs) (λ c. search needs) (λ c κs. search needs) (λ c. search needs)
+    (λ c κs. in-bucket (at (c .before .before .before) .looking) (c .before .place .given .1)) (λ c. search needs)
     (λ c κs. in-side (at (c .before .before .before) .looking) (c .before .place2 .given .1))
     (λ c. c .bare .ensures ∙ answer-refused (at (c .before .before .before) .looking) (c .before .enum-told .given .1))
     (λ c. c .bare2 .ensures ∙ answer-absent (at (c .before .before .before) .looking) (c .before .enum-told2 .given .1))

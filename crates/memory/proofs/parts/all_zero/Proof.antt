@@ -36,5 +36,4 @@ returns c =
     ap not (sym (or-false (l .dirty)) ∙ (rw (any-past-end nonzero part (l .i) (omega arith)) at (l .inv .1)))
 
 pub all-zero-spec : {M : Type 1} → statement M
-all-zero-spec =
-    tie.close (tie.spec Inv-loop μ-loop (λ c. (omega arith, refl)) (λ c. omega arith) (λ c. omega arith) (λ c. omega arith) loop-again returns)
+all-zero-spec = tie.close (tie.spec Inv-loop μ-loop (λ c. (omega arith, refl)) (λ c. omega arith) (λ c. omega arith) (λ c. omega arith) loop-again returns)

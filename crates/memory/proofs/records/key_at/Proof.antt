@@ -6,5 +6,4 @@ use Rattle.memory.proofs.records.key_at.Tie as tie
 
 pub key-at-spec : {M : Type 1} → statement M
 key-at-spec =
-    tie.close (tie.spec (λ c. search needs) (λ c. search needs) (λ c. search needs) (λ c. search needs) (λ c. search needs)
-    (λ c. rw add-sub-cancel-left))
+    tie.close (tie.spec (λ c. search needs) (λ c. search needs) (λ c. search needs) (λ c. search needs) (λ c. search needs) (λ c. rw add-sub-cancel-left))

@@ -13,5 +13,4 @@ returns-2 c =
     rw (c .version .ensures, c .before .header-length .ensures, le-ltb (length (long .before .before .args .packet .now)) 20 (long .if1 .left))
 
 pub header-wrong-spec : {M : Type 1} → statement M
-header-wrong-spec =
-    tie.close (tie.spec (λ c. unfold header-wrong in rw (lt-ltb _ _ (c .if1 .taken))) (λ c κs. search needs) (λ c κs. search needs) returns-2)
+header-wrong-spec = tie.close (tie.spec (λ c. unfold header-wrong in rw (lt-ltb _ _ (c .if1 .taken))) (λ c κs. search needs) (λ c κs. search needs) returns-2)

@@ -85,5 +85,4 @@ choose-at-spec =
     tie.close (tie.spec Inv-loop μ-loop (λ c κs. search needs) (λ c. omega (arith, top-few c)) (λ c. omega (arith, top-few c, few c))
     (λ c. record { within = omega arith; rest-is = rest-start _; so-far = refl }) (λ c. omega (arith, some (made c)))
     (λ c. omega (arith, there c, few (made c))) (λ c. omega (arith, there (c .before), made (c .before) .buckets .ensures)) (λ c κs. tt)
-    (λ c κs. omega (arith, there (c .before .before), few (made (c .before .before)))) (λ c κs. tt) (λ c. omega arith) (λ c. omega arith) loop-again
-    returns)
+    (λ c κs. omega (arith, there (c .before .before), few (made (c .before .before)))) (λ c κs. tt) (λ c. omega arith) (λ c. omega arith) loop-again returns)

@@ -174,5 +174,5 @@ choose-more-spec =
     (λ c. sym (length-take-le (m (sized (c .before))) (work (c .before)) (halved (c .before))))
     (λ c κs. key-inside (sizes (sized (c .before))) _ _ (area (sized (c .before))) (start (sized (c .before)) .pre .there) (c .before .loop-test .taken))
     choose-requires (λ c κs. tt) (λ c. omega (arith, small c, few (sized (at c)))) (λ c. search needs)
-    (λ c. omega (arith, at c .before .loop .inv .places, at c .loop-test .taken)) (λ c. search needs) (λ c. omega arith) (λ c. omega arith)
-    (λ c. omega arith) add-choice-requires (λ c. omega arith) (λ c. omega arith) loop-again (λ c. omega arith) (λ c. omega arith) returns)
+    (λ c. omega (arith, at c .before .loop .inv .places, at c .loop-test .taken)) (λ c. search needs) (λ c. omega arith) (λ c. omega arith) (λ c. omega arith)
+    add-choice-requires (λ c. omega arith) (λ c. omega arith) loop-again (λ c. omega arith) (λ c. omega arith) returns)

@@ -66,12 +66,7 @@ count-more-requires-2 : tie.Need-count-more-requires-2
 count-more-requires-2 c κs =
     let once = c .before .before .before in
     let p = start (first once) .pre in
-    record {
-      ready = p .ready;
-      buckets = same once;
-      there = p .second;
-      few = λ b. omega (arith, counted once b, counted-few once b, p .few);
-    }
+    record { ready = p .ready; buckets = same once; there = p .second; few = λ b. omega (arith, counted once b, counted-few once b, p .few) }
 
 count-more-requires-3 : tie.Need-count-more-requires-3
 count-more-requires-3 c κs =
@@ -81,14 +76,7 @@ count-more-requires-3 c κs =
       ready = p .ready;
       buckets = same-2 twice;
       there = p .third;
-      few = λ b. omega (
-        arith,
-        counted (once twice) b,
-        counted-few (once twice) b,
-        twice .count-more2 .ensures b,
-        counted-few-2 twice b,
-        p .few,
-      );
+      few = λ b. omega (arith, counted (once twice) b, counted-few (once twice) b, twice .count-more2 .ensures b, counted-few-2 twice b, p .few);
     }
 
 returns : tie.Need-returns

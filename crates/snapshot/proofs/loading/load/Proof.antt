@@ -92,6 +92,6 @@ load-spec =
     tie.close (tie.spec (λ c κs. search needs) (λ c κs. search needs)
     (λ c. c .not-loaded .ensures _ ∙ loads-12 _ _ _ (sym (c .before .before .head-wrong .ensures) ∙ c .before .if1 .taken))
     (λ c κs. head-long (file (c .before)) (right-head c)) (λ c. search needs) (λ c. search needs) (λ c κs. search needs) returns-2
-    (λ c κs. permits (allowed-as c)) (λ c κs. permits (allowed-as (c .before))) (λ c κs. search needs) returns-3 (λ c κs. search needs)
-    (λ c. search needs) load-checked-requires (λ c. search needs) (λ c. search needs) (λ c. search needs) (λ c. search needs) (λ c. search needs)
-    (λ c. search needs) (λ c. search needs))
+    (λ c κs. permits (allowed-as c)) (λ c κs. permits (allowed-as (c .before))) (λ c κs. search needs) returns-3 (λ c κs. search needs) (λ c. search needs)
+    load-checked-requires (λ c. search needs) (λ c. search needs) (λ c. search needs) (λ c. search needs) (λ c. search needs) (λ c. search needs)
+    (λ c. search needs))

@@ -146,9 +146,8 @@ load-checked-spec =
     tie.close (tie.spec
     (λ c κs. let pre = c .before .before .before .before .before .before .before .before .pre in (pre .ready .ok, head-long _ (pre .head)))
     (λ c κs. search needs) returns (λ c. omega (arith, long (c .before))) (λ c. omega (arith, long (c .before))) (λ c. search needs) count-at-requires
-    (λ c κs. search needs) (λ c. long (judged (c .before))) (λ c. long (judged (c .before))) (λ c. search needs) (λ c. search needs)
-    place-area-requires (λ c κs. search needs) (λ c. search needs) returns-2
-    (λ c. in-kept (placed (c .before .before .before .before .before .before)))
+    (λ c κs. search needs) (λ c. long (judged (c .before))) (λ c. long (judged (c .before))) (λ c. search needs) (λ c. search needs) place-area-requires
+    (λ c κs. search needs) (λ c. search needs) returns-2 (λ c. in-kept (placed (c .before .before .before .before .before .before)))
     (λ c. let place = placed (c .before .before .before .before .before .before .before) in
     sym (length-take-le (n (counted place)) (kept place) (in-kept place)))
     write-list-requires (λ c κs. search needs) (λ c. search needs) (λ c. search needs) (λ c. search needs) (λ c. search needs) (λ c. search needs)

@@ -58,5 +58,4 @@ write-ledger-spec =
     tie.close (tie.spec (λ c κs. search needs) (λ c. omega (arith, end c)) (λ c. omega (arith, end c)) write-number-requires (λ c. search needs)
     (λ c. search needs)
     (λ c. let count = c .before .before in copy-end (start (sized count) .pre) (sized count .record-size .ensures) (count .write-number .ensures))
-    copy-requires (λ c. rest (c .before .before)) (λ c. rest (c .before .before)) (λ c. search needs) (λ c κs. search needs) (λ c. search needs)
-    returns)
+    copy-requires (λ c. rest (c .before .before)) (λ c. rest (c .before .before)) (λ c. search needs) (λ c κs. search needs) (λ c. search needs) returns)

@@ -41,5 +41,4 @@ returns-3 c =
 
 pub refusal-by-head-spec : {M : Type 1} → statement M
 refusal-by-head-spec =
-    tie.close (tie.spec (λ c κs. search needs) returns (λ c κs. head-long (file c) (right c)) (λ c. search needs) (λ c. search needs) returns-2
-    returns-3)
+    tie.close (tie.spec (λ c κs. search needs) returns (λ c κs. head-long (file c) (right c)) (λ c. search needs) (λ c. search needs) returns-2 returns-3)

@@ -120,8 +120,8 @@ returns-4 c =
 pub save-checked-spec : {M : Type 1} → statement M
 save-checked-spec =
     tie.close (tie.spec (λ c κs. search needs)
-    (λ c. saves-4 (start (c .before) .pre) _ (not-false _ (sym (c .before .valid .ensures) ∙ not-true _ (c .if1 .taken))))
-    (λ c κs. has-two (c .before)) (λ c κs. search needs) (λ c. search needs) (λ c. has-two (judged (c .before .before .before)))
-    (λ c. has-two (judged (c .before .before .before))) (λ c. search needs) place-area-requires (λ c. search needs) returns-2 (λ c κs. search needs)
-    (λ c. omega (arith, end c)) (λ c. omega (arith, end c, start (e c) .pre .whole, bounds (t (e c)) (start (e c) .pre .ready .ok) .ledger-most))
-    (λ c. search needs) returns-3 write-snapshot-requires (λ c. search needs) (λ c. search needs) returns-4)
+    (λ c. saves-4 (start (c .before) .pre) _ (not-false _ (sym (c .before .valid .ensures) ∙ not-true _ (c .if1 .taken)))) (λ c κs. has-two (c .before))
+    (λ c κs. search needs) (λ c. search needs) (λ c. has-two (judged (c .before .before .before))) (λ c. has-two (judged (c .before .before .before)))
+    (λ c. search needs) place-area-requires (λ c. search needs) returns-2 (λ c κs. search needs) (λ c. omega (arith, end c))
+    (λ c. omega (arith, end c, start (e c) .pre .whole, bounds (t (e c)) (start (e c) .pre .ready .ok) .ledger-most)) (λ c. search needs) returns-3
+    write-snapshot-requires (λ c. search needs) (λ c. search needs) returns-4)

@@ -182,7 +182,7 @@ returns-4 c =
 pub judge-spec : {M : Type 1} → statement M
 judge-spec =
     tie.close (tie.spec (λ c κs. search needs) (λ c κs. search needs) returns (λ c κs. has-two (c .before)) (λ c. has-two (c .before .before))
-    (λ c. has-two (c .before .before)) (λ c. search needs) find-spot-requires (λ c κs. search needs) (λ c κs. search needs) returns-2
-    place-new-requires (λ c κs. search needs) (λ c. search needs) (λ c. search needs) returns-3 (λ c κs. search needs)
+    (λ c. has-two (c .before .before)) (λ c. search needs) find-spot-requires (λ c κs. search needs) (λ c κs. search needs) returns-2 place-new-requires
+    (λ c κs. search needs) (λ c. search needs) (λ c. search needs) returns-3 (λ c κs. search needs)
     (λ c. omega (arith, place-fits (accepted (at (placing (c .before .before)))), c .left-out .ensures .0)) (λ c κs. search needs) (λ c. search needs)
     (λ c. search needs) (λ c. search needs) returns-4)

@@ -113,11 +113,10 @@ returns c =
 
 pub place-new-spec : {M : Type 1} → statement M
 place-new-spec =
-    tie.close (tie.spec (λ c κs. search needs) (λ c. omega (arith, start c .pre .place)) (λ c κs. search needs)
-    (λ c. omega (arith, after-within (around c))) (λ c. omega (arith, after-within (around c))) (λ c. from-within (around c)) (λ c κs. search needs)
-    (λ c. omega (arith, in-kept c)) (λ c. omega (arith, in-kept c)) (λ c. search needs) (λ c. search needs) (λ c. search needs)
-    (λ c. after-within (around (c .before .before .before))) (λ c. after-within (around (c .before .before .before))) (λ c. search needs)
-    (λ c. in-kept (c .before .before .before))
+    tie.close (tie.spec (λ c κs. search needs) (λ c. omega (arith, start c .pre .place)) (λ c κs. search needs) (λ c. omega (arith, after-within (around c)))
+    (λ c. omega (arith, after-within (around c))) (λ c. from-within (around c)) (λ c κs. search needs) (λ c. omega (arith, in-kept c))
+    (λ c. omega (arith, in-kept c)) (λ c. search needs) (λ c. search needs) (λ c. search needs) (λ c. after-within (around (c .before .before .before)))
+    (λ c. after-within (around (c .before .before .before))) (λ c. search needs) (λ c. in-kept (c .before .before .before))
     (λ c. let sized = c .before .before .before .before in sym (length-take-le (total sized) _ (in-kept sized))) place-parts-requires
     (λ c. kept-back (placing c) .room) (λ c. let place = placing (c .before) in sym (ap length (kept-back place .first) ∙ kept-back place .long))
     side-need-requires (λ c. search needs) (λ c. search needs) returns)

@@ -25,9 +25,8 @@ remove-record-requires c κs =
 
 pub edit-ledger-spec : {M : Type 1} → statement M
 edit-ledger-spec =
-    tie.close (tie.spec (λ c. search needs) insert-record-requires (λ c. search needs) replace-record-requires (λ c. search needs)
-    remove-record-requires (λ c. search needs)
-    (λ c. let made = c .before .before in λ x e. rw (made .before .before .enum-told .given .1, add-zero) (made .insert-record .ensures x e))
+    tie.close (tie.spec (λ c. search needs) insert-record-requires (λ c. search needs) replace-record-requires (λ c. search needs) remove-record-requires
     (λ c. search needs)
-    (λ c. let made = c .before .before in λ x e. rw (made .before .before .enum-told2 .given .1) (made .replace-record .ensures x e))
+    (λ c. let made = c .before .before in λ x e. rw (made .before .before .enum-told .given .1, add-zero) (made .insert-record .ensures x e))
+    (λ c. search needs) (λ c. let made = c .before .before in λ x e. rw (made .before .before .enum-told2 .given .1) (made .replace-record .ensures x e))
     (λ c. search needs) (λ c. let made = c .before .before in λ x e. rw (made .before .before .enum-told3 .given .1) (made .remove-record .ensures)))

@@ -35,6 +35,6 @@ returns c =
 
 pub append-spec : {M : Type 1} → statement M
 append-spec =
-    tie.close (tie.spec (λ c. search needs) (λ c κs. search needs) (λ c. omega (arith, place c)) (λ c. omega (arith, place c))
-    (λ c. omega (arith, place c)) (λ c. search needs) (λ c. search needs) (λ c. omega (arith, place c)) (λ c κs. search needs) (λ c. search needs)
-    (λ c. search needs) (λ c. search needs) returns)
+    tie.close (tie.spec (λ c. search needs) (λ c κs. search needs) (λ c. omega (arith, place c)) (λ c. omega (arith, place c)) (λ c. omega (arith, place c))
+    (λ c. search needs) (λ c. search needs) (λ c. omega (arith, place c)) (λ c κs. search needs) (λ c. search needs) (λ c. search needs) (λ c. search needs)
+    returns)

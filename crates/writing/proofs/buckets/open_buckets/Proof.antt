@@ -109,6 +109,5 @@ open-buckets-spec =
     tie.close (tie.spec Inv-loop μ-loop (λ c κs. c .before .before .pre .0)
     (λ c. record { most = omega arith; here = sym (zero-mul (size c)); same = refl; blank = blank-none _ _ }) (λ c. omega (arith, within c))
     (λ c. search needs) (λ c. let h = there c in search needs) (λ c. search needs)
-    (λ c. let at = c .before in omega (arith, c .shared-slice-known2 .given (m (sized at) + at .before .loop .b))) (λ c. search needs)
-    (λ c. search needs) (λ c. within (c .before)) open-bucket-requires (λ c. search needs) (λ c. search needs) loop-again
-    (λ c. c .before .loop .inv .same) returns)
+    (λ c. let at = c .before in omega (arith, c .shared-slice-known2 .given (m (sized at) + at .before .loop .b))) (λ c. search needs) (λ c. search needs)
+    (λ c. within (c .before)) open-bucket-requires (λ c. search needs) (λ c. search needs) loop-again (λ c. c .before .loop .inv .same) returns)

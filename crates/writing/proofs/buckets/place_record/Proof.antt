@@ -128,8 +128,8 @@ pub place-record-spec : {M : Type 1} → statement M
 place-record-spec =
     tie.close (tie.spec (λ c. search needs) (λ c. is-kept (entry (c .before)))
     (λ c. omega (arith, choice-most (entry (c .before)), entry (c .before) .fits .m))
-    (λ c κs. let laying = entry (c .before) .pre .0 in (laying .buckets, laying .work-length, choice-most (entry (c .before)))) returns
-    (λ c κs. search needs) (λ c. omega (arith, inside c)) (λ c. omega (arith, inside c)) (λ c κs. search needs) (λ c. omega (arith, part c .within))
+    (λ c κs. let laying = entry (c .before) .pre .0 in (laying .buckets, laying .work-length, choice-most (entry (c .before)))) returns (λ c κs. search needs)
+    (λ c. omega (arith, inside c)) (λ c. omega (arith, inside c)) (λ c κs. search needs) (λ c. omega (arith, part c .within))
     (λ c. omega (arith, part c .within)) (λ c. search needs) (λ c. search needs) (λ c. part c .within) (λ c. search needs) (λ c. search needs)
     (λ c. inside (sized (c .before))) append-requires (λ c. search needs)
     (λ c. part (c .before .before .before .before .before) .one-more (c .before .before .append .last .0) (c .before .before .append .ensures)))

@@ -47,5 +47,5 @@ returns c =
 
 pub place-records-spec : {M : Type 1} → statement M
 place-records-spec =
-    tie.close (tie.spec Inv-loop μ-loop loop-holds place-record-requires (λ c. omega arith) (λ c. omega arith) loop-again
-    (λ c. c .before .loop .inv .same) returns)
+    tie.close (tie.spec Inv-loop μ-loop loop-holds place-record-requires (λ c. omega arith) (λ c. omega arith) loop-again (λ c. c .before .loop .inv .same)
+    returns)

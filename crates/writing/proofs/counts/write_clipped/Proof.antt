@@ -50,13 +50,12 @@ returns c =
 
 pub write-clipped-spec : {M : Type 1} → statement M
 write-clipped-spec =
-    tie.close (tie.spec Inv-loop μ-loop
-    (λ c. (omega arith, refl, clipped-none (c .before .before .args .top) (nth (c .before .before .args .counts .now)))) (λ c. search needs)
-    (λ c. search needs)
-    (λ c. let h : 2 * c .before .loop .i < length (c .before .before .before .before .args .counts .now) = omega arith in search needs)
-    (λ c. search needs) (λ c κs. search needs) (λ c κs. search needs)
+    tie.close (tie.spec Inv-loop μ-loop (λ c. (omega arith, refl, clipped-none (c .before .before .args .top) (nth (c .before .before .args .counts .now))))
+    (λ c. search needs) (λ c. search needs)
+    (λ c. let h : 2 * c .before .loop .i < length (c .before .before .before .before .args .counts .now) = omega arith in search needs) (λ c. search needs)
+    (λ c κs. search needs) (λ c κs. search needs)
     (λ c. let a = c .before .before .before in
     let h : 2 * a .before .loop .i + 1 < length (a .before .before .before .before .args .counts .now) = omega arith in search needs)
     (λ c. search needs) (λ c κs. search needs) (λ c κs. search needs)
-    (λ c κs. (omega (arith, even c, start c .pre .0), omega (arith, odd c, start c .pre .0))) (λ c. search needs) (λ c. search needs)
-    (λ c. search needs) loop-again (λ c. search needs) returns)
+    (λ c κs. (omega (arith, even c, start c .pre .0), omega (arith, odd c, start c .pre .0))) (λ c. search needs) (λ c. search needs) (λ c. search needs)
+    loop-again (λ c. search needs) returns)

@@ -116,7 +116,6 @@ returns-2 c =
 
 pub side-record-spec : {M : Type 1} → statement M
 side-record-spec =
-    tie.close (tie.spec (λ c. search needs) (λ c. omega (arith, entry (c .before) .pre .1, kept-length (entry (c .before) .pre .0))) aside-requires
-    returns (λ c κs. search needs) (λ c. omega (arith, inside c)) (λ c. omega (arith, inside c)) (λ c. omega (arith, place c)) (λ c. search needs)
-    (λ c. search needs) (λ c. place c) (λ c. search needs) (λ c. search needs) (λ c. inside (c .before)) (λ c κs. search needs) (λ c. search needs)
-    returns-2)
+    tie.close (tie.spec (λ c. search needs) (λ c. omega (arith, entry (c .before) .pre .1, kept-length (entry (c .before) .pre .0))) aside-requires returns
+    (λ c κs. search needs) (λ c. omega (arith, inside c)) (λ c. omega (arith, inside c)) (λ c. omega (arith, place c)) (λ c. search needs) (λ c. search needs)
+    (λ c. place c) (λ c. search needs) (λ c. search needs) (λ c. inside (c .before)) (λ c κs. search needs) (λ c. search needs) returns-2)

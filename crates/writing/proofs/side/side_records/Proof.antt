@@ -50,5 +50,5 @@ returns c =
 
 pub side-records-spec : {M : Type 1} → statement M
 side-records-spec =
-    tie.close (tie.spec Inv-loop μ-loop loop-holds side-record-requires (λ c. omega arith) (λ c. omega arith) loop-again
-    (λ c. c .before .loop .inv .same) returns)
+    tie.close (tie.spec Inv-loop μ-loop loop-holds side-record-requires (λ c. omega arith) (λ c. omega arith) loop-again (λ c. c .before .loop .inv .same)
+    returns)

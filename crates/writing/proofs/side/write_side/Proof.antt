@@ -83,5 +83,5 @@ returns-2 c =
 
 pub write-side-spec : {M : Type 1} → statement M
 write-side-spec =
-    tie.close (tie.spec (λ c κs. search needs) (λ c. search needs) returns (λ c. few (c .before .before .before))
-    (λ c. few (c .before .before .before)) (λ c. search needs) side-records-requires write-number-requires (λ c. search needs) returns-2)
+    tie.close (tie.spec (λ c κs. search needs) (λ c. search needs) returns (λ c. few (c .before .before .before)) (λ c. few (c .before .before .before))
+    (λ c. search needs) side-records-requires write-number-requires (λ c. search needs) returns-2)
