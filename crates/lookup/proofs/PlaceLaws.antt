@@ -12,7 +12,7 @@ use lib.Seq.{getD-take, getD-drop, drop-drop}
 use Rattle.theory.specs.Lists.{least}
 use Rattle.theory.specs.Hash.{H, numbers-of}
 use Rattle.theory.specs.Records.{count-of}
-use Rattle.theory.specs.Settings.{Settings, Card, allowed, card-of, record-size, bucket-size, buckets-length, side-length}
+use Rattle.theory.specs.Settings.{Settings, Card, allowed, card-of, record-size, bucket-size, buckets-length}
 use Rattle.theory.specs.Placing.{all-top, least-count, chosen}
 use Rattle.theory.specs.Lookup as plain
 use Rattle.theory.specs.Lookup.{counter, bare, bucket-part, side-place, bucket-place, by-counters, reads-bucket}
