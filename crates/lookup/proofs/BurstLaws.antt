@@ -130,10 +130,10 @@ module _ (t : plain.Settings) (ok : plain.allowed t ≡ true) (clipped : List �
       rw at-back (ap driver-number (search-is t h clipped buckets side key _ (place-by-is ok of-at buckets side key)))
 
 -- the number of an answer that was found by a choice read back from x
-pub number-from : (t : plain.Settings) (buckets side key lent : List ℕ) (x r : ℕ) (c : KeyCounters) (a : Answer) → r ≡ driver-number a
+pub number-from : (t : plain.Settings) (buckets side : List ℕ) (x : ℕ) {key lent : List ℕ} {r : ℕ} {c : KeyCounters} {a : Answer} → r ≡ driver-number a
     → a ≡ answer-at (card-of t) lent (place-by (card-of t) c buckets side) → lent ≡ key → c ≡ unpacked-of x → r ≡ number-by t buckets side key x
 unfolding number-by
-number-from t buckets side key lent x r c a is-number is-answer is-key is-choice = rw (is-number, is-answer, is-key, is-choice)
+number-from t buckets side x is-number is-answer is-key is-choice = rw (is-number, is-answer, is-key, is-choice)
 
 -- ---- the three passes, one after the other, over numbers h for n keys
 module _ {t : plain.Settings} {clipped buckets side : List ℕ} (checked : CheckedLookup t clipped buckets side) (h : ℕ → ℕ) (n : ℕ) (hs packed : List ℕ)

@@ -7,11 +7,12 @@ use lib.Dec.{eqb}
 use borrow.Author.Tests.{eqb-true, eqb-false}
 use lib.ListN.{length, take, drop}
 use denote.Ref.{RefT, now}
-use Rattle.theory.specs.Settings.{Settings, card-of, record-size, buckets-length, side-length}
+use Rattle.theory.specs.Settings.{Settings, card-of, buckets-length, side-length}
 use Rattle.theory.specs.Lookup.{RecordPlace, search-areas, fetch-areas, record-place}
 use Rattle.theory.proofs.ListLaws.{by-test}
 use Rattle.theory.proofs.SettingsLaws.{sound}
 use Rattle.theory.proofs.RecordPlaceLaws.{held-bytes, held-area, not-held, held-inside}
+use Rattle.settings.proofs.Laws.{record-size-is}
 use Rattle.lookup.specs.declared.locating.Located.{Located}
 use Rattle.lookup.specs.declared.judging.Judged.{Judged}
 use Rattle.lookup.specs.declared.judging.Judged.the-variants.{Ready, Refused}
@@ -22,86 +23,93 @@ use Rattle.lookup.specs.Parts.{PartAt, one-of, FetchedCall}
 use Rattle.lookup.proofs.JudgeLaws.{refused-or, refused-is, unrefused, passes, fetch-performs}
 use Rattle.lookup.proofs.LocateLaws.{place-refused, place-ready}
 
-module _ (t : Settings) (clipped : List ℕ) (buckets side : RefT (List ℕ)) (key : List ℕ) (r : Located)
-    (call : LocatedCall t clipped (now buckets) (now side) key r) where
-  abbrev lies : RecordPlace
-  lies = record-place (card-of t) clipped (now buckets) (now side) key
-
+module _ {t : Settings} {clipped buckets side key : List ℕ} {r : Located} (call : LocatedCall t clipped buckets side key r) where
   abbrev number : ℕ
-  number = search-areas (card-of t) clipped (now buckets) (now side) key .number
+  number = search-areas (card-of t) clipped buckets side key .number
 
   abbrev fetched : List ℕ
-  fetched = fetch-areas (card-of t) clipped (now buckets) (now side) key
+  fetched = fetch-areas (card-of t) clipped buckets side key
 
   -- ---- nowhere: the empty part
-  no-part : r .area ≡ 0 → (j : Judged) → judged-of t clipped (now buckets) (now side) key ≡ j
-      → refused-or t clipped (now buckets) (now side) key (λ n. []) fetched ≡ []
-  no-part none (Refused n) e = refused-is t clipped (now buckets) (now side) key (λ n. []) _ n e .0
+  no-part : r .area ≡ 0 → (j : Judged) → judged-of t clipped buckets side key ≡ j → refused-or t clipped buckets side key (λ n. []) fetched ≡ []
+  no-part none (Refused n) e = refused-is t clipped buckets side key (λ n. []) _ n e .0
   no-part none (Ready c) e =
-      let there = call .lies ∙ place-ready t clipped (now buckets) (now side) key c e in
+      let there = call .lies ∙ place-ready t clipped buckets side key c e in
       let away : number ≡ 0 → ⊥
-      = λ held. held-area (card-of t) clipped (now buckets) (now side) key held (sym (ap (λ (x : RecordPlace). x .area) there) ∙ none) in
-      passes (unrefused t clipped (now buckets) (now side) key c e) (λ n. []) _ ∙ not-held (card-of t) clipped (now buckets) (now side) key away .1
-
-  pub fetched-none : r .area ≡ 0 → (x : RefT (List ℕ)) → now x ≡ [] → FetchedCall t clipped buckets side key x
-  fetched-none none x e =
-      record { is = fetch-performs t clipped (now buckets) (now side) key (now x) (no-part none _ refl ∙ sym e); lies = λ some. absurd (some e) }
+      = λ held. held-area (card-of t) clipped buckets side key held (sym (ap (λ (x : RecordPlace). x .area) there) ∙ none) in
+      passes (unrefused t clipped buckets side key c e) (λ n. []) _ ∙ not-held (card-of t) clipped buckets side key away .1
 
   -- ---- somewhere: the key is held, and its record lies there
   record Held : Type 0 where
-    checked : CheckedLookup t clipped (now buckets) (now side)
+    checked : CheckedLookup t clipped buckets side
     held : number ≡ 0
-    there : lies-at r ≡ lies
-    passed : refused-or t clipped (now buckets) (now side) key (λ n. []) fetched ≡ fetched
+    there : lies-at r ≡ record-place (card-of t) clipped buckets side key
+    passed : refused-or t clipped buckets side key (λ n. []) fetched ≡ fetched
 
-  module _ (some : r .area ≡ 0 → ⊥) where
-    known : (j : Judged) → judged-of t clipped (now buckets) (now side) key ≡ j → Held
-    known (Refused n) e = absurd (some (ap (λ (x : RecordPlace). x .area) (call .lies ∙ place-refused t clipped (now buckets) (now side) key n e)))
-    known (Ready c) e =
-        let good = unrefused t clipped (now buckets) (now side) key c e in
-        let at = call .lies ∙ place-ready t clipped (now buckets) (now side) key c e in
-        record {
-          checked = rw (good .same) at (good .checked);
-          held = by-test (eqb number 0) (λ z. eqb-true number 0 z)
-              (λ z. let away = not-held (card-of t) clipped (now buckets) (now side) key (eqb-false number 0 z) .0 in
-              absurd (some (ap (λ (x : RecordPlace). x .area) (at ∙ away))));
-          there = at;
-          passed = passes good (λ n. []) fetched;
-        }
+  known : (r .area ≡ 0 → ⊥) → (j : Judged) → judged-of t clipped buckets side key ≡ j → Held
+  known some (Refused n) e = absurd (some (ap (λ (x : RecordPlace). x .area) (call .lies ∙ place-refused t clipped buckets side key n e)))
+  known some (Ready c) e =
+      let good = unrefused t clipped buckets side key c e in
+      let at = call .lies ∙ place-ready t clipped buckets side key c e in
+      record {
+        checked = rw (good .same) at (good .checked);
+        held = by-test (eqb number 0) (λ z. eqb-true number 0 z)
+            (λ z. let away = not-held (card-of t) clipped buckets side key (eqb-false number 0 z) .0 in
+            absurd (some (ap (λ (x : RecordPlace). x .area) (at ∙ away))));
+        there = at;
+        passed = passes good (λ n. []) fetched;
+      }
 
-    known-here : Held
-    known-here = known _ refl
+pub fetched-none : {t : Settings} {clipped : List ℕ} {buckets side : RefT (List ℕ)} {key : List ℕ} {r : Located}
+    → LocatedCall t clipped (now buckets) (now side) key r → r .area ≡ 0 → {x : RefT (List ℕ)} → now x ≡ [] → FetchedCall t clipped buckets side key x
+fetched-none {t} {clipped} {buckets} {side} {key} call none {x} e =
+    record {
+      is = fetch-performs t clipped (now buckets) (now side) key (now x) (no-part call none _ refl ∙ sym e);
+      lies = λ some. absurd (some e);
+    }
 
-    start-is : r .start ≡ lies .start
-    start-is = ap (λ (x : RecordPlace). x .start) (known-here .there)
+-- where a call says that the record lies: in the buckets, or not
+pub record Somewhere (t : Settings) (clipped : List ℕ) (buckets side : RefT (List ℕ)) (key : List ℕ) (r : Located) (g : Bool) : Type 0 where
+  pub call : LocatedCall t clipped (now buckets) (now side) key r
+  pub some : r .area ≡ 0 → ⊥
+  pub which : eqb (r .area) 1 ≡ g
 
-    module _ (g : Bool) (which : eqb (r .area) 1 ≡ g) where
-      area-is : eqb (lies .area) 1 ≡ g
-      area-is = sym (ap (λ (x : RecordPlace). eqb (x .area) 1) (known-here .there)) ∙ which
+module _ {t : Settings} {clipped : List ℕ} {buckets side : RefT (List ℕ)} {key : List ℕ} {r : Located} {g : Bool}
+    (w : Somewhere t clipped buckets side key r g) where
+  here : Held (w .call)
+  here = known (w .call) (w .some) _ refl
 
-      lent-length : (b : Bool) → cond b (buckets-length (card-of t)) (side-length (card-of t)) ≡ length (now (one-of b buckets side))
-      lent-length true = sym (known-here .checked .buckets-size)
-      lent-length false = sym (known-here .checked .side-size)
+  abbrev lies : RecordPlace
+  lies = record-place (card-of t) clipped (now buckets) (now side) key
 
-      pub record-inside : r .start + record-size (card-of t) ≤ length (now (one-of g buckets side))
-      record-inside =
-          rw (start-is, ← lent-length g, ← area-is)
-          (held-inside (card-of t) clipped (now buckets) (now side) key (sound t (known-here .checked .ok)) (known-here .held))
+  start-is : r .start ≡ lies .start
+  start-is = ap (λ (x : RecordPlace). x .start) (here .there)
 
-      lent-area : (b : Bool) → cond b (now buckets) (now side) ≡ now (one-of b buckets side)
-      lent-area true = refl
-      lent-area false = refl
+  area-is : eqb (lies .area) 1 ≡ g
+  area-is = sym (ap (λ (x : RecordPlace). eqb (x .area) 1) (here .there)) ∙ w .which
 
-      pub fetched-there : (x : RefT (List ℕ)) → PartAt (record-size (card-of t)) (r .start) (one-of g buckets side) x → FetchedCall t clipped buckets side key x
-      fetched-there x part =
-          let size = record-size (card-of t) in
-          let bytes = held-bytes (card-of t) clipped (now buckets) (now side) key (known-here .held) in
-          record {
-            is = fetch-performs t clipped (now buckets) (now side) key (now x)
-                (known-here .passed ∙ bytes
-                ∙ ap (λ (b : Bool). take size (drop (lies .start) (cond b (now buckets) (now side)))) area-is
-                ∙ ap (λ (l : List ℕ). take size (drop (lies .start) l)) (lent-area g)
-                ∙ ap (λ (n : ℕ). take size (drop n (now (one-of g buckets side)))) (sym start-is)
-                ∙ sym (part .bytes));
-            lies = λ _. rw (area-is, ← start-is) part;
-          }
+  lent-length : (b : Bool) → cond b (buckets-length (card-of t)) (side-length (card-of t)) ≡ length (now (one-of b buckets side))
+  lent-length true = sym (here .checked .buckets-size)
+  lent-length false = sym (here .checked .side-size)
+
+  lent-area : (b : Bool) → cond b (now buckets) (now side) ≡ now (one-of b buckets side)
+  lent-area true = refl
+  lent-area false = refl
+
+  pub record-inside : r .start + 17 ≤ length (now (one-of g buckets side))
+  record-inside =
+      rw (start-is, ← lent-length g, ← area-is, ← record-size-is t)
+      (held-inside (card-of t) clipped (now buckets) (now side) key (sound t (here .checked .ok)) (here .held))
+
+  pub fetched-there : {x : RefT (List ℕ)} → PartAt 17 (r .start) (one-of g buckets side) x → FetchedCall t clipped buckets side key x
+  fetched-there {x} part =
+      let bytes = rw (record-size-is t) at (held-bytes (card-of t) clipped (now buckets) (now side) key (here .held)) in
+      record {
+        is = fetch-performs t clipped (now buckets) (now side) key (now x)
+            (here .passed ∙ bytes
+            ∙ ap (λ (b : Bool). take 17 (drop (lies .start) (cond b (now buckets) (now side)))) area-is
+            ∙ ap (λ (l : List ℕ). take 17 (drop (lies .start) l)) (lent-area g)
+            ∙ ap (λ (n : ℕ). take 17 (drop n (now (one-of g buckets side)))) (sym start-is)
+            ∙ sym (part .bytes));
+        lies = λ _. rw (area-is, ← start-is, record-size-is t) part;
+      }

@@ -60,7 +60,7 @@ loop-again c =
     let found = c .before in
     let read = found .before .before in
     passed-more (hand read .before .loop .inv) _ (hand read .loop-test .taken)
-    (number-from _ _ _ _ _ _ _ _ _ (c .driver-number .ensures) (found .search-chosen .ensures) (found .before .key-at .ensures) (is-choice read))
+    (number-from _ _ _ _ (c .driver-number .ensures) (found .search-chosen .ensures) (found .before .key-at .ensures) (is-choice read))
 
 pub answer-all-spec : {M : Type 1} → statement M
 answer-all-spec =
