@@ -130,7 +130,7 @@ module _ (n k j : ℕ) (xs : List ℕ) (long : length xs ≡ n + k + j) where
           rw (kept, drop-of-length-le (drop (n + k) twice) past, append-nil, append-assoc)
 
 -- ---- the elements of a part of zeros
-zero-at : (n x : ℕ) → getD (zeros n) x 0 ≡ 0
+pub zero-at : (n x : ℕ) → getD (zeros n) x 0 ≡ 0
 zero-at zero x = refl
 zero-at (suc n) zero = refl
 zero-at (suc n) (suc x) = zero-at n x

@@ -7,10 +7,10 @@ use Rattle.memory.proofs.numbers.count_at.Tie as tie
 
 returns : tie.Need-returns
 returns c =
-    let start = c .before .before .before .before .before in
-    let wide = c .before .before .wide in
+    let first = c .before .before in
+    let start = first .before .before .before in
     let e = count-is (start .args .area .now) (start .pre) in
-    (omega (arith, wide .ensures, c .wide2 .ensures), omega (arith, wide .ensures, c .wide2 .ensures))
+    (omega (arith, first .wide .ensures, c .wide2 .ensures), omega (arith, first .wide .ensures, c .wide2 .ensures))
 
 pub count-at-spec : {M : Type 1} → statement M
 count-at-spec =

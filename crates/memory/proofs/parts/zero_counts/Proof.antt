@@ -1,33 +1,23 @@
--- `memory::parts::zero_counts` meets its contract: the first i counts are zeros, and the others as they were.
-use Prim.Native.Nat.{_≤_, _-_}
-use mathlib.Core.Path.{_≡_}
-use mathlib.Core.List.{_++_, append-nil}
+-- `memory::parts::zero_counts` meets its contract: the first i counts are zeros.
+use Prim.Native.Nat.{_-_}
+use mathlib.Core.Path.{_≡_, refl, sym}
 use native.Mathlib.Omega.{arith}
 use borrow.Author.Needs.{needs}
-use borrow.Author.Fill.{fill-more}
-use lib.ListN.{length, replicate, drop, length-set}
-use lib.Seq.{drop-length}
+use lib.ListN.{length, length-replicate}
+use Rattle.memory.proofs.SliceLaws.{zeros, zero-at}
+use Rattle.memory.proofs.CopyLaws.{Copied, copied-more, copied-all}
 use Rattle.memory.proofs.parts.zero_counts.Statement.{statement}
 use Rattle.memory.proofs.parts.zero_counts.Tie as tie
 
 abbrev Inv-loop : tie.InvT-loop
-Inv-loop counts₀ i₀ counts i = (i ≤ length counts₀) × (counts ≡ replicate i 0 ++ drop i counts₀) × (length counts ≡ length counts₀)
+Inv-loop counts₀ i₀ counts i = Copied (zeros (length counts₀)) counts i
 
 abbrev μ-loop : tie.MeasureT-loop
 μ-loop counts₀ i₀ counts i = length counts₀ - i
 
-loop-again : tie.Need-loop-again Inv-loop μ-loop
-loop-again c =
-    let loop = c .before .loop in (
-      omega arith,
-      rw (loop .inv .1) (fill-more (loop .i) 0 (c .before .before .args .counts .now) (omega arith)),
-      simp length-set (loop .inv .2),
-    )
-
-returns : tie.Need-returns Inv-loop μ-loop
-returns c =
-    let loop = c .before .loop in
-    let e : loop .i ≡ length (c .before .before .args .counts .now) = omega arith in rw (loop .inv .1, e, drop-length, append-nil)
+-- as many places as there are zeros
+long : (c : tie.At-loop Inv-loop μ-loop) → length (zeros (length (c .before .args .counts .now))) ≡ length (c .before .args .counts .now)
+long c = length-replicate (length (c .before .args .counts .now)) 0
 
 pub zero-counts-spec : {M : Type 1} → statement M
 zero-counts-spec =
@@ -35,11 +25,11 @@ zero-counts-spec =
     (tie.spec
     Inv-loop
     μ-loop
-    (λ c. search needs)
-    (λ c. search needs)
-    (λ c. search needs)
-    (λ c. search needs)
-    (λ c. search needs)
-    loop-again
-    (λ c. search needs)
-    returns)
+    (λ c. record { inside = omega arith; long = sym (length-replicate (length (c .args .counts .now)) 0); front = refl })
+    (λ c. omega (arith, long (c .before)))
+    (λ c. omega (arith, long (c .before)))
+    (λ c. omega (arith, long (c .before)))
+    (λ c. omega (arith, long (c .before)))
+    (λ c. copied-more (c .before .loop .inv) 0 (sym (zero-at (length (c .before .before .args .counts .now)) (c .before .loop .i))) (omega (arith, long (c .before))))
+    (λ c. omega (arith, long (c .before)))
+    (λ c. copied-all (c .before .loop .inv) (omega (arith, long (c .before)))))

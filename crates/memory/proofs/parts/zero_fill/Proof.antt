@@ -1,33 +1,23 @@
--- `memory::parts::zero_fill` meets its contract: the loop keeps that the bytes before i are zero and the others as they were.
-use Prim.Native.Nat.{_≤_, _-_}
-use mathlib.Core.Path.{_≡_}
-use mathlib.Core.List.{_++_, append-nil}
+-- `memory::parts::zero_fill` meets its contract: the loop keeps that the bytes before i are zeros.
+use Prim.Native.Nat.{_-_}
+use mathlib.Core.Path.{_≡_, refl, sym}
 use native.Mathlib.Omega.{arith}
 use borrow.Author.Needs.{needs}
-use borrow.Author.Fill.{fill-more}
-use lib.ListN.{length, replicate, drop, length-set}
-use lib.Seq.{drop-length}
+use lib.ListN.{length, length-replicate}
+use Rattle.memory.proofs.SliceLaws.{zeros, zero-at}
+use Rattle.memory.proofs.CopyLaws.{Copied, copied-more, copied-all}
 use Rattle.memory.proofs.parts.zero_fill.Statement.{statement}
 use Rattle.memory.proofs.parts.zero_fill.Tie as tie
 
 abbrev Inv-loop : tie.InvT-loop
-Inv-loop to₀ i₀ to i = (i ≤ length to₀) × (to ≡ replicate i 0 ++ drop i to₀) × (length to ≡ length to₀)
+Inv-loop to₀ i₀ to i = Copied (zeros (length to₀)) to i
 
 abbrev μ-loop : tie.MeasureT-loop
 μ-loop to₀ i₀ to i = length to₀ - i
 
-loop-again : tie.Need-loop-again Inv-loop μ-loop
-loop-again c = (
-  omega arith,
-  rw (c .before .loop .inv .1) (fill-more (c .before .loop .i) 0 (c .before .before .args .to .now) (omega arith)),
-  simp length-set
-      (c .before .loop .inv .2),
-)
-
-returns : tie.Need-returns Inv-loop μ-loop
-returns c =
-    let e : c .before .loop .i ≡ length (c .before .before .args .to .now) = omega arith in
-    rw (c .before .loop .inv .1, e, drop-length, append-nil)
+-- as many places as there are zeros
+long : (c : tie.At-loop Inv-loop μ-loop) → length (zeros (length (c .before .args .to .now))) ≡ length (c .before .args .to .now)
+long c = length-replicate (length (c .before .args .to .now)) 0
 
 pub zero-fill-spec : {M : Type 1} → statement M
 zero-fill-spec =
@@ -35,10 +25,10 @@ zero-fill-spec =
     (tie.spec
     Inv-loop
     μ-loop
-    (λ c. search needs)
-    (λ c. search needs)
-    (λ c. search needs)
-    (λ c. search needs)
-    loop-again
-    (λ c. search needs)
-    returns)
+    (λ c. record { inside = omega arith; long = sym (length-replicate (length (c .args .to .now)) 0); front = refl })
+    (λ c. omega (arith, long (c .before)))
+    (λ c. omega (arith, long (c .before)))
+    (λ c. omega (arith, long (c .before)))
+    (λ c. copied-more (c .before .loop .inv) 0 (sym (zero-at (length (c .before .before .args .to .now)) (c .before .loop .i))) (omega (arith, long (c .before))))
+    (λ c. omega (arith, long (c .before)))
+    (λ c. copied-all (c .before .loop .inv) (omega (arith, long (c .before)))))

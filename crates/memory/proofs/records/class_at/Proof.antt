@@ -7,12 +7,12 @@ use Rattle.memory.proofs.records.class_at.Tie as tie
 
 returns : tie.Need-returns
 returns c =
-    let start = c .before .before .before .before .before .before .before .before .before in
-    let wide32 = c .before .before .before .before .before .before .wide32 in
-    let wide322 = c .before .before .before .before .wide322 in
-    let wide323 = c .before .before .wide323 in
+    let third = c .before .before in
+    let second = third .before .before in
+    let first = second .before .before in
+    let start = first .before .before .before in
     let e = class-is (start .args .area .now) (start .args .at) (start .pre) in
-    omega (arith, wide32 .ensures, wide322 .ensures, wide323 .ensures, c .wide324 .ensures)
+    omega (arith, first .wide32 .ensures, second .wide322 .ensures, third .wide323 .ensures, c .wide324 .ensures)
 
 pub class-at-spec : {M : Type 1} → statement M
 class-at-spec =

@@ -1,38 +1,31 @@
 -- `memory::records::write_record` meets its contract: the key is copied to the front, the class written behind it, the law `record-written`.
 use borrow.Author.Needs.{needs}
-use mathlib.Core.Path.{sym}
+use mathlib.Core.Path.{_≡_, sym}
 use native.Mathlib.Omega.{arith}
-use lib.ListN.{length}
+use lib.ListN.{length, take}
 use lib.Seq.{length-take-le}
 use Rattle.memory.proofs.ByteNumberLaws.{record-written}
 use Rattle.memory.proofs.records.write_record.Statement.{statement}
 use Rattle.memory.proofs.records.write_record.Tie as tie
 
-slice-aggregate-copy : tie.Need-slice-aggregate-copy
-slice-aggregate-copy c =
-    let start = c .before .before .before in
-    sym (length-take-le (length (start .args .key .now)) (start .args .to .now) (omega arith))
-
-copy-requires : tie.Need-copy-requires
-copy-requires c κs =
-    let start = c .before .before .before in
-    length-take-le (length (start .args .key .now)) (start .args .to .now) (omega arith)
+-- the front for the key is as long as it
+front : (c : tie.Start) → length (take (length (c .args .key .now)) (c .args .to .now)) ≡ length (c .args .key .now)
+front c = length-take-le (length (c .args .key .now)) (c .args .to .now) (omega arith)
 
 returns : tie.Need-returns
 returns c =
-    let start = c .before .before .before .before .before .before .before .before .before .before in
-    let copy = c .before .before .before .before .before .before .copy in
-    let write-class = c .before .before .write-class in
-    record-written (start .args .to .now) (start .args .key .now) (start .args .class) (copy .last .0) (write-class .last .0) (start .pre) (copy .ensures)
-    (write-class .ensures)
+    let written = c .before .before in
+    let copied = written .before .before .before .before in
+    let start = copied .before .before .before .before in
+    record-written (start .args .to .now) (start .args .key .now) (start .args .class) _ _ (start .pre) (copied .copy .ensures) (written .write-class .ensures)
 
 pub write-record-spec : {M : Type 1} → statement M
 write-record-spec =
     tie.close
     (tie.spec
     (λ c. search needs)
-    slice-aggregate-copy
-    copy-requires
+    (λ c. sym (front (c .before .before .before)))
+    (λ c κs. front (c .before .before .before))
     (λ c. search needs)
     (λ c. search needs)
     (λ c. search needs)
