@@ -24,6 +24,7 @@ use Rattle.settings.specs.declared.Settings.{Settings}
 use Rattle.settings.specs.Checked.{card}
 use Rattle.memory.proofs.SliceLaws.{zeros, zeros-drop, back, length-part}
 use Rattle.ledger.specs.Edits.{ValidLedger, list-in, area-of, inserted-at, removed-at, replaced-at, moved-up, moved-down}
+use Rattle.ledger.proofs.RisingLaws.{none}
 use Rattle.ledger.proofs.LedgerLaws.{has-count, room-for, records-room}
 
 zeros-of : (l : List ℕ) → any (λ x. not (eqb x 0)) l ≡ false → l ≡ zeros (length l)
@@ -120,9 +121,6 @@ front s a n at = to-bytes 2 n ++ bytes-in (take at (list-in s a))
 
 abbrev free : Settings → ℕ → ℕ → List ℕ
 free s size k = zeros (size * (card s .capacity - k))
-
-none : Record
-none = record { key = []; class = 0 }
 
 module _ {s : Settings} {a : List ℕ} {size n at : ℕ} (p : Place s a size n at) where
   pub count-is : n ≡ length (list-in s a)

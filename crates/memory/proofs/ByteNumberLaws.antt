@@ -19,36 +19,30 @@ count-is [] h = absurd (omega arith)
 count-is (x ∷ []) h = absurd (omega arith)
 count-is (x ∷ y ∷ ys) h = omega arith
 
-pub class-is : (l : List ℕ) (i : ℕ) → i + 4 ≤ length l
-    → of-bytes (take 4 (drop i l)) ≡ ((getD l i 0 * 256 + getD l (i + 1) 0) * 256 + getD l (i + 2) 0) * 256 + getD l (i + 3) 0
-unfolding number-after
-class-is l i h =
+-- four bytes from a place on, one by one
+four-at : (l : List ℕ) (i : ℕ) → i + 4 ≤ length l
+    → take 4 (drop i l) ≡ getD l i 0 ∷ getD l (i + 1) 0 ∷ getD l (i + 2) 0 ∷ getD l (i + 3) 0 ∷ []
+four-at l i h =
     rw (
+      add-one,
+      add-two,
+      add-three,
       drop-cons l i 0 (omega arith),
       drop-cons l (suc i) 0 (omega arith),
       drop-cons l (suc (suc i)) 0 (omega arith),
       drop-cons l (suc (suc (suc i))) 0 (omega arith),
-      zero-add,
-      add-one,
-      add-two,
-      add-three,
     )
+
+pub class-is : (l : List ℕ) (i : ℕ) → i + 4 ≤ length l
+    → of-bytes (take 4 (drop i l)) ≡ ((getD l i 0 * 256 + getD l (i + 1) 0) * 256 + getD l (i + 2) 0) * 256 + getD l (i + 3) 0
+unfolding number-after
+class-is l i h = rw (four-at l i h, zero-add)
 
 -- low byte first: four bytes one by one, eight by four
 pub low-half-is : (l : List ℕ) (i : ℕ) → i + 4 ≤ length l
     → low-first (take 4 (drop i l)) ≡ getD l i 0 + (getD l (i + 1) 0 + (getD l (i + 2) 0 + getD l (i + 3) 0 * 256) * 256) * 256
 unfolding low-first
-low-half-is l i h =
-    rw (
-      drop-cons l i 0 (omega arith),
-      drop-cons l (suc i) 0 (omega arith),
-      drop-cons l (suc (suc i)) 0 (omega arith),
-      drop-cons l (suc (suc (suc i))) 0 (omega arith),
-      add-one,
-      add-two,
-      add-three,
-    )
-    (omega arith)
+low-half-is l i h = rw (four-at l i h) (omega arith)
 
 low-four : (k : ℕ) (l : List ℕ) → 4 ≤ length l
     → low-first (take (suc (suc (suc (suc k)))) l) ≡ low-first (take 4 l) + low-first (take k (drop 4 l)) * 4294967296

@@ -28,12 +28,7 @@ module _ (c : tie.Start) where
   has-two : 2 ≤ length area
   has-two = has-count the-card area (c .pre .1)
 
--- ---- the count is above the capacity
-many : (c : tie.Then1) → the-card (c .before .before .before .before) .capacity < c .before .before .count-at .result
-unfolding card-of
-many c = c .if1 .taken
-
--- ---- it is not
+-- ---- the count is not above the capacity
 module _ (c : tie.Else1) where
   abbrev start : tie.Start
   start = c .before .before .before .before
@@ -42,8 +37,7 @@ module _ (c : tie.Else1) where
   n = c .before .before .count-at .result
 
   few : n ≤ the-card start .capacity
-  unfolding card-of
-  few = c .if1 .left
+  few = unfold card-of in c .if1 .left
 
 -- ---- the keys are judged
 module _ (c : tie.After-keys-rise) where
@@ -69,9 +63,9 @@ module _ (c : tie.After-record-size) where
 
 returns : tie.Need-returns
 returns c =
-    let start = c .before .before .before .before in
-    let count-at = c .before .before .count-at in
-    sym (ap not (invalid-many (the-card start) (area start) (count-at .result) (count-at .ensures .0) (many c)))
+    let counted = c .before .before in
+    let start = counted .before .before in
+    sym (ap not (invalid-many (the-card start) (area start) _ (counted .count-at .ensures .0) (unfold card-of in c .if1 .taken)))
 
 keys-rise-requires : tie.Need-keys-rise-requires
 keys-rise-requires c κs =

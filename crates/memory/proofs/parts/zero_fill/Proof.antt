@@ -2,7 +2,6 @@
 use Prim.Native.Nat.{_-_}
 use mathlib.Core.Path.{_≡_, refl, sym}
 use native.Mathlib.Omega.{arith}
-use borrow.Author.Needs.{needs}
 use lib.ListN.{length, length-replicate}
 use Rattle.memory.proofs.SliceLaws.{zeros, zero-at}
 use Rattle.memory.proofs.CopyLaws.{Copied, copied-more, copied-all}
@@ -29,6 +28,6 @@ zero-fill-spec =
     (λ c. omega (arith, long (c .before)))
     (λ c. omega (arith, long (c .before)))
     (λ c. omega (arith, long (c .before)))
-    (λ c. copied-more (c .before .loop .inv) 0 (sym (zero-at (length (c .before .before .args .to .now)) (c .before .loop .i))) (omega (arith, long (c .before))))
+    (λ c. let at = c .before in copied-more (at .loop .inv) 0 (sym (zero-at (length (at .before .args .to .now)) (at .loop .i))) (omega (arith, long at)))
     (λ c. omega (arith, long (c .before)))
     (λ c. copied-all (c .before .loop .inv) (omega (arith, long (c .before)))))
