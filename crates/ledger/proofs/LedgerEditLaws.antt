@@ -133,19 +133,23 @@ module _ {s : Settings} {a : List ℕ} {size n at : ℕ} (p : Place s a size n a
   fit = records-fit-width (card s) a (p .ledger .size) (p .ledger .rules) (p .bytes)
 
   -- ---- where its records, the place and the record there lie
-  pub records-inside : 2 + size * n ≤ length a
+  records-inside : 2 + size * n ≤ length a
   records-inside = rw (p .size-is) (room-for (card s) a (p .ledger .size) n few-here)
 
-  pub place-inside : size * at ≤ size * n
+  place-inside : size * at ≤ size * n
   place-inside = mul-le-mul-left size (omega (arith, p .within, count-is))
 
-  pub record-inside : at < length (list-in s a) → size * at + size ≤ size * n
+  record-inside : at < length (list-in s a) → size * at + size ≤ size * n
   record-inside h = let le : suc at ≤ n = omega (arith, count-is) in omega (arith, mul-suc size at, mul-le-mul-left size le)
 
-  pub one-more-inside : length (list-in s a) < card s .capacity → 2 + size * n + size ≤ length a
-  one-more-inside h =
+  -- what the code may count on where it puts one more in, and where it takes one out or replaces it
+  pub insert-room : length (list-in s a) < card s .capacity → (size * at ≤ size * n) × (2 + size * n + size ≤ length a)
+  insert-room h =
       let room : 2 + record-size (card s) * suc n ≤ length a = room-for (card s) a (p .ledger .size) (suc n) (omega (arith, count-is)) in
-      omega (arith, mul-suc size n, rw (← p .size-is) at room)
+      (place-inside, omega (arith, mul-suc size n, rw (← p .size-is) at room))
+
+  pub remove-room : at < length (list-in s a) → (size * at + size ≤ size * n) × (2 + size * n ≤ length a)
+  remove-room h = (record-inside h, records-inside)
 
   -- ---- areas in parts
   flat-size : (m : List Record) → All (Fit (card s .width)) m → length (bytes-in m) ≡ size * length m
@@ -167,8 +171,13 @@ module _ {s : Settings} {a : List ℕ} {size n at : ℕ} (p : Place s a size n a
   area-is : (m : List Record) → list-in s a ≡ take at (list-in s a) ++ m → a ≡ front s a n at ++ (bytes-in m ++ free s size n)
   area-is m e = valid-is (card s) a (p .ledger .size) (p .ledger .rules) (p .bytes) ∙ parts (list-in s a) (take at (list-in s a)) m n e count-is
 
-  recounted : (k : ℕ) (u t : List ℕ) → to-bytes 2 k ++ drop 2 ((to-bytes 2 n ++ u) ++ t) ≡ (to-bytes 2 k ++ u) ++ t
-  recounted k u t = rw (append-assoc (to-bytes 2 n) u t, drop-at (to-bytes 2 n) (u ++ t) 2 (length-to-bytes 2 n), append-assoc)
+  recounted : (m : List Record) (k : ℕ) → k ≡ length (take at (list-in s a) ++ m)
+      → to-bytes 2 k ++ drop 2 (front s a n at ++ (bytes-in m ++ free s size k)) ≡ area-of s (take at (list-in s a) ++ m)
+  recounted m k e =
+      let before : List ℕ = bytes-in (take at (list-in s a)) in
+      let rest : List ℕ = bytes-in m ++ free s size k in
+      rw (append-assoc (to-bytes 2 n) before rest, drop-at (to-bytes 2 n) (before ++ rest) 2 (length-to-bytes 2 n), ← append-assoc (to-bytes 2 k) before rest)
+      (sym (parts (take at (list-in s a) ++ m) (take at (list-in s a)) m k refl e))
 
   spare : (k j : ℕ) → k + 1 ≡ j → j ≤ card s .capacity → size * (card s .capacity - k) ≡ size + size * (card s .capacity - j)
   spare k j e h = let step : card s .capacity - k ≡ suc (card s .capacity - j) = omega arith in rw (step, mul-suc) (omega arith)
@@ -190,8 +199,7 @@ module _ {s : Settings} {a : List ℕ} {size n at : ℕ} (p : Place s a size n a
       ap (λ (b : List ℕ). back (2 + size * at) size b y)
       (opened ∙ ap (moved-up size (2 + size * at) (2 + size * n)) (area-is (drop at l) (sym (take-append-drop at l))))
       ∙ insert-bytes (front s a n at) (2 + size * at) size front-size y after (free s size n) (2 + size * n) (omega (arith, rest-size at, place-inside)) fits in
-      rw (add-sub-cancel-left (2 + size * at) size, made, left, recounted (n + 1) (bytes-in (take at l)) (y ++ (after ++ free s size (n + 1))))
-      (sym (parts (inserted-at at x l) (take at l) (x ∷ drop at l) (n + 1) refl longer ∙ rw (is-x, append-assoc y after)))
+      rw (add-sub-cancel-left (2 + size * at) size, made, left, ← append-assoc y after, ← is-x) (recounted (x ∷ drop at l) (n + 1) longer)
 
   module _ (h : at < length (list-in s a)) where
     old-size : length (record-bytes (getD (list-in s a) at none)) ≡ size
@@ -222,8 +230,7 @@ module _ {s : Settings} {a : List ℕ} {size n at : ℕ} (p : Place s a size n a
         let made : back last size g y ≡ front s a n at ++ (after ++ (y ++ free s size n)) =
         ap (λ (b : List ℕ). back last size b y) (closed ∙ ap (moved-down size (2 + size * at) last) record-is)
         ∙ remove-bytes (front s a n at) (2 + size * at) size front-size y (record-bytes (getD l at none)) old-size after (free s size n) last stop-is in
-        rw (k, made, more, recounted (n - 1) (bytes-in (take at l)) (after ++ free s size (n - 1)))
-        (sym (parts (removed-at at l) (take at l) (drop (at + 1) l) (n - 1) refl shorter))
+        rw (k, made, more) (recounted (drop (at + 1) l) (n - 1) shorter)
 
     pub replaced : (y : List ℕ) (x : Record) → record-bytes x ≡ y
         → back (2 + size * at) (2 + size * at + size - (2 + size * at)) a y ≡ area-of s (replaced-at at x (list-in s a))

@@ -9,6 +9,13 @@ use lib.ListN.{List·getD-append, length, take, drop, getD, set, length-append, 
 use lib.Seq.{getD-append-add, getD-drop, getD-take, drop-cons, take-suc, length-take-le, set-at}
 use Rattle.ledger.specs.Edits.{moved-up, moved-down}
 
+-- an area in which the bytes from j on, or those before j, have moved: it is as it was made
+pub record Moved (first last : ℕ) (area₀ area made : List ℕ) (j : ℕ) : Type 0 where
+  pub after : first ≤ j
+  pub until : j ≤ last
+  pub long : length area ≡ length area₀
+  pub is : area ≡ made
+
 module _ (a : List ℕ) (size : ℕ) where
   -- nothing has moved yet
   pub up-start : (to : ℕ) → a ≡ moved-up size to to a

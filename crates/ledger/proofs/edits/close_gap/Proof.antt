@@ -1,22 +1,15 @@
 -- `ledger::edits::close_gap` meets its contract: the loop keeps that the bytes up to j have moved down, the law `down-more`.
 use mathlib.Core.Path.{_≡_, refl, _∙_}
-use mathlib.Core.List.{List}
-use Prim.Native.Nat.{ℕ, _≤_, _-_}
+use Prim.Native.Nat.{_-_}
 use native.Mathlib.Omega.{arith}
-use lib.ListN.{length, length-set}
+use lib.ListN.{length-set}
 use Rattle.ledger.specs.Edits.{moved-down}
-use Rattle.ledger.proofs.ShiftLaws.{down-start, down-more}
+use Rattle.ledger.proofs.ShiftLaws.{Moved, down-start, down-more}
 use Rattle.ledger.proofs.edits.close_gap.Statement.{statement}
 use Rattle.ledger.proofs.edits.close_gap.Tie as tie
 
-record Moved (size from last : ℕ) (area₀ area : List ℕ) (j : ℕ) : Type 0 where
-  after : from ≤ j
-  until : j ≤ last
-  long : length area ≡ length area₀
-  is : area ≡ moved-down size from j area₀
-
 abbrev Inv-loop : tie.InvT-loop
-Inv-loop area₀ size from to last j₀ area j = Moved size from last area₀ area j
+Inv-loop area₀ size from to last j₀ area j = Moved from last area₀ area (moved-down size from j area₀) j
 
 abbrev μ-loop : tie.MeasureT-loop
 μ-loop area₀ size from to last j₀ area j = last - j

@@ -1,7 +1,6 @@
 -- `ledger::edits::insert_record` meets its contract: the gap opened, filled and counted is the ledger area of the new list, the law `inserted`.
 use borrow.Author.Needs.{needs}
 use mathlib.Core.Path.{sym, _∙_}
-use mathlib.Core.List.{List}
 use Prim.Native.Nat.{ℕ, _+_, _-_, _*_, _≤_}
 use native.Mathlib.Omega.{arith}
 use lib.ListN.{length}
@@ -9,7 +8,7 @@ use Rattle.theory.proofs.SettingsLaws.{sound}
 use Rattle.settings.specs.Checked.{paper, card}
 use Rattle.memory.proofs.SliceLaws.{bytes-of, two-kept}
 use Rattle.ledger.proofs.LedgerLaws.{has-count}
-use Rattle.ledger.proofs.LedgerEditLaws.{Place, count-is, place-inside, one-more-inside, inserted}
+use Rattle.ledger.proofs.LedgerEditLaws.{Place, count-is, insert-room, inserted}
 use Rattle.ledger.proofs.edits.insert_record.Statement.{statement}
 use Rattle.ledger.proofs.edits.insert_record.Tie as tie
 
@@ -18,40 +17,25 @@ module _ (c : tie.After-record-size) where
   abbrev start : tie.Start
   start = c .before .before .before .before .before
 
-  abbrev area : List ℕ
-  area = start .args .ledger .now
+  abbrev from : ℕ
+  from = 2 + c .record-size .result * start .args .at
 
-  abbrev size : ℕ
-  size = c .record-size .result
-
-  abbrev n : ℕ
-  n = c .before .count-at .result
-
-  place : Place (start .args .s) area size n (start .args .at)
+  place : Place (start .args .s) (start .args .ledger .now) (c .record-size .result) (c .before .count-at .result) (start .args .at)
   place = record {
     ledger = start .pre .0;
-    bytes = bytes-of area (c .before .before .before .before .slice-known .given);
+    bytes = bytes-of (start .args .ledger .now) (c .before .before .before .before .slice-known .given);
     size-is = c .record-size .ensures;
     count = c .before .count-at .ensures .0;
     within = start .pre .2;
   }
-
-  -- the place is no later than the records' end, after which a record has room
-  room : (size * start .args .at ≤ size * n) × (2 + size * n + size ≤ length area)
-  room = (place-inside place, one-more-inside place (start .pre .1))
 
 -- ---- the gap is open
 module _ (c : tie.After-open-gap) where
   abbrev sized : tie.After-record-size
   sized = c .before .before
 
-  room-left : 2 + size sized * start sized .args .at + size sized ≤ length (c .open-gap .last .0)
-  room-left = omega (arith, room sized, c .open-gap .kept .0)
-
--- ---- the record is in it
-module _ (c : tie.After-copy) where
-  abbrev opened : tie.After-open-gap
-  opened = c .before .before .before .before
+  room-left : from sized + sized .record-size .result ≤ length (c .open-gap .last .0)
+  room-left = omega (arith, insert-room (place sized) (start sized .pre .1), c .open-gap .kept .0)
 
 count-at-requires : tie.Need-count-at-requires
 count-at-requires c κs =
@@ -60,20 +44,22 @@ count-at-requires c κs =
 
 write-number-requires : tie.Need-write-number-requires
 write-number-requires c κs =
-    let opened = opened (c .before .before .before) in
+    let copied = c .before .before .before in
+    let opened = copied .before .before .before .before in
     let sized = sized opened in
     let start = start sized in (
-      two-kept (2 + size sized * start .args .at) (2 + size sized * start .args .at + size sized - (2 + size sized * start .args .at))
-          (opened .open-gap .last .0) (c .before .before .before .copy .last .0) (omega arith) (omega (arith, room-left opened)),
+      two-kept (from sized) (from sized + sized .record-size .result - from sized) (opened .open-gap .last .0) (copied .copy .last .0) (omega arith)
+          (omega (arith, room-left opened)),
       omega (arith, count-is (place sized), start .pre .1, sound (paper (start .args .s)) (start .pre .0 .permitted) .capacity-small),
     )
 
 returns : tie.Need-returns
 returns c = λ x q.
     let copied = c .before .before .before .before .before .before in
-    let sized = sized (opened copied) in
+    let opened = copied .before .before .before .before in
+    let sized = sized opened in
     c .before .before .write-number .ensures
-    ∙ inserted (place sized) (start sized .pre .1) _ _ (opened copied .open-gap .ensures) x (q ∙ sym (copied .copy .ensures))
+    ∙ inserted (place sized) (start sized .pre .1) _ _ (opened .open-gap .ensures) x (q ∙ sym (copied .copy .ensures))
 
 pub insert-record-spec : {M : Type 1} → statement M
 insert-record-spec =
@@ -81,12 +67,12 @@ insert-record-spec =
     (tie.spec
     count-at-requires
     (λ c κs. search needs)
-    (λ c. omega (arith, room c))
-    (λ c. omega (arith, room c))
-    (λ c. omega (arith, room c))
-    (λ c. omega (arith, room c))
-    (λ c. omega (arith, room c))
-    (λ c κs. (omega (arith, room (c .before)), room (c .before) .1))
+    (λ c. omega (arith, insert-room (place c) (start c .pre .1)))
+    (λ c. omega (arith, insert-room (place c) (start c .pre .1)))
+    (λ c. omega (arith, insert-room (place c) (start c .pre .1)))
+    (λ c. omega (arith, insert-room (place c) (start c .pre .1)))
+    (λ c. omega (arith, insert-room (place c) (start c .pre .1)))
+    (λ c κs. let room = insert-room (place (c .before)) (start (c .before) .pre .1) in (omega arith, room .1))
     (λ c. search needs)
     (λ c. search needs)
     (λ c. omega (arith, room-left (c .before .before)))

@@ -1,22 +1,15 @@
 -- `ledger::edits::open_gap` meets its contract: the loop keeps that the bytes from j on have moved up, the law `up-more`.
 use mathlib.Core.Path.{_≡_, refl, _∙_}
-use mathlib.Core.List.{List}
-use Prim.Native.Nat.{ℕ, _≤_, _-_, _+_}
+use Prim.Native.Nat.{_-_, _+_}
 use native.Mathlib.Omega.{arith}
-use lib.ListN.{length, length-set}
+use lib.ListN.{length-set}
 use Rattle.ledger.specs.Edits.{moved-up}
-use Rattle.ledger.proofs.ShiftLaws.{up-start, up-more}
+use Rattle.ledger.proofs.ShiftLaws.{Moved, up-start, up-more}
 use Rattle.ledger.proofs.edits.open_gap.Statement.{statement}
 use Rattle.ledger.proofs.edits.open_gap.Tie as tie
 
-record Moved (size from to : ℕ) (area₀ area : List ℕ) (j : ℕ) : Type 0 where
-  after : from ≤ j
-  until : j ≤ to
-  long : length area ≡ length area₀
-  is : area ≡ moved-up size j to area₀
-
 abbrev Inv-loop : tie.InvT-loop
-Inv-loop area₀ size from to j₀ area j = Moved size from to area₀ area j
+Inv-loop area₀ size from to j₀ area j = Moved from to area₀ area (moved-up size j to area₀) j
 
 abbrev μ-loop : tie.MeasureT-loop
 μ-loop area₀ size from to j₀ area j = j

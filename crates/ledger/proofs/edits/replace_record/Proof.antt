@@ -1,13 +1,12 @@
 -- `ledger::edits::replace_record` meets its contract: the record's bytes put in place is the ledger area of the new list, the law `replaced`.
 use borrow.Author.Needs.{needs}
 use mathlib.Core.Path.{refl, sym, _∙_}
-use mathlib.Core.List.{List}
-use Prim.Native.Nat.{ℕ, _+_, _*_, _≤_}
+use Prim.Native.Nat.{_+_, _*_, _≤_}
 use native.Mathlib.Omega.{arith}
 use lib.ListN.{length}
 use Rattle.theory.specs.Records.{count-of}
 use Rattle.memory.proofs.SliceLaws.{bytes-of}
-use Rattle.ledger.proofs.LedgerEditLaws.{Place, records-inside, record-inside, replaced}
+use Rattle.ledger.proofs.LedgerEditLaws.{Place, remove-room, replaced}
 use Rattle.ledger.proofs.edits.replace_record.Statement.{statement}
 use Rattle.ledger.proofs.edits.replace_record.Tie as tie
 
@@ -16,21 +15,18 @@ module _ (c : tie.After-record-size) where
   abbrev start : tie.Start
   start = c .before .before .before
 
-  abbrev area : List ℕ
-  area = start .args .ledger .now
-
-  place : Place (start .args .s) area (c .record-size .result) (count-of area) (start .args .at)
+  place : Place (start .args .s) (start .args .ledger .now) (c .record-size .result) (count-of (start .args .ledger .now)) (start .args .at)
   place = record {
     ledger = start .pre .0;
-    bytes = bytes-of area (c .before .before .slice-known .given);
+    bytes = bytes-of (start .args .ledger .now) (c .before .before .slice-known .given);
     size-is = c .record-size .ensures;
     count = refl;
     within = omega (arith, start .pre .1);
   }
 
   -- the record lies in the area
-  room : 2 + c .record-size .result * start .args .at + c .record-size .result ≤ length area
-  room = omega (arith, record-inside place (start .pre .1), records-inside place)
+  room : 2 + c .record-size .result * start .args .at + c .record-size .result ≤ length (start .args .ledger .now)
+  room = omega (arith, remove-room place (start .pre .1))
 
 returns : tie.Need-returns
 returns c = λ x q.
