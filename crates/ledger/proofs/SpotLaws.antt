@@ -19,13 +19,12 @@ use Rattle.theory.specs.Calls.{ledger-records, ledger-invalid}
 use Rattle.theory.proofs.ListLaws.{and-left, and-right, All, all-map, all-at, any-false}
 use Rattle.theory.proofs.OrderLaws.{key-below-trans, key-below-total, below-first-far}
 use Rattle.theory.proofs.PlacingLaws.{same-key-eq}
-use Rattle.theory.proofs.ByteLaws.{length-records}
 use Rattle.theory.proofs.CallLaws.{valid}
 use Rattle.ledger.specs.declared.spots.Spot.{Spot}
 use Rattle.ledger.specs.Spots.{SpotOf}
 use Rattle.memory.proofs.SliceLaws.{tail-is}
 use Rattle.ledger.proofs.KeyCompareLaws.{false-by, same-self}
-use Rattle.ledger.proofs.RisingLaws.{none, key-in, key-here}
+use Rattle.ledger.proofs.RisingLaws.{none}
 use Rattle.ledger.proofs.LedgerLaws.{has-count, records-room, records-are, records-rise}
 
 -- ---- keys
@@ -157,69 +156,48 @@ module _ (k : List ℕ) where
   cut-spot t (y ∷ ys) (suc at) h up before after is =
       spot-next y ys t at (before .0) (cut-spot t ys at (le-of-suc-le-suc h) (rising-rest y ys up) (before .1) after is)
 
--- ---- a search by halves: of n records in rising order those before low are below the key, and none from high on is
-pub record Halving (a : List ℕ) (n : ℕ) (k : List ℕ) (low high : ℕ) : Type 0 where
+-- ---- a search by halves: of records in rising order those before low are below the key, and none from high on is
+pub record Halving (l : List Record) (k : List ℕ) (low high : ℕ) : Type 0 where
   pub order : low ≤ high
-  pub within : high ≤ n
-  pub up : rising (records (length k) n a) ≡ true
-  pub before : All (Below k) (take low (records (length k) n a))
-  pub after : All (NotBelow k) (drop high (records (length k) n a))
+  pub within : high ≤ length l
+  pub up : rising l ≡ true
+  pub before : All (Below k) (take low l)
+  pub after : All (NotBelow k) (drop high l)
 
-abbrev list : List ℕ → ℕ → List ℕ → List Record
-list a n k = records (length k) n a
+pub halving-start : (l : List Record) (k : List ℕ) (n : ℕ) → length l ≡ n → rising l ≡ true → Halving l k 0 n
+halving-start l k n e up =
+    let past : length l ≤ n = omega arith in
+    record { order = omega arith; within = omega arith; up = up; before = tt; after = rw (drop-of-length-le l past) tt }
 
-pub halving-start : (a : List ℕ) (n : ℕ) (k : List ℕ) → rising (list a n k) ≡ true → Halving a n k 0 n
-halving-start a n k up =
-    let past : length (list a n k) ≤ n = omega (arith, length-records (length k) n a) in
-    record { order = omega arith; within = omega arith; up = up; before = tt; after = rw (drop-of-length-le (list a n k) past) tt }
+module _ {l : List Record} {k : List ℕ} {low high : ℕ} (g : Halving l k low high) (i : ℕ) (h : i < high) where
+  pub halving-up : key-below (getD l i none .key) k ≡ true → Halving l k (i + 1) high
+  halving-up e =
+      let before = below-up-to k l i (omega (arith, g .within)) (g .up) e in
+      record { order = omega arith; within = g .within; up = g .up; before = rw add-one before; after = g .after }
 
-module _ {a : List ℕ} {n : ℕ} {k : List ℕ} {low high : ℕ} (g : Halving a n k low high) where
-  long : length (list a n k) ≡ n
-  long = length-records (length k) n a
+  pub halving-down : low ≤ i → key-below (getD l i none .key) k ≡ false → Halving l k low i
+  halving-down le e =
+      let after = above-from k l i (omega (arith, g .within)) (g .up) e in
+      record { order = le; within = omega (arith, g .within); up = g .up; before = g .before; after = after }
 
-  listed-key : (i : ℕ) → i < n → getD (list a n k) i none .key ≡ key-in (length k) a i
-  listed-key i h = key-here (length k) n i a h
+-- low and high have met: the place of the key
+module _ {l : List Record} {k : List ℕ} {low high : ℕ} (g : Halving l k low high) (met : high ≤ low) where
+  cut : All (NotBelow k) (drop low l)
+  cut = let e : high ≡ low = omega (arith, g .order) in subst (λ (i : ℕ). All (NotBelow k) (drop i l)) e (g .after)
 
-  pub halving-up : (i : ℕ) → i < high → key-below (key-in (length k) a i) k ≡ true → Halving a n k (i + 1) high
-  halving-up i h e =
-      record {
-        order = omega arith;
-        within = g .within;
-        up = g .up;
-        before = rw add-one (below-up-to k (list a n k) i (omega (arith, g .within, long)) (g .up) (rw (listed-key i (omega (arith, g .within))) e));
-        after = g .after;
-      }
+  found : (t : Bool) → t ≡ held k (drop low l) → SpotOf l k (record { held = t; at = low })
+  found t e = cut-spot k t l low (omega (arith, g .order, g .within)) (g .up) (g .before) cut e
 
-  pub halving-down : (i : ℕ) → low ≤ i → i < high → key-below (key-in (length k) a i) k ≡ false → Halving a n k low i
-  halving-down i l h e =
-      record {
-        order = l;
-        within = omega (arith, g .within);
-        up = g .up;
-        before = g .before;
-        after = above-from k (list a n k) i (omega (arith, g .within, long)) (g .up) (rw (listed-key i (omega (arith, g .within))) e);
-      }
+  pub found-end : length l ≤ low → SpotOf l k (record { held = false; at = low })
+  unfolding held
+  found-end past = found false (rw (drop-of-length-le l past))
 
-  -- low and high have met: the place of the key
-  module _ (met : high ≤ low) where
-    cut : All (NotBelow k) (drop low (list a n k))
-    cut = let e : high ≡ low = omega (arith, g .order) in subst (λ (i : ℕ). All (NotBelow k) (drop i (list a n k))) e (g .after)
-
-    pub found-end : low ≡ n → SpotOf (list a n k) k (record { held = false; at = low })
-    unfolding held
-    found-end e =
-        let past : length (list a n k) ≤ low = omega (arith, long) in
-        cut-spot k false (list a n k) low (omega (arith, long)) (g .up) (g .before) cut (rw (drop-of-length-le (list a n k) past))
-
-    pub found-here : low < n → (t : Bool) → t ≡ same-key k (key-in (length k) a low) → SpotOf (list a n k) k (record { held = t; at = low })
-    found-here l t e =
-        let y : Record = getD (list a n k) low none in
-        let ys : List Record = drop (suc low) (list a n k) in
-        let here : drop low (list a n k) ≡ y ∷ ys = drop-cons (list a n k) low none (omega (arith, long)) in
-        let up : rising (y ∷ ys) ≡ true = rw here at (rising-drop low (list a n k) (g .up)) in
-        let first : All (NotBelow k) (y ∷ ys) = rw here at cut in
-        cut-spot k t (list a n k) low (omega (arith, long)) (g .up) (g .before) cut
-        (rw here (e ∙ ap (same-key k) (sym (listed-key low l)) ∙ sym (held-first k y ys up (first .0))))
+  pub found-here : low < length l → (t : Bool) → t ≡ same-key k (getD l low none .key) → SpotOf l k (record { held = t; at = low })
+  found-here listed t e =
+      let here : drop low l ≡ getD l low none ∷ drop (suc low) l = drop-cons l low none listed in
+      let up : rising (getD l low none ∷ drop (suc low) l) ≡ true = rw here at (rising-drop low l (g .up)) in
+      let first : All (NotBelow k) (getD l low none ∷ drop (suc low) l) = rw here at cut in
+      found t (rw here (e ∙ sym (held-first k (getD l low none) (drop (suc low) l) up (first .0))))
 
 -- ---- a search among the places of a ledger area within the rules, lent from its third byte on, where n is its count
 module _ (c : Card) (a : List ℕ) (whole : length a ≡ ledger-length c) (rules : ledger-invalid c a ≡ false) (n : ℕ) (count : n ≡ count-of a) (k : List ℕ)

@@ -3,16 +3,17 @@ use mathlib.Core.Path.{_≡_, sym, ap, _∙_}
 use mathlib.Core.List.{List}
 use Prim.Native.Nat.{ℕ, _≤_, _<_, _-_, _+_, _*_, _/_}
 use native.Mathlib.Omega.{arith}
-use lib.ListN.{length}
-use Rattle.theory.specs.Records.{same-key, key-below}
+use lib.ListN.{length, getD}
+use Rattle.theory.specs.Records.{Record, records, same-key, key-below}
+use Rattle.theory.proofs.ByteLaws.{length-records}
 use Rattle.memory.proofs.SliceLaws.{length-part}
-use Rattle.ledger.proofs.RisingLaws.{place-room, key-in}
+use Rattle.ledger.proofs.RisingLaws.{place-room, none, key-in, key-here}
 use Rattle.ledger.proofs.SpotLaws.{Halving, halving-start, halving-up, halving-down, found-end, found-here}
 use Rattle.ledger.proofs.spots.find_spot.Statement.{statement}
 use Rattle.ledger.proofs.spots.find_spot.Tie as tie
 
 abbrev Inv-loop : tie.InvT-loop
-Inv-loop places n key width size low₀ high₀ low high = Halving places n key low high
+Inv-loop places n key width size low₀ high₀ low high = Halving (records (length key) n places) key low high
 
 abbrev μ-loop : tie.MeasureT-loop
 μ-loop places n key width size low₀ high₀ low high = high - low
@@ -25,47 +26,59 @@ module _ (c : tie.Start Inv-loop μ-loop) where
   abbrev key : List ℕ
   key = c .args .key .now
 
+  abbrev list : List Record
+  list = records (length key) (c .args .n) places
+
+  long : length list ≡ c .args .n
+  long = length-records (length key) (c .args .n) places
+
+  -- record i: its place, its width, and its key
   room : (i : ℕ) → i < c .args .n → i * (length key + 4) + (length key + 4) ≤ length places
   room i h = place-room i (c .args .n) (length key + 4) (length places) h (c .pre .0)
 
   wide : (i : ℕ) → i < c .args .n → length (key-in (length key) places i) ≡ length key
   wide i h = length-part (i * (length key + 4)) (length key) places (omega (arith, room i h))
 
+  listed-key : (i : ℕ) → i < c .args .n → key-in (length key) places i ≡ getD list i none .key
+  listed-key i h = sym (key-here (length key) (c .args .n) i places h)
+
 -- ---- the record in the middle
 module _ (c : tie.In-loop Inv-loop μ-loop) where
   abbrev start : tie.Start Inv-loop μ-loop
   start = c .before .before .before .before
 
-  abbrev halves : Halving (places start) (start .args .n) (key start) (c .before .loop .low) (c .before .loop .high)
+  abbrev halves : Halving (list start) (key start) (c .before .loop .low) (c .before .loop .high)
   halves = c .before .loop .inv
 
   abbrev middle : ℕ
   middle = c .before .loop .low + (c .before .loop .high - c .before .loop .low) / 2
 
   middle-listed : middle < start .args .n
-  middle-listed = omega (arith, halves .order, halves .within)
+  middle-listed = omega (arith, halves .order, halves .within, long start)
 
 -- ---- its key is compared
 module _ (c : tie.After-below-key Inv-loop μ-loop) where
   abbrev met : tie.In-loop Inv-loop μ-loop
   met = c .before .before
 
-  compared : c .below-key .result ≡ key-below (key-in (length (key (start met))) (places (start met)) (middle met)) (key (start met))
-  compared = c .below-key .ensures ∙ ap (λ (k : List ℕ). key-below k (key (start met))) (c .before .key-at .ensures)
+  compared : c .below-key .result ≡ key-below (getD (list (start met)) (middle met) none .key) (key (start met))
+  compared =
+      let listed = listed-key (start met) (middle met) (middle-listed met) in
+      c .below-key .ensures ∙ ap (λ (k : List ℕ). key-below k (key (start met))) (c .before .key-at .ensures ∙ listed)
 
--- ---- low and high have met, at a record
-module _ (c : tie.Else2 Inv-loop μ-loop) where
+-- ---- low and high have met
+module _ (c : tie.After-loop Inv-loop μ-loop) where
   abbrev first : tie.Start Inv-loop μ-loop
-  first = c .before .before .before .before .before
+  first = c .before .before .before .before
 
   abbrev low : ℕ
-  low = c .before .before .loop .low
+  low = c .before .loop .low
 
-  low-listed : low < first .args .n
-  low-listed = omega (arith, c .before .before .loop .inv .order, c .before .before .loop .inv .within, c .if2 .left)
+low-listed : (c : tie.Else2 Inv-loop μ-loop) → low (c .before) < first (c .before) .args .n
+low-listed c = let inv = c .before .before .loop .inv in omega (arith, inv .order, inv .within, c .if2 .left, long (first (c .before)))
 
 loop-holds : tie.Need-loop-holds Inv-loop μ-loop
-loop-holds c = let start = c .before .before in halving-start (places start) (start .args .n) (key start) (start .pre .1)
+loop-holds c = let start = c .before .before in halving-start (list start) (key start) (start .args .n) (long start) (start .pre .1)
 
 loop-again : tie.Need-loop-again Inv-loop μ-loop
 loop-again c =
@@ -80,9 +93,10 @@ loop-again-2 c =
 
 returns-2 : tie.Need-returns-2 Inv-loop μ-loop
 returns-2 c =
-    let end = c .before .before in
-    found-here (end .before .before .loop .inv) (end .before .loop-test .left) (low-listed end) (c .same-key .result)
-    (c .same-key .ensures ∙ ap (same-key (key (first end))) (c .before .key-at2 .ensures))
+    let end = c .before .before .before in
+    let listed = low-listed (c .before .before) in
+    found-here (end .before .loop .inv) (end .loop-test .left) (omega (arith, listed, long (first end))) (c .same-key .result)
+    (c .same-key .ensures ∙ ap (same-key (key (first end))) (c .before .key-at2 .ensures ∙ listed-key (first end) (low end) listed))
 
 pub find-spot-spec : {M : Type 1} → statement M
 find-spot-spec =
@@ -101,7 +115,7 @@ find-spot-spec =
     loop-again
     (λ c. omega (arith, halves (met (c .before)) .order))
     loop-again-2
-    (λ c. found-end (c .before .before .loop .inv) (c .before .loop-test .left) (c .if2 .taken))
-    (λ c κs. omega (arith, room (first c) (low c) (low-listed c)))
-    (λ c κs. sym (ap length (c .key-at2 .ensures) ∙ wide (first (c .before)) (low (c .before)) (low-listed (c .before))))
+    (λ c. found-end (c .before .before .loop .inv) (c .before .loop-test .left) (omega (arith, c .if2 .taken, long (first (c .before)))))
+    (λ c κs. omega (arith, room (first (c .before)) (low (c .before)) (low-listed c)))
+    (λ c κs. sym (ap length (c .key-at2 .ensures) ∙ wide (first (c .before .before)) (low (c .before .before)) (low-listed (c .before))))
     returns-2)
