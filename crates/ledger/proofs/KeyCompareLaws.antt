@@ -68,8 +68,8 @@ module _ (a b : List ℕ) (n : length a ≡ length b) where
 
   -- words that reach the last eight bytes, and these
   module _ (last i : ℕ) (e : last + 8 ≡ length a) (h : last ≤ i) where
-    equal : (same-key (take i a) (take i b) && same-key (word a last) (word b last)) ≡ true → a ≡ b
-    equal q =
+    equal-keys : (same-key (take i a) (take i b) && same-key (word a last) (word b last)) ≡ true → a ≡ b
+    equal-keys q =
         let front : take i a ≡ take i b = same-key-eq (take i a) (take i b) (and-left _ _ q) in
         let end : word a last ≡ word b last = same-key-eq (word a last) (word b last) (and-right (same-key (take i a) (take i b)) _ q) in
         let whole-a : word a last ≡ drop last a = take-all 8 (drop last a) (rw length-drop (omega arith)) in
@@ -81,7 +81,7 @@ module _ (a b : List ℕ) (n : length a ≡ length b) where
     pub same-all : (same-key (take i a) (take i b) && same-key (word a last) (word b last)) ≡ same-key a b
     same-all =
         by-test (same-key a b) (λ q. rw (same-key-eq a b q, same-self (take i b), same-self (word b last), same-self b))
-        (λ q. rw q (false-by (same-key (take i a) (take i b) && same-key (word a last) (word b last)) (λ p. true≢false (sym (rw (equal p) (same-self b)) ∙ q))))
+        (λ q. rw q (false-by (same-key (take i a) (take i b) && same-key (word a last) (word b last)) (λ p. true≢false (sym (rw (equal-keys p) (same-self b)) ∙ q))))
 
 -- ---- two keys from a place on
 module _ (a b : List ℕ) (i : ℕ) where

@@ -24,7 +24,7 @@ use Rattle.settings.specs.declared.Settings.{Settings}
 use Rattle.settings.specs.Checked.{card}
 use Rattle.memory.proofs.SliceLaws.{zeros, zeros-drop, back, length-part}
 use Rattle.ledger.specs.Edits.{ValidLedger, list-in, area-of, inserted-at, removed-at, replaced-at, moved-up, moved-down}
-use Rattle.ledger.proofs.RisingLaws.{none}
+use Rattle.ledger.proofs.RisingLaws.{no-record}
 use Rattle.ledger.proofs.LedgerLaws.{has-count, room-for, records-room}
 
 zeros-of : (l : List ℕ) → any (λ x. not (eqb x 0)) l ≡ false → l ≡ zeros (length l)
@@ -52,23 +52,23 @@ module _ (p : List ℕ) (from size : ℕ) (start : length p ≡ from) (new : Lis
 
   -- with a record at the place: the gap that it leaves closed, and the end filled
   module _ (r : List ℕ) (one : length r ≡ size) where
-    after : (t : List ℕ) → drop (from + size) (p ++ (r ++ t)) ≡ t
-    after t = rw (← drop-drop size from, drop-at p (r ++ t) from start) (drop-at r t size one)
+    past-record : (t : List ℕ) → drop (from + size) (p ++ (r ++ t)) ≡ t
+    past-record t = rw (← drop-drop size from, drop-at p (r ++ t) from start) (drop-at r t size one)
 
     remove-bytes : (q z : List ℕ) (to : ℕ) → from + length q ≡ to
         → back to size (moved-down size from to (p ++ (r ++ (q ++ z)))) new ≡ p ++ (q ++ (new ++ z))
     remove-bytes q z to stop =
         let a : List ℕ = p ++ (r ++ (q ++ z)) in
         let moved : moved-down size from to a ≡ (p ++ q) ++ drop to a =
-        rw (after (q ++ z), take-at p (r ++ (q ++ z)) from start, take-at q z (to - from) (omega arith), append-assoc) in
+        rw (past-record (q ++ z), take-at p (r ++ (q ++ z)) from start, take-at q z (to - from) (omega arith), append-assoc) in
         let two : length (p ++ q) ≡ to = rw length-append (omega arith) in
         let far : to + size ≡ from + size + length q = omega arith in
         let end : drop size (drop to a) ≡ z =
-        drop-drop size to a ∙ rw (far, ← drop-drop (length q) (from + size) a, after (q ++ z)) (drop-at q z (length q) refl) in
+        drop-drop size to a ∙ rw (far, ← drop-drop (length q) (from + size) a, past-record (q ++ z)) (drop-at q z (length q) refl) in
         rw (moved, take-at (p ++ q) (drop to a) to two, drop-at (p ++ q) (drop to a) to two, end, append-assoc)
 
     replace-bytes : (t : List ℕ) → back from size (p ++ (r ++ t)) new ≡ p ++ (new ++ t)
-    replace-bytes t = rw (drop-drop size from, after t, take-at p (r ++ t) from start)
+    replace-bytes t = rw (drop-drop size from, past-record t, take-at p (r ++ t) from start)
 
 -- ---- a ledger area within the rules
 module _ (c : Card) (a : List ℕ) (whole : length a ≡ ledger-length c) (rules : ledger-invalid c a ≡ false) where
@@ -123,8 +123,8 @@ abbrev free : Settings → ℕ → ℕ → List ℕ
 free s size k = zeros (size * (card s .capacity - k))
 
 module _ {s : Settings} {a : List ℕ} {size n at : ℕ} (p : Place s a size n at) where
-  pub count-is : n ≡ length (list-in s a)
-  count-is = p .count ∙ sym (listed (card s) a (p .ledger .size) (p .ledger .rules))
+  pub count-listed : n ≡ length (list-in s a)
+  count-listed = p .count ∙ sym (listed (card s) a (p .ledger .size) (p .ledger .rules))
 
   few-here : n ≤ card s .capacity
   few-here = rw (p .count) (few (card s) a (p .ledger .size) (p .ledger .rules))
@@ -133,23 +133,23 @@ module _ {s : Settings} {a : List ℕ} {size n at : ℕ} (p : Place s a size n a
   fit = records-fit-width (card s) a (p .ledger .size) (p .ledger .rules) (p .bytes)
 
   -- ---- where its records, the place and the record there lie
-  records-inside : 2 + size * n ≤ length a
-  records-inside = rw (p .size-is) (room-for (card s) a (p .ledger .size) n few-here)
+  end-inside : 2 + size * n ≤ length a
+  end-inside = rw (p .size-is) (room-for (card s) a (p .ledger .size) n few-here)
 
-  place-inside : size * at ≤ size * n
-  place-inside = mul-le-mul-left size (omega (arith, p .within, count-is))
+  place-before-end : size * at ≤ size * n
+  place-before-end = mul-le-mul-left size (omega (arith, p .within, count-listed))
 
-  record-inside : at < length (list-in s a) → size * at + size ≤ size * n
-  record-inside h = let le : suc at ≤ n = omega (arith, count-is) in omega (arith, mul-suc size at, mul-le-mul-left size le)
+  record-before-end : at < length (list-in s a) → size * at + size ≤ size * n
+  record-before-end h = let le : suc at ≤ n = omega (arith, count-listed) in omega (arith, mul-suc size at, mul-le-mul-left size le)
 
   -- what the code may count on where it puts one more in, and where it takes one out or replaces it
   pub insert-room : length (list-in s a) < card s .capacity → (size * at ≤ size * n) × (2 + size * n + size ≤ length a)
   insert-room h =
-      let room : 2 + record-size (card s) * suc n ≤ length a = room-for (card s) a (p .ledger .size) (suc n) (omega (arith, count-is)) in
-      (place-inside, omega (arith, mul-suc size n, rw (← p .size-is) at room))
+      let room : 2 + record-size (card s) * suc n ≤ length a = room-for (card s) a (p .ledger .size) (suc n) (omega (arith, count-listed)) in
+      (place-before-end, omega (arith, mul-suc size n, rw (← p .size-is) at room))
 
   pub remove-room : at < length (list-in s a) → (size * at + size ≤ size * n) × (2 + size * n ≤ length a)
-  remove-room h = (record-inside h, records-inside)
+  remove-room h = (record-before-end h, end-inside)
 
   -- ---- areas in parts
   flat-size : (m : List Record) → All (Fit (card s .width)) m → length (bytes-in m) ≡ size * length m
@@ -162,14 +162,14 @@ module _ {s : Settings} {a : List ℕ} {size n at : ℕ} (p : Place s a size n a
       rw (length-append, length-to-bytes, flat-size (take at (list-in s a)) fits, length-take-le at (list-in s a) (p .within))
 
   rest-size : (i : ℕ) → length (bytes-in (drop i (list-in s a))) ≡ size * n - size * i
-  rest-size i = rw (flat-size (drop i (list-in s a)) (all-drop (Fit (card s .width)) i (list-in s a) fit), length-drop, mul-sub, ← count-is)
+  rest-size i = rw (flat-size (drop i (list-in s a)) (all-drop (Fit (card s .width)) i (list-in s a) fit), length-drop, mul-sub, ← count-listed)
 
-  parts : (l u m : List Record) (k : ℕ) → l ≡ u ++ m → k ≡ length l → area-of s l ≡ (to-bytes 2 k ++ bytes-in u) ++ (bytes-in m ++ free s size k)
+  list-parts : (l u m : List Record) (k : ℕ) → l ≡ u ++ m → k ≡ length l → area-of s l ≡ (to-bytes 2 k ++ bytes-in u) ++ (bytes-in m ++ free s size k)
   unfolding counted-places places
-  parts l u m k e f = rw (← f, e, flat-append record-bytes u m, p .size-is) (simp append-assoc)
+  list-parts l u m k e f = rw (← f, e, flat-append record-bytes u m, p .size-is) (simp append-assoc)
 
-  area-is : (m : List Record) → list-in s a ≡ take at (list-in s a) ++ m → a ≡ front s a n at ++ (bytes-in m ++ free s size n)
-  area-is m e = valid-is (card s) a (p .ledger .size) (p .ledger .rules) (p .bytes) ∙ parts (list-in s a) (take at (list-in s a)) m n e count-is
+  area-parts : (m : List Record) → list-in s a ≡ take at (list-in s a) ++ m → a ≡ front s a n at ++ (bytes-in m ++ free s size n)
+  area-parts m e = valid-is (card s) a (p .ledger .size) (p .ledger .rules) (p .bytes) ∙ list-parts (list-in s a) (take at (list-in s a)) m n e count-listed
 
   recounted : (m : List Record) (k : ℕ) → k ≡ length (take at (list-in s a) ++ m)
       → to-bytes 2 k ++ drop 2 (front s a n at ++ (bytes-in m ++ free s size k)) ≡ area-of s (take at (list-in s a) ++ m)
@@ -177,68 +177,68 @@ module _ {s : Settings} {a : List ℕ} {size n at : ℕ} (p : Place s a size n a
       let before : List ℕ = bytes-in (take at (list-in s a)) in
       let rest : List ℕ = bytes-in m ++ free s size k in
       rw (append-assoc (to-bytes 2 n) before rest, drop-at (to-bytes 2 n) (before ++ rest) 2 (length-to-bytes 2 n), ← append-assoc (to-bytes 2 k) before rest)
-      (sym (parts (take at (list-in s a) ++ m) (take at (list-in s a)) m k refl e))
+      (sym (list-parts (take at (list-in s a) ++ m) (take at (list-in s a)) m k refl e))
 
   spare : (k j : ℕ) → k + 1 ≡ j → j ≤ card s .capacity → size * (card s .capacity - k) ≡ size + size * (card s .capacity - j)
   spare k j e h = let step : card s .capacity - k ≡ suc (card s .capacity - j) = omega arith in rw (step, mul-suc) (omega arith)
 
   -- ---- the edits, as the code makes them
-  pub inserted : length (list-in s a) < card s .capacity → (g y : List ℕ) → g ≡ moved-up size (2 + size * at) (2 + size * n) a
+  pub insert-written : length (list-in s a) < card s .capacity → (g y : List ℕ) → g ≡ moved-up size (2 + size * at) (2 + size * n) a
       → (x : Record) → record-bytes x ≡ y
       → to-bytes 2 (n + 1) ++ drop 2 (back (2 + size * at) (2 + size * at + size - (2 + size * at)) g y) ≡ area-of s (inserted-at at x (list-in s a))
-  inserted less g y opened x is-x =
+  insert-written less g y opened x is-x =
       let l : List Record = list-in s a in
       let after : List ℕ = bytes-in (drop at l) in
-      let room = spare n (n + 1) refl (omega (arith, count-is)) in
+      let room = spare n (n + 1) refl (omega (arith, count-listed)) in
       let fits : size ≤ length after + length (free s size n) = rw length-replicate (omega arith) in
       let fewer : size * (card s .capacity - n) - size ≡ size * (card s .capacity - (n + 1)) = omega arith in
       let left : drop size (free s size n) ≡ free s size (n + 1) = rw (zeros-drop, fewer) in
       let longer : n + 1 ≡ length (inserted-at at x l) =
-      rw (length-append, length-take-le at l (p .within), length-drop) (omega (arith, count-is, p .within)) in
+      rw (length-append, length-take-le at l (p .within), length-drop) (omega (arith, count-listed, p .within)) in
       let made : back (2 + size * at) size g y ≡ front s a n at ++ (y ++ (after ++ drop size (free s size n))) =
       ap (λ (b : List ℕ). back (2 + size * at) size b y)
-      (opened ∙ ap (moved-up size (2 + size * at) (2 + size * n)) (area-is (drop at l) (sym (take-append-drop at l))))
-      ∙ insert-bytes (front s a n at) (2 + size * at) size front-size y after (free s size n) (2 + size * n) (omega (arith, rest-size at, place-inside)) fits in
+      (opened ∙ ap (moved-up size (2 + size * at) (2 + size * n)) (area-parts (drop at l) (sym (take-append-drop at l))))
+      ∙ insert-bytes (front s a n at) (2 + size * at) size front-size y after (free s size n) (2 + size * n) (omega (arith, rest-size at, place-before-end)) fits in
       rw (add-sub-cancel-left (2 + size * at) size, made, left, ← append-assoc y after, ← is-x) (recounted (x ∷ drop at l) (n + 1) longer)
 
   module _ (h : at < length (list-in s a)) where
-    old-size : length (record-bytes (getD (list-in s a) at none)) ≡ size
+    old-size : length (record-bytes (getD (list-in s a) at no-record)) ≡ size
     unfolding record-size
-    old-size = rw (p .size-is) (length-record (card s .width) (getD (list-in s a) at none) (all-at (Fit (card s .width)) (list-in s a) at none h fit))
+    old-size = rw (p .size-is) (length-record (card s .width) (getD (list-in s a) at no-record) (all-at (Fit (card s .width)) (list-in s a) at no-record h fit))
 
     stop-is : 2 + size * at + length (bytes-in (drop (at + 1) (list-in s a))) ≡ 2 + size * n - size
-    stop-is = let rest = rw (add-one, mul-suc) at (rest-size (at + 1)) in rw add-one (omega (arith, record-inside h))
+    stop-is = let rest = rw (add-one, mul-suc) at (rest-size (at + 1)) in rw add-one (omega (arith, record-before-end h))
 
-    record-is : a ≡ front s a n at ++ (record-bytes (getD (list-in s a) at none) ++ (bytes-in (drop (at + 1) (list-in s a)) ++ free s size n))
+    record-is : a ≡ front s a n at ++ (record-bytes (getD (list-in s a) at no-record) ++ (bytes-in (drop (at + 1) (list-in s a)) ++ free s size n))
     record-is =
         let l : List Record = list-in s a in
-        area-is (getD l at none ∷ drop (at + 1) l) (rw add-one (split-at l at none h))
-        ∙ rw (append-assoc (record-bytes (getD l at none)) (bytes-in (drop (at + 1) l)))
+        area-parts (getD l at no-record ∷ drop (at + 1) l) (rw add-one (split-at l at no-record h))
+        ∙ rw (append-assoc (record-bytes (getD l at no-record)) (bytes-in (drop (at + 1) l)))
 
-    pub removed : (g y : List ℕ) → length g ≡ length a → g ≡ moved-down size (2 + size * at) (2 + size * n - size) a
+    pub remove-written : (g y : List ℕ) → length g ≡ length a → g ≡ moved-down size (2 + size * at) (2 + size * n - size) a
         → y ≡ zeros (length (take (2 + size * n - (2 + size * n - size)) (drop (2 + size * n - size) g)))
         → to-bytes 2 (n - 1) ++ drop 2 (back (2 + size * n - size) (2 + size * n - (2 + size * n - size)) g y) ≡ area-of s (removed-at at (list-in s a))
-    removed g y kept closed cleared =
+    remove-written g y kept closed cleared =
         let l : List Record = list-in s a in
         let after : List ℕ = bytes-in (drop (at + 1) l) in
         let last : ℕ = 2 + size * n - size in
-        let k : 2 + size * n - (2 + size * n - size) ≡ size = omega (arith, record-inside h) in
-        let zeroed : y ≡ zeros size = rw (k, length-part last size g (omega (arith, record-inside h, records-inside))) at cleared in
-        let room = spare (n - 1) n (omega (arith, count-is)) few-here in
+        let k : 2 + size * n - (2 + size * n - size) ≡ size = omega (arith, record-before-end h) in
+        let zeroed : y ≡ zeros size = rw (k, length-part last size g (omega (arith, record-before-end h, end-inside))) at cleared in
+        let room = spare (n - 1) n (omega (arith, count-listed)) few-here in
         let more : y ++ free s size n ≡ free s size (n - 1) = rw (zeroed, room) (replicate-append-replicate size (size * (card s .capacity - n)) 0) in
-        let shorter : n - 1 ≡ length (removed-at at l) = rw (length-append, length-take-le at l (p .within), length-drop) (omega (arith, count-is)) in
+        let shorter : n - 1 ≡ length (removed-at at l) = rw (length-append, length-take-le at l (p .within), length-drop) (omega (arith, count-listed)) in
         let made : back last size g y ≡ front s a n at ++ (after ++ (y ++ free s size n)) =
         ap (λ (b : List ℕ). back last size b y) (closed ∙ ap (moved-down size (2 + size * at) last) record-is)
-        ∙ remove-bytes (front s a n at) (2 + size * at) size front-size y (record-bytes (getD l at none)) old-size after (free s size n) last stop-is in
+        ∙ remove-bytes (front s a n at) (2 + size * at) size front-size y (record-bytes (getD l at no-record)) old-size after (free s size n) last stop-is in
         rw (k, made, more) (recounted (drop (at + 1) l) (n - 1) shorter)
 
-    pub replaced : (y : List ℕ) (x : Record) → record-bytes x ≡ y
+    pub replace-written : (y : List ℕ) (x : Record) → record-bytes x ≡ y
         → back (2 + size * at) (2 + size * at + size - (2 + size * at)) a y ≡ area-of s (replaced-at at x (list-in s a))
-    replaced y x is-x =
+    replace-written y x is-x =
         let l : List Record = list-in s a in
         let after : List ℕ = bytes-in (drop (at + 1) l) in
-        let same : n ≡ length (replaced-at at x l) = rw (length-append, length-take-le at l (p .within), length-drop) (omega (arith, count-is)) in
+        let same : n ≡ length (replaced-at at x l) = rw (length-append, length-take-le at l (p .within), length-drop) (omega (arith, count-listed)) in
         rw (add-sub-cancel-left (2 + size * at) size)
         (ap (λ (b : List ℕ). back (2 + size * at) size b y) record-is
-        ∙ replace-bytes (front s a n at) (2 + size * at) size front-size y (record-bytes (getD l at none)) old-size (after ++ free s size n)
-        ∙ sym (parts (replaced-at at x l) (take at l) (x ∷ drop (at + 1) l) n refl same ∙ rw (is-x, append-assoc y after)))
+        ∙ replace-bytes (front s a n at) (2 + size * at) size front-size y (record-bytes (getD l at no-record)) old-size (after ++ free s size n)
+        ∙ sym (list-parts (replaced-at at x l) (take at l) (x ∷ drop (at + 1) l) n refl same ∙ rw (is-x, append-assoc y after)))

@@ -23,8 +23,8 @@ place-room i n z m h f = omega (arith, suc-mul i z, mul-le-mul-right z h)
 abbrev pub key-in : ℕ → List ℕ → ℕ → List ℕ
 key-in w a i = take w (drop (i * (w + 4)) a)
 
-pub none : Record
-none = record { key = []; class = 0 }
+pub no-record : Record
+no-record = record { key = []; class = 0 }
 
 module _ (w : ℕ) where
   pub records-next : (n : ℕ) (a : List ℕ) → 0 < n → records w n a ≡ record-at w a ∷ records w (n - 1) (drop (w + 4) a)
@@ -32,7 +32,7 @@ module _ (w : ℕ) where
   records-next zero a h = absurd (omega arith)
   records-next (suc n) a h = let e : suc n - 1 ≡ n = omega arith in rw e
 
-  pub key-here : (n i : ℕ) (a : List ℕ) → i < n → getD (records w n a) i none .key ≡ key-in w a i
+  pub key-here : (n i : ℕ) (a : List ℕ) → i < n → getD (records w n a) i no-record .key ≡ key-in w a i
   unfolding records entries record-at
   key-here zero i a h = absurd (omega arith)
   key-here (suc n) zero a h = rw zero-mul
@@ -41,8 +41,8 @@ module _ (w : ℕ) where
 
 -- ---- keys that rise from record i on
 pub rising-from : (l : List Record) (i : ℕ) → i + 1 < length l
-    → rising (drop i l) ≡ (key-below (getD l i none .key) (getD l (i + 1) none .key) && rising (drop (i + 1) l))
-rising-from l i h = rw (add-one, drop-cons l i none (omega arith), drop-cons l (suc i) none (omega arith))
+    → rising (drop i l) ≡ (key-below (getD l i no-record .key) (getD l (i + 1) no-record .key) && rising (drop (i + 1) l))
+rising-from l i h = rw (add-one, drop-cons l i no-record (omega arith), drop-cons l (suc i) no-record (omega arith))
 
 pub rising-end : (l : List Record) (i : ℕ) → length l ≤ i + 1 → rising (drop i l) ≡ true
 rising-end [] i h = rw drop-nil

@@ -24,7 +24,7 @@ use Rattle.ledger.specs.declared.spots.Spot.{Spot}
 use Rattle.ledger.specs.Spots.{SpotOf}
 use Rattle.memory.proofs.SliceLaws.{tail-is}
 use Rattle.ledger.proofs.KeyCompareLaws.{false-by, same-self}
-use Rattle.ledger.proofs.RisingLaws.{none}
+use Rattle.ledger.proofs.RisingLaws.{no-record}
 use Rattle.ledger.proofs.LedgerLaws.{has-count, records-room, records-are, records-rise}
 
 -- ---- keys
@@ -58,8 +58,8 @@ module _ {A : Type 0} where
 rising-rest : (x : Record) (xs : List Record) → rising (x ∷ xs) ≡ true → rising xs ≡ true
 rising-rest x xs up = and-right (below-first (x .key) xs) _ up
 
-above-first : (x : Record) (xs : List Record) → rising (x ∷ xs) ≡ true → All (λ r. key-below (x .key) (r .key) ≡ true) xs
-above-first x xs up = below-first-far (x .key) xs (and-left _ _ up) (rising-rest x xs up)
+above-head : (x : Record) (xs : List Record) → rising (x ∷ xs) ≡ true → All (λ r. key-below (x .key) (r .key) ≡ true) xs
+above-head x xs up = below-first-far (x .key) xs (and-left _ _ up) (rising-rest x xs up)
 
 rising-drop : (n : ℕ) (l : List Record) → rising l ≡ true → rising (drop n l) ≡ true
 rising-drop zero l up = up
@@ -82,18 +82,18 @@ module _ (k : List ℕ) where
   same-by x q r b e = ap (λ (z : List ℕ). same-key z (r .key)) q ∙ e
 
   -- one record below the key: so are all up to it; one that is not: nor are those after it
-  below-up-to : (l : List Record) (i : ℕ) → i < length l → rising l ≡ true → Below k (getD l i none) → All (Below k) (take (suc i) l)
+  below-up-to : (l : List Record) (i : ℕ) → i < length l → rising l ≡ true → Below k (getD l i no-record) → All (Below k) (take (suc i) l)
   below-up-to [] i h up e = absurd (omega arith)
   below-up-to (x ∷ xs) zero h up e = (e, tt)
   below-up-to (x ∷ xs) (suc i) h up e =
-      let far = all-at (λ r. key-below (x .key) (r .key) ≡ true) xs i none (le-of-suc-le-suc h) (above-first x xs up) in
-      (key-below-trans (x .key) (getD xs i none .key) k far e, below-up-to xs i (le-of-suc-le-suc h) (rising-rest x xs up) e)
+      let far = all-at (λ r. key-below (x .key) (r .key) ≡ true) xs i no-record (le-of-suc-le-suc h) (above-head x xs up) in
+      (key-below-trans (x .key) (getD xs i no-record .key) k far e, below-up-to xs i (le-of-suc-le-suc h) (rising-rest x xs up) e)
 
   above-all : (x : Record) (xs : List Record) → rising (x ∷ xs) ≡ true → NotBelow k x → All (NotBelow k) xs
   above-all x xs up e =
-      all-map (λ r f. false-by (key-below (r .key) k) (λ q. true≢false (sym (key-below-trans (x .key) (r .key) k f q) ∙ e))) xs (above-first x xs up)
+      all-map (λ r f. false-by (key-below (r .key) k) (λ q. true≢false (sym (key-below-trans (x .key) (r .key) k f q) ∙ e))) xs (above-head x xs up)
 
-  above-from : (l : List Record) (i : ℕ) → i < length l → rising l ≡ true → NotBelow k (getD l i none) → All (NotBelow k) (drop i l)
+  above-from : (l : List Record) (i : ℕ) → i < length l → rising l ≡ true → NotBelow k (getD l i no-record) → All (NotBelow k) (drop i l)
   above-from [] i h up e = absurd (omega arith)
   above-from (x ∷ xs) zero h up e = (e, above-all x xs up e)
   above-from (x ∷ xs) (suc i) h up e = above-from xs i (le-of-suc-le-suc h) (rising-rest x xs up) e
@@ -103,7 +103,7 @@ module _ (k : List ℕ) where
     others : All (λ r. same-key k (r .key) ≡ false) ys
     others =
         all-map (λ r f. false-by (same-key k (r .key)) (λ q. true≢false (sym f ∙ ap (key-below (y .key)) (sym (same-key-eq k (r .key) q)) ∙ e))) ys
-        (above-first y ys up)
+        (above-head y ys up)
 
     held-first : held k (y ∷ ys) ≡ same-key k (y .key)
     unfolding held
@@ -170,12 +170,12 @@ halving-start l k n e up =
     record { order = omega arith; within = omega arith; up = up; before = tt; after = rw (drop-of-length-le l past) tt }
 
 module _ {l : List Record} {k : List ℕ} {low high : ℕ} (g : Halving l k low high) (i : ℕ) (h : i < high) where
-  pub halving-up : key-below (getD l i none .key) k ≡ true → Halving l k (i + 1) high
+  pub halving-up : key-below (getD l i no-record .key) k ≡ true → Halving l k (i + 1) high
   halving-up e =
       let before = below-up-to k l i (omega (arith, g .within)) (g .up) e in
       record { order = omega arith; within = g .within; up = g .up; before = rw add-one before; after = g .after }
 
-  pub halving-down : low ≤ i → key-below (getD l i none .key) k ≡ false → Halving l k low i
+  pub halving-down : low ≤ i → key-below (getD l i no-record .key) k ≡ false → Halving l k low i
   halving-down le e =
       let after = above-from k l i (omega (arith, g .within)) (g .up) e in
       record { order = le; within = omega (arith, g .within); up = g .up; before = g .before; after = after }
@@ -185,19 +185,19 @@ module _ {l : List Record} {k : List ℕ} {low high : ℕ} (g : Halving l k low 
   cut : All (NotBelow k) (drop low l)
   cut = let e : high ≡ low = omega (arith, g .order) in subst (λ (i : ℕ). All (NotBelow k) (drop i l)) e (g .after)
 
-  found : (t : Bool) → t ≡ held k (drop low l) → SpotOf l k (record { held = t; at = low })
-  found t e = cut-spot k t l low (omega (arith, g .order, g .within)) (g .up) (g .before) cut e
+  spot-met : (t : Bool) → t ≡ held k (drop low l) → SpotOf l k (record { held = t; at = low })
+  spot-met t e = cut-spot k t l low (omega (arith, g .order, g .within)) (g .up) (g .before) cut e
 
   pub found-end : length l ≤ low → SpotOf l k (record { held = false; at = low })
   unfolding held
-  found-end past = found false (rw (drop-of-length-le l past))
+  found-end past = spot-met false (rw (drop-of-length-le l past))
 
-  pub found-here : low < length l → (t : Bool) → t ≡ same-key k (getD l low none .key) → SpotOf l k (record { held = t; at = low })
+  pub found-here : low < length l → (t : Bool) → t ≡ same-key k (getD l low no-record .key) → SpotOf l k (record { held = t; at = low })
   found-here listed t e =
-      let here : drop low l ≡ getD l low none ∷ drop (suc low) l = drop-cons l low none listed in
-      let up : rising (getD l low none ∷ drop (suc low) l) ≡ true = rw here at (rising-drop low l (g .up)) in
-      let first : All (NotBelow k) (getD l low none ∷ drop (suc low) l) = rw here at cut in
-      found t (rw here (e ∙ sym (held-first k (getD l low none) (drop (suc low) l) up (first .0))))
+      let here : drop low l ≡ getD l low no-record ∷ drop (suc low) l = drop-cons l low no-record listed in
+      let up : rising (getD l low no-record ∷ drop (suc low) l) ≡ true = rw here at (rising-drop low l (g .up)) in
+      let first : All (NotBelow k) (getD l low no-record ∷ drop (suc low) l) = rw here at cut in
+      spot-met t (rw here (e ∙ sym (held-first k (getD l low no-record) (drop (suc low) l) up (first .0))))
 
 -- ---- a search among the places of a ledger area within the rules, lent from its third byte on, where n is its count
 module _ (c : Card) (a : List ℕ) (whole : length a ≡ ledger-length c) (rules : ledger-invalid c a ≡ false) (n : ℕ) (count : n ≡ count-of a) (k : List ℕ)

@@ -190,5 +190,5 @@ module _ (p : ℕ → Bool) (l : List ℕ) (i : ℕ) where
   pub any-from : i < length l → any p (drop i l) ≡ (p (getD l i 0) || any p (drop (i + 1) l))
   any-from h = rw (add-one, drop-cons l i 0 h)
 
-  pub any-end : length l ≤ i → any p (drop i l) ≡ false
-  any-end h = rw (drop-of-length-le l h)
+  pub any-past-end : length l ≤ i → any p (drop i l) ≡ false
+  any-past-end h = rw (drop-of-length-le l h)

@@ -92,8 +92,8 @@ module _ {n k : ℕ} {ds to : List ℕ} (s : Spelled n k ds to) where
   pub few-digits : k ≤ 20
   few-digits = omega (arith, decimal-length 19 n (omega (arith, s .fits)), length-is)
 
-  pub front-length : length (take k to) ≡ k
-  front-length = length-take-le k to (omega (arith, few-digits, s .room))
+  pub digits-front : length (take k to) ≡ k
+  digits-front = length-take-le k to (omega (arith, few-digits, s .room))
 
   -- the digits are copied to the front
   module _ (copied : List ℕ) (same : copied ≡ take k ds) where

@@ -2,7 +2,7 @@
 use borrow.Author.Needs.{needs}
 use mathlib.Core.Path.{sym, _∙_}
 use native.Mathlib.Omega.{arith}
-use Rattle.text.proofs.TextLaws.{Spelled, few-digits, front-length, decimal-inside, decimal-written}
+use Rattle.text.proofs.TextLaws.{Spelled, few-digits, digits-front, decimal-inside, decimal-written}
 use Rattle.text.proofs.write_decimal.Statement.{statement}
 use Rattle.text.proofs.write_decimal.Tie as tie
 
@@ -25,10 +25,10 @@ write-decimal-spec =
     (tie.spec
     (λ c κs. search needs)
     (λ c. omega (arith, start c .pre, few-digits (known c)))
-    (λ c. sym (front-length (known (c .before))))
+    (λ c. sym (digits-front (known (c .before))))
     (λ c. search needs)
     (λ c. search needs)
-    (λ c κs. front-length (known (c .before .before)) ∙ c .before .before .decimal .ensures .0 .1)
+    (λ c κs. digits-front (known (c .before .before)) ∙ c .before .before .decimal .ensures .0 .1)
     (λ c. let copied = c .before .before in decimal-inside (known (spelled copied)) _ (copied .copy .ensures))
     (λ c. omega (arith, few-digits (known (spelled (c .before .before)))))
     (λ c. search needs)

@@ -1,4 +1,4 @@
--- `ledger::edits::insert_record` meets its contract: the gap opened, filled and counted is the ledger area of the new list, the law `inserted`.
+-- `ledger::edits::insert_record` meets its contract: the gap opened, filled and counted is the ledger area of the new list, the law `insert-written`.
 use borrow.Author.Needs.{needs}
 use mathlib.Core.Path.{sym, _∙_}
 use Prim.Native.Nat.{ℕ, _+_, _-_, _*_, _≤_}
@@ -8,7 +8,7 @@ use Rattle.theory.proofs.SettingsLaws.{sound}
 use Rattle.settings.specs.Checked.{paper, card}
 use Rattle.memory.proofs.SliceLaws.{bytes-of, two-kept}
 use Rattle.ledger.proofs.LedgerLaws.{has-count}
-use Rattle.ledger.proofs.LedgerEditLaws.{Place, count-is, insert-room, inserted}
+use Rattle.ledger.proofs.LedgerEditLaws.{Place, count-listed, insert-room, insert-written}
 use Rattle.ledger.proofs.edits.insert_record.Statement.{statement}
 use Rattle.ledger.proofs.edits.insert_record.Tie as tie
 
@@ -50,7 +50,7 @@ write-number-requires c κs =
     let start = start sized in (
       two-kept (from sized) (from sized + sized .record-size .result - from sized) (opened .open-gap .last .0) (copied .copy .last .0) (omega arith)
           (omega (arith, room-left opened)),
-      omega (arith, count-is (place sized), start .pre .1, sound (paper (start .args .s)) (start .pre .0 .permitted) .capacity-small),
+      omega (arith, count-listed (place sized), start .pre .1, sound (paper (start .args .s)) (start .pre .0 .permitted) .capacity-small),
     )
 
 returns : tie.Need-returns
@@ -59,7 +59,7 @@ returns c = λ x q.
     let opened = copied .before .before .before .before in
     let sized = sized opened in
     c .before .before .write-number .ensures
-    ∙ inserted (place sized) (start sized .pre .1) _ _ (opened .open-gap .ensures) x (q ∙ sym (copied .copy .ensures))
+    ∙ insert-written (place sized) (start sized .pre .1) _ _ (opened .open-gap .ensures) x (q ∙ sym (copied .copy .ensures))
 
 pub insert-record-spec : {M : Type 1} → statement M
 insert-record-spec =

@@ -1,4 +1,4 @@
--- `ledger::edits::remove_record` meets its contract: the gap closed, the end cleared, one less counted is the ledger area of the new list, the law `removed`.
+-- `ledger::edits::remove_record` meets its contract: the gap closed, the end cleared, one less counted is the ledger area of the new list, the law `remove-written`.
 use borrow.Author.Needs.{needs}
 use mathlib.Core.Path.{_∙_}
 use Prim.Native.Nat.{ℕ, _+_, _-_, _*_, _≤_}
@@ -7,7 +7,7 @@ use lib.ListN.{length}
 use Rattle.settings.specs.Checked.{card}
 use Rattle.memory.proofs.SliceLaws.{bytes-of, two-kept}
 use Rattle.ledger.proofs.LedgerLaws.{has-count}
-use Rattle.ledger.proofs.LedgerEditLaws.{Place, count-is, remove-room, removed}
+use Rattle.ledger.proofs.LedgerEditLaws.{Place, count-listed, remove-room, remove-written}
 use Rattle.ledger.proofs.edits.remove_record.Statement.{statement}
 use Rattle.ledger.proofs.edits.remove_record.Tie as tie
 
@@ -44,7 +44,7 @@ count-at-requires c κs =
 sub-write-number : tie.Need-sub-write-number
 sub-write-number c =
     let sized = sized (c .before .before .before .before .before .before .before) in
-    omega (arith, count-is (place sized), start sized .pre .1)
+    omega (arith, count-listed (place sized), start sized .pre .1)
 
 write-number-requires : tie.Need-write-number-requires
 write-number-requires c κs =
@@ -63,7 +63,7 @@ returns c =
     let closed = cleared .before .before .before .before in
     let sized = sized closed in
     c .before .before .write-number .ensures
-    ∙ removed (place sized) (start sized .pre .1) _ _ (closed .close-gap .kept .0) (closed .close-gap .ensures) (cleared .zero-fill .ensures)
+    ∙ remove-written (place sized) (start sized .pre .1) _ _ (closed .close-gap .kept .0) (closed .close-gap .ensures) (cleared .zero-fill .ensures)
 
 pub remove-record-spec : {M : Type 1} → statement M
 remove-record-spec =

@@ -1,4 +1,4 @@
--- `ledger::edits::replace_record` meets its contract: the record's bytes put in place is the ledger area of the new list, the law `replaced`.
+-- `ledger::edits::replace_record` meets its contract: the record's bytes put in place is the ledger area of the new list, the law `replace-written`.
 use borrow.Author.Needs.{needs}
 use mathlib.Core.Path.{refl, sym, _∙_}
 use Prim.Native.Nat.{_+_, _*_, _≤_}
@@ -6,7 +6,7 @@ use native.Mathlib.Omega.{arith}
 use lib.ListN.{length}
 use Rattle.theory.specs.Records.{count-of}
 use Rattle.memory.proofs.SliceLaws.{bytes-of}
-use Rattle.ledger.proofs.LedgerEditLaws.{Place, remove-room, replaced}
+use Rattle.ledger.proofs.LedgerEditLaws.{Place, remove-room, replace-written}
 use Rattle.ledger.proofs.edits.replace_record.Statement.{statement}
 use Rattle.ledger.proofs.edits.replace_record.Tie as tie
 
@@ -31,7 +31,7 @@ module _ (c : tie.After-record-size) where
 returns : tie.Need-returns
 returns c = λ x q.
     let sized = c .before .before .before .before in
-    replaced (place sized) (start sized .pre .1) _ x (q ∙ sym (c .before .before .copy .ensures))
+    replace-written (place sized) (start sized .pre .1) _ x (q ∙ sym (c .before .before .copy .ensures))
 
 pub replace-record-spec : {M : Type 1} → statement M
 replace-record-spec =

@@ -7,7 +7,7 @@ use lib.ListN.{length, getD}
 use Rattle.theory.specs.Records.{Record, records, same-key, key-below}
 use Rattle.theory.proofs.ByteLaws.{length-records}
 use Rattle.memory.proofs.SliceLaws.{length-part}
-use Rattle.ledger.proofs.RisingLaws.{place-room, none, key-in, key-here}
+use Rattle.ledger.proofs.RisingLaws.{place-room, no-record, key-in, key-here}
 use Rattle.ledger.proofs.SpotLaws.{Halving, halving-start, halving-up, halving-down, found-end, found-here}
 use Rattle.ledger.proofs.spots.find_spot.Statement.{statement}
 use Rattle.ledger.proofs.spots.find_spot.Tie as tie
@@ -39,7 +39,7 @@ module _ (c : tie.Start Inv-loop μ-loop) where
   wide : (i : ℕ) → i < c .args .n → length (key-in (length key) places i) ≡ length key
   wide i h = length-part (i * (length key + 4)) (length key) places (omega (arith, room i h))
 
-  listed-key : (i : ℕ) → i < c .args .n → key-in (length key) places i ≡ getD list i none .key
+  listed-key : (i : ℕ) → i < c .args .n → key-in (length key) places i ≡ getD list i no-record .key
   listed-key i h = sym (key-here (length key) (c .args .n) i places h)
 
 -- ---- the record in the middle
@@ -61,7 +61,7 @@ module _ (c : tie.After-below-key Inv-loop μ-loop) where
   abbrev met : tie.In-loop Inv-loop μ-loop
   met = c .before .before
 
-  compared : c .below-key .result ≡ key-below (getD (list (start met)) (middle met) none .key) (key (start met))
+  compared : c .below-key .result ≡ key-below (getD (list (start met)) (middle met) no-record .key) (key (start met))
   compared =
       let listed = listed-key (start met) (middle met) (middle-listed met) in
       c .below-key .ensures ∙ ap (λ (k : List ℕ). key-below k (key (start met))) (c .before .key-at .ensures ∙ listed)

@@ -6,7 +6,7 @@ use native.Mathlib.Omega.{arith}
 use lib.Dec.{eqb}
 use lib.ListN.{length, drop, getD}
 use Rattle.theory.specs.Lists.{any}
-use Rattle.memory.proofs.SliceLaws.{any-from, any-end}
+use Rattle.memory.proofs.SliceLaws.{any-from, any-past-end}
 use Rattle.memory.proofs.parts.all_zero.Statement.{statement}
 use Rattle.memory.proofs.parts.all_zero.Tie as tie
 
@@ -33,7 +33,7 @@ returns : tie.Need-returns Inv-loop μ-loop
 returns c =
     let l = c .before .loop in
     let part = c .before .before .args .part .now in
-    ap not (sym (or-false (l .dirty)) ∙ (rw (any-end nonzero part (l .i) (omega arith)) at (l .inv .1)))
+    ap not (sym (or-false (l .dirty)) ∙ (rw (any-past-end nonzero part (l .i) (omega arith)) at (l .inv .1)))
 
 pub all-zero-spec : {M : Type 1} → statement M
 all-zero-spec =
