@@ -81,7 +81,8 @@ module _ (a b : List ℕ) (n : length a ≡ length b) where
     pub same-all : (same-key (take i a) (take i b) && same-key (word a last) (word b last)) ≡ same-key a b
     same-all =
         by-test (same-key a b) (λ q. rw (same-key-eq a b q, same-self (take i b), same-self (word b last), same-self b))
-        (λ q. rw q (false-by (same-key (take i a) (take i b) && same-key (word a last) (word b last)) (λ p. true≢false (sym (rw (equal-keys p) (same-self b)) ∙ q))))
+        (λ q. rw q (false-by (same-key (take i a) (take i b) && same-key (word a last) (word b last))
+        (λ p. true≢false (sym (rw (equal-keys p) (same-self b)) ∙ q))))
 
 -- ---- two keys from a place on
 module _ (a b : List ℕ) (i : ℕ) where

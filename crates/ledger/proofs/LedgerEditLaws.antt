@@ -198,7 +198,8 @@ module _ {s : Settings} {a : List ℕ} {size n at : ℕ} (p : Place s a size n a
       let made : back (2 + size * at) size g y ≡ front s a n at ++ (y ++ (after ++ drop size (free s size n))) =
       ap (λ (b : List ℕ). back (2 + size * at) size b y)
       (opened ∙ ap (moved-up size (2 + size * at) (2 + size * n)) (area-parts (drop at l) (sym (take-append-drop at l))))
-      ∙ insert-bytes (front s a n at) (2 + size * at) size front-size y after (free s size n) (2 + size * n) (omega (arith, rest-size at, place-before-end)) fits in
+      ∙ insert-bytes (front s a n at) (2 + size * at) size front-size y after (free s size n) (2 + size * n)
+      (omega (arith, rest-size at, place-before-end)) fits in
       rw (add-sub-cancel-left (2 + size * at) size, made, left, ← append-assoc y after, ← is-x) (recounted (x ∷ drop at l) (n + 1) longer)
 
   module _ (h : at < length (list-in s a)) where

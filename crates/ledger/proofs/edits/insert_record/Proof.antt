@@ -37,11 +37,6 @@ module _ (c : tie.After-open-gap) where
   room-left : from sized + sized .record-size .result ≤ length (c .open-gap .last .0)
   room-left = omega (arith, insert-room (place sized) (start sized .pre .1), c .open-gap .kept .0)
 
-count-at-requires : tie.Need-count-at-requires
-count-at-requires c κs =
-    let start = c .before .before .before in
-    has-count (card (start .args .s)) (start .args .ledger .now) (start .pre .0 .size)
-
 write-number-requires : tie.Need-write-number-requires
 write-number-requires c κs =
     let copied = c .before .before .before in
@@ -65,7 +60,7 @@ pub insert-record-spec : {M : Type 1} → statement M
 insert-record-spec =
     tie.close
     (tie.spec
-    count-at-requires
+    (λ c κs. let start = c .before .before .before in has-count (card (start .args .s)) (start .args .ledger .now) (start .pre .0 .size))
     (λ c κs. search needs)
     (λ c. omega (arith, insert-room (place c) (start c .pre .1)))
     (λ c. omega (arith, insert-room (place c) (start c .pre .1)))

@@ -1,4 +1,4 @@
--- `ledger::edits::remove_record` meets its contract: the gap closed, the end cleared, one less counted is the ledger area of the new list, the law `remove-written`.
+-- `ledger::edits::remove_record` meets its contract: closed, cleared at the end and counted, it is the ledger area of the new list, the law `remove-written`.
 use borrow.Author.Needs.{needs}
 use mathlib.Core.Path.{_∙_}
 use Prim.Native.Nat.{ℕ, _+_, _-_, _*_, _≤_}
@@ -36,11 +36,6 @@ module _ (c : tie.After-close-gap) where
   room-left : end sized ≤ length (c .close-gap .last .0)
   room-left = omega (arith, remove-room (place sized) (start sized .pre .1), c .close-gap .kept .0)
 
-count-at-requires : tie.Need-count-at-requires
-count-at-requires c κs =
-    let start = c .before .before in
-    has-count (card (start .args .s)) (start .args .ledger .now) (start .pre .0 .size)
-
 sub-write-number : tie.Need-sub-write-number
 sub-write-number c =
     let sized = sized (c .before .before .before .before .before .before .before) in
@@ -69,7 +64,7 @@ pub remove-record-spec : {M : Type 1} → statement M
 remove-record-spec =
     tie.close
     (tie.spec
-    count-at-requires
+    (λ c κs. let start = c .before .before in has-count (card (start .args .s)) (start .args .ledger .now) (start .pre .0 .size))
     (λ c κs. search needs)
     (λ c. omega (arith, remove-room (place c) (start c .pre .1)))
     (λ c. omega (arith, remove-room (place c) (start c .pre .1)))

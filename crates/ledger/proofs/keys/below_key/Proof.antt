@@ -41,11 +41,6 @@ module _ (c : tie.Else1 Inv-loop μ-loop) where
       ≡ (eqb (getD (a met) (i met) 0) (getD (b met) (i met) 0) && key-below (drop (i met + 1) (a met)) (drop (i met + 1) (b met)))
   not-below = here met ∙ rw (le-ltb _ _ (c .if1 .left))
 
-returns-3 : tie.Need-returns-3 Inv-loop μ-loop
-returns-3 c =
-    let args = c .before .before .args in
-    sym (below-end (args .a .now) (args .b .now) (c .before .loop .i) (omega arith) (omega arith)) ∙ c .before .loop .inv .1
-
 pub below-key-spec : {M : Type 1} → statement M
 below-key-spec =
     tie.close
@@ -62,4 +57,5 @@ below-key-spec =
     (λ c. omega arith)
     (λ c. omega arith)
     (λ c. (omega arith, sym (not-below (c .before .before .before) ∙ rw (eq-eqb _ _ (c .if2 .left)))))
-    returns-3)
+    (λ c. let at = c .before in
+    sym (below-end (at .before .args .a .now) (at .before .args .b .now) (at .loop .i) (omega arith) (omega arith)) ∙ at .loop .inv .1))

@@ -65,9 +65,6 @@ module _ (c : tie.After-below-key Inv-loop μ-loop) where
       ∙ ap (λ (b : Bool). b && rising (drop (i + 1) (list start)))
       (ap₂ key-below (here ∙ sym (c .before .before .key-at .ensures)) (next ∙ sym (c .before .key-at2 .ensures)) ∙ sym (c .below-key .ensures) ∙ e)
 
-returns : tie.Need-returns Inv-loop μ-loop
-returns c = let start = c .before .before in sym (rising-end (list start) 0 (omega (arith, length-records (width start) (n start) (places start))))
-
 below-key-requires : tie.Need-below-key-requires Inv-loop μ-loop
 below-key-requires c κs =
     let met = c .before .before in
@@ -87,7 +84,7 @@ keys-rise-spec =
     (tie.spec
     Inv-loop
     μ-loop
-    returns
+    (λ c. let start = c .before .before in sym (rising-end (list start) 0 (omega (arith, length-records (width start) (n start) (places start)))))
     (λ c. omega (arith, room (c .before .before) 0 (omega arith)))
     (λ c. omega arith)
     (λ c. (omega arith, refl))

@@ -32,11 +32,6 @@ module _ (c : tie.In-loop Inv-loop μ-loop) where
   here : same-key a b ≡ (eqb (getD a i 0) (getD b i 0) && same-key (drop (i + 1) a) (drop (i + 1) b))
   here = sym (c .before .loop .inv .1) ∙ same-from a b i (omega arith) (omega arith)
 
-returns-2 : tie.Need-returns-2 Inv-loop μ-loop
-returns-2 c =
-    let args = c .before .before .args in
-    sym (same-end (args .a .now) (args .b .now) (c .before .loop .i) (omega arith) (omega arith)) ∙ c .before .loop .inv .1
-
 pub same-bytes-spec : {M : Type 1} → statement M
 same-bytes-spec =
     tie.close
@@ -50,4 +45,5 @@ same-bytes-spec =
     (λ c. omega arith)
     (λ c. omega arith)
     (λ c. (omega arith, sym (here (c .before .before .before) ∙ rw (eq-eqb _ _ (c .if1 .left)))))
-    returns-2)
+    (λ c. let at = c .before in
+    sym (same-end (at .before .args .a .now) (at .before .args .b .now) (at .loop .i) (omega arith) (omega arith)) ∙ at .loop .inv .1))

@@ -77,9 +77,6 @@ module _ (c : tie.After-loop Inv-loop μ-loop) where
 low-listed : (c : tie.Else2 Inv-loop μ-loop) → low (c .before) < first (c .before) .args .n
 low-listed c = let inv = c .before .before .loop .inv in omega (arith, inv .order, inv .within, c .if2 .left, long (first (c .before)))
 
-loop-holds : tie.Need-loop-holds Inv-loop μ-loop
-loop-holds c = let start = c .before .before in halving-start (list start) (key start) (start .args .n) (long start) (start .pre .1)
-
 loop-again : tie.Need-loop-again Inv-loop μ-loop
 loop-again c =
     let met = met (c .before) in
@@ -105,7 +102,7 @@ find-spot-spec =
     Inv-loop
     μ-loop
     (λ c. omega arith)
-    loop-holds
+    (λ c. let start = c .before .before in halving-start (list start) (key start) (start .args .n) (long start) (start .pre .1))
     (λ c. omega (arith, halves c .order))
     (λ c. omega (arith, middle-listed c))
     (λ c κs. omega (arith, room (start c) (middle c) (middle-listed c)))
