@@ -1,13 +1,12 @@
 -- `ledger::spots::find_spot` meets its contract: the loop keeps `Halving`, that every record before low is below the key and none from high on is.
 use mathlib.Core.Path.{_≡_, sym, ap, _∙_}
 use mathlib.Core.List.{List}
-use Prim.Native.Nat.{ℕ, _≤_, _<_, _-_, _+_, _*_, _/_}
+use Prim.Native.Nat.{ℕ, _-_, _+_, _/_}
 use native.Mathlib.Omega.{arith}
 use lib.ListN.{length, getD}
 use Rattle.theory.specs.Records.{Record, records, same-key, key-below}
 use Rattle.theory.proofs.ByteLaws.{length-records}
-use Rattle.memory.proofs.SliceLaws.{length-part}
-use Rattle.ledger.proofs.RisingLaws.{place-room, no-record, key-in, key-here}
+use Rattle.ledger.proofs.RisingLaws.{no-record, Row, row-room, row-wide, row-key}
 use Rattle.ledger.proofs.SpotLaws.{Halving, halving-start, halving-up, halving-down, found-end, found-here}
 use Rattle.ledger.proofs.spots.find_spot.Statement.{statement}
 use Rattle.ledger.proofs.spots.find_spot.Tie as tie
@@ -32,16 +31,6 @@ module _ (c : tie.Start Inv-loop μ-loop) where
   long : length list ≡ c .args .n
   long = length-records (length key) (c .args .n) places
 
-  -- record i: its place, its width, and its key
-  room : (i : ℕ) → i < c .args .n → i * (length key + 4) + (length key + 4) ≤ length places
-  room i h = place-room i (c .args .n) (length key + 4) (length places) h (c .pre .0)
-
-  wide : (i : ℕ) → i < c .args .n → length (key-in (length key) places i) ≡ length key
-  wide i h = length-part (i * (length key + 4)) (length key) places (omega (arith, room i h))
-
-  listed-key : (i : ℕ) → i < c .args .n → key-in (length key) places i ≡ getD list i no-record .key
-  listed-key i h = sym (key-here (length key) (c .args .n) i places h)
-
 -- ---- the record in the middle
 module _ (c : tie.In-loop Inv-loop μ-loop) where
   abbrev start : tie.Start Inv-loop μ-loop
@@ -53,8 +42,8 @@ module _ (c : tie.In-loop Inv-loop μ-loop) where
   abbrev middle : ℕ
   middle = c .before .loop .low + (c .before .loop .high - c .before .loop .low) / 2
 
-  middle-listed : middle < start .args .n
-  middle-listed = omega (arith, halves .order, halves .within, long start)
+  middle-row : Row (length (key start)) (start .args .n) (places start) middle
+  middle-row = record { all = start .pre .0; listed = omega (arith, halves .order, halves .within, long start) }
 
 -- ---- its key is compared
 module _ (c : tie.After-below-key Inv-loop μ-loop) where
@@ -62,20 +51,17 @@ module _ (c : tie.After-below-key Inv-loop μ-loop) where
   met = c .before .before
 
   compared : c .below-key .result ≡ key-below (getD (list (start met)) (middle met) no-record .key) (key (start met))
-  compared =
-      let listed = listed-key (start met) (middle met) (middle-listed met) in
-      c .below-key .ensures ∙ ap (λ (k : List ℕ). key-below k (key (start met))) (c .before .key-at .ensures ∙ listed)
+  compared = c .below-key .ensures ∙ ap (λ (k : List ℕ). key-below k (key (start met))) (c .before .key-at .ensures ∙ row-key (middle-row met))
 
--- ---- low and high have met
-module _ (c : tie.After-loop Inv-loop μ-loop) where
+-- ---- low and high have met, at a record
+module _ (c : tie.Else2 Inv-loop μ-loop) where
   abbrev first : tie.Start Inv-loop μ-loop
-  first = c .before .before .before .before
+  first = c .before .before .before .before .before
 
-  abbrev low : ℕ
-  low = c .before .loop .low
-
-low-listed : (c : tie.Else2 Inv-loop μ-loop) → low (c .before) < first (c .before) .args .n
-low-listed c = let inv = c .before .before .loop .inv in omega (arith, inv .order, inv .within, c .if2 .left, long (first (c .before)))
+  low-row : Row (length (key first)) (first .args .n) (places first) (c .before .before .loop .low)
+  low-row =
+      let inv = c .before .before .loop .inv in
+      record { all = first .pre .0; listed = omega (arith, inv .order, inv .within, c .if2 .left, long first) }
 
 loop-again : tie.Need-loop-again Inv-loop μ-loop
 loop-again c =
@@ -90,10 +76,9 @@ loop-again-2 c =
 
 returns-2 : tie.Need-returns-2 Inv-loop μ-loop
 returns-2 c =
-    let end = c .before .before .before in
-    let listed = low-listed (c .before .before) in
-    found-here (end .before .loop .inv) (end .loop-test .left) (omega (arith, listed, long (first end))) (c .same-key .result)
-    (c .same-key .ensures ∙ ap (same-key (key (first end))) (c .before .key-at2 .ensures ∙ listed-key (first end) (low end) listed))
+    let end = c .before .before in
+    found-here (end .before .before .loop .inv) (end .before .loop-test .left) (omega (arith, low-row end .listed, long (first end))) (c .same-key .result)
+    (c .same-key .ensures ∙ ap (same-key (key (first end))) (c .before .key-at2 .ensures ∙ row-key (low-row end)))
 
 pub find-spot-spec : {M : Type 1} → statement M
 find-spot-spec =
@@ -104,15 +89,16 @@ find-spot-spec =
     (λ c. omega arith)
     (λ c. let start = c .before .before in halving-start (list start) (key start) (start .args .n) (long start) (start .pre .1))
     (λ c. omega (arith, halves c .order))
-    (λ c. omega (arith, middle-listed c))
-    (λ c κs. omega (arith, room (start c) (middle c) (middle-listed c)))
-    (λ c κs. ap length (c .key-at .ensures) ∙ wide (start (c .before)) (middle (c .before)) (middle-listed (c .before)))
-    (λ c. omega (arith, middle-listed (met (c .before))))
+    (λ c. omega (arith, middle-row c .listed))
+    (λ c κs. omega (arith, row-room (middle-row c)))
+    (λ c κs. ap length (c .key-at .ensures) ∙ row-wide (middle-row (c .before)))
+    (λ c. omega (arith, middle-row (met (c .before)) .listed))
     (λ c. omega (arith, halves (met (c .before)) .order))
     loop-again
     (λ c. omega (arith, halves (met (c .before)) .order))
     loop-again-2
-    (λ c. found-end (c .before .before .loop .inv) (c .before .loop-test .left) (omega (arith, c .if2 .taken, long (first (c .before)))))
-    (λ c κs. omega (arith, room (first (c .before)) (low (c .before)) (low-listed c)))
-    (λ c κs. sym (ap length (c .key-at2 .ensures) ∙ wide (first (c .before .before)) (low (c .before .before)) (low-listed (c .before))))
+    (λ c. let at = c .before .before in
+    found-end (at .loop .inv) (c .before .loop-test .left) (omega (arith, c .if2 .taken, long (at .before .before .before))))
+    (λ c κs. omega (arith, row-room (low-row c)))
+    (λ c κs. sym (ap length (c .key-at2 .ensures) ∙ row-wide (low-row (c .before))))
     returns-2)
