@@ -21,19 +21,8 @@ module _ (c : tie.After-copy) where
 
 pub write-decimal-spec : {M : Type 1} → statement M
 write-decimal-spec =
-<<<<<<< HEAD
     tie.close (tie.spec (λ c κs. search needs) (λ c. omega (arith, start c .pre, few-digits (known c))) (λ c. sym (digits-front (known (c .before))))
     (λ c. search needs) (λ c. search needs) (λ c κs. digits-front (known (c .before .before)) ∙ c .before .before .decimal .ensures .0 .1)
-=======
-    tie.close
-    (tie.spec
-    (λ c κs. search needs)
-    (λ c. omega (arith, start c .pre, few-digits (known c)))
-    (λ c. sym (digits-front (known (c .before))))
-    (λ c. search needs)
-    (λ c. search needs)
-    (λ c κs. digits-front (known (c .before .before)) ∙ c .before .before .decimal .ensures .0 .1)
->>>>>>> help-d
     (λ c. let copied = c .before .before in decimal-inside (known (spelled copied)) _ (copied .copy .ensures))
     (λ c. omega (arith, few-digits (known (spelled (c .before .before))))) (λ c. search needs)
     (λ c. let copied = c .before .before in

@@ -8,13 +8,5 @@ use Rattle.text.proofs.write_letter.Tie as tie
 
 pub write-letter-spec : {M : Type 1} → statement M
 write-letter-spec =
-<<<<<<< HEAD
     tie.close (tie.spec (λ c. search needs) (λ c. search needs) (λ c. search needs)
-=======
-    tie.close
-    (tie.spec
-    (λ c. search needs)
-    (λ c. search needs)
-    (λ c. search needs)
->>>>>>> help-d
     (λ c. ((refl, two-bytes (c .args .to .now) (c .args .letter) (c .args .after) (c .pre)), omega arith)))

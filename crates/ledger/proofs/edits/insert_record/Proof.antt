@@ -58,30 +58,9 @@ returns c = λ x q.
 
 pub insert-record-spec : {M : Type 1} → statement M
 insert-record-spec =
-<<<<<<< HEAD
     tie.close (tie.spec (λ c κs. let start = c .before .before .before in has-count (card (start .args .s)) (start .args .ledger .now) (start .pre .0 .size))
     (λ c κs. search needs) (λ c. omega (arith, insert-room (place c) (start c .pre .1))) (λ c. omega (arith, insert-room (place c) (start c .pre .1)))
     (λ c. omega (arith, insert-room (place c) (start c .pre .1))) (λ c. omega (arith, insert-room (place c) (start c .pre .1)))
     (λ c. omega (arith, insert-room (place c) (start c .pre .1)))
     (λ c κs. let room = insert-room (place (c .before)) (start (c .before) .pre .1) in (omega arith, room .1)) (λ c. search needs) (λ c. search needs)
     (λ c. omega (arith, room-left (c .before .before))) (λ c κs. search needs) (λ c. search needs) write-number-requires (λ c. search needs) returns)
-=======
-    tie.close
-    (tie.spec
-    (λ c κs. let start = c .before .before .before in has-count (card (start .args .s)) (start .args .ledger .now) (start .pre .0 .size))
-    (λ c κs. search needs)
-    (λ c. omega (arith, insert-room (place c) (start c .pre .1)))
-    (λ c. omega (arith, insert-room (place c) (start c .pre .1)))
-    (λ c. omega (arith, insert-room (place c) (start c .pre .1)))
-    (λ c. omega (arith, insert-room (place c) (start c .pre .1)))
-    (λ c. omega (arith, insert-room (place c) (start c .pre .1)))
-    (λ c κs. let room = insert-room (place (c .before)) (start (c .before) .pre .1) in (omega arith, room .1))
-    (λ c. search needs)
-    (λ c. search needs)
-    (λ c. omega (arith, room-left (c .before .before)))
-    (λ c κs. search needs)
-    (λ c. search needs)
-    write-number-requires
-    (λ c. search needs)
-    returns)
->>>>>>> help-d

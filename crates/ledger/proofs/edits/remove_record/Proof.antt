@@ -62,30 +62,9 @@ returns c =
 
 pub remove-record-spec : {M : Type 1} → statement M
 remove-record-spec =
-<<<<<<< HEAD
     tie.close (tie.spec (λ c κs. let start = c .before .before in has-count (card (start .args .s)) (start .args .ledger .now) (start .pre .0 .size))
     (λ c κs. search needs) (λ c. omega (arith, remove-room (place c) (start c .pre .1))) (λ c. omega (arith, remove-room (place c) (start c .pre .1)))
     (λ c. omega (arith, remove-room (place c) (start c .pre .1))) (λ c. omega (arith, remove-room (place c) (start c .pre .1)))
     (λ c. omega (arith, remove-room (place c) (start c .pre .1)))
     (λ c κs. let room = remove-room (place (c .before)) (start (c .before) .pre .1) in (omega arith, room .1)) (λ c. search needs) (λ c. search needs)
     (λ c. omega (arith, room-left (c .before .before))) (λ c κs. search needs) sub-write-number write-number-requires (λ c. search needs) returns)
-=======
-    tie.close
-    (tie.spec
-    (λ c κs. let start = c .before .before in has-count (card (start .args .s)) (start .args .ledger .now) (start .pre .0 .size))
-    (λ c κs. search needs)
-    (λ c. omega (arith, remove-room (place c) (start c .pre .1)))
-    (λ c. omega (arith, remove-room (place c) (start c .pre .1)))
-    (λ c. omega (arith, remove-room (place c) (start c .pre .1)))
-    (λ c. omega (arith, remove-room (place c) (start c .pre .1)))
-    (λ c. omega (arith, remove-room (place c) (start c .pre .1)))
-    (λ c κs. let room = remove-room (place (c .before)) (start (c .before) .pre .1) in (omega arith, room .1))
-    (λ c. search needs)
-    (λ c. search needs)
-    (λ c. omega (arith, room-left (c .before .before)))
-    (λ c κs. search needs)
-    sub-write-number
-    write-number-requires
-    (λ c. search needs)
-    returns)
->>>>>>> help-d

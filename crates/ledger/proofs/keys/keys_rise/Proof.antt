@@ -66,27 +66,8 @@ returns-3 c =
 
 pub keys-rise-spec : {M : Type 1} → statement M
 keys-rise-spec =
-<<<<<<< HEAD
     tie.close (tie.spec Inv-loop μ-loop (λ c. let start = c .before .before in sym (rising-end (list start) 0 (omega (arith, long start))))
     (λ c. omega (arith, row-room (row (c .before .before) 0 (omega arith)))) (λ c. omega arith) (λ c. (omega arith, refl)) (λ c. omega arith)
     (λ c κs. omega (arith, row-room (this c))) (λ c κs. omega (arith, row-room (next (c .before)))) below-key-requires
     (λ c. sym (compared (c .before) false (not-true _ (c .if2 .taken)))) (λ c. omega arith)
     (λ c. (omega arith, sym (compared (c .before) true (not-false _ (c .if2 .left))))) returns-3)
-=======
-    tie.close
-    (tie.spec
-    Inv-loop
-    μ-loop
-    (λ c. let start = c .before .before in sym (rising-end (list start) 0 (omega (arith, long start))))
-    (λ c. omega (arith, row-room (row (c .before .before) 0 (omega arith))))
-    (λ c. omega arith)
-    (λ c. (omega arith, refl))
-    (λ c. omega arith)
-    (λ c κs. omega (arith, row-room (this c)))
-    (λ c κs. omega (arith, row-room (next (c .before))))
-    below-key-requires
-    (λ c. sym (compared (c .before) false (not-true _ (c .if2 .taken))))
-    (λ c. omega arith)
-    (λ c. (omega arith, sym (compared (c .before) true (not-false _ (c .if2 .left)))))
-    returns-3)
->>>>>>> help-d

@@ -82,7 +82,6 @@ returns-2 c =
 
 pub find-spot-spec : {M : Type 1} → statement M
 find-spot-spec =
-<<<<<<< HEAD
     tie.close (tie.spec Inv-loop μ-loop (λ c. omega arith)
     (λ c. let start = c .before .before in halving-start (list start) (key start) (start .args .n) (long start) (start .pre .1))
     (λ c. omega (arith, halves c .order)) (λ c. omega (arith, middle-row c .listed)) (λ c κs. omega (arith, row-room (middle-row c)))
@@ -91,25 +90,3 @@ find-spot-spec =
     (λ c. let at = c .before .before in
     found-end (at .loop .inv) (c .before .loop-test .left) (omega (arith, c .if2 .taken, long (at .before .before .before))))
     (λ c κs. omega (arith, row-room (low-row c))) (λ c κs. sym (ap length (c .key-at2 .ensures) ∙ row-wide (low-row (c .before)))) returns-2)
-=======
-    tie.close
-    (tie.spec
-    Inv-loop
-    μ-loop
-    (λ c. omega arith)
-    (λ c. let start = c .before .before in halving-start (list start) (key start) (start .args .n) (long start) (start .pre .1))
-    (λ c. omega (arith, halves c .order))
-    (λ c. omega (arith, middle-row c .listed))
-    (λ c κs. omega (arith, row-room (middle-row c)))
-    (λ c κs. ap length (c .key-at .ensures) ∙ row-wide (middle-row (c .before)))
-    (λ c. omega (arith, middle-row (met (c .before)) .listed))
-    (λ c. omega (arith, halves (met (c .before)) .order))
-    loop-again
-    (λ c. omega (arith, halves (met (c .before)) .order))
-    loop-again-2
-    (λ c. let at = c .before .before in
-    found-end (at .loop .inv) (c .before .loop-test .left) (omega (arith, c .if2 .taken, long (at .before .before .before))))
-    (λ c κs. omega (arith, row-room (low-row c)))
-    (λ c κs. sym (ap length (c .key-at2 .ensures) ∙ row-wide (low-row (c .before))))
-    returns-2)
->>>>>>> help-d

@@ -40,18 +40,9 @@ returns-3 c =
 
 pub fetch-spec : {M : Type 1} → statement M
 fetch-spec =
-    tie.close
-    (tie.spec
-    (λ c κs. search needs)
-    (λ c. search needs)
-    (λ c. fetched-none (c .before .before .locate .ensures) (c .before .if1 .taken) refl)
+    tie.close (tie.spec (λ c κs. search needs) (λ c. search needs) (λ c. fetched-none (c .before .before .locate .ensures) (c .before .if1 .taken) refl)
     (λ c. search needs)
     (λ c. by-test (eqb (found c .area) 1) (λ e. omega (arith, record-inside (at c true e))) (λ e. omega (arith, record-inside (at c false e))))
-    (λ c. search needs)
-    (λ c. search needs)
-    (λ c. omega (arith, record-inside (at (c .before) true (eq-eqb (found (c .before) .area) 1 (c .if2 .taken)))))
-    returns-2
-    (λ c. search needs)
-    (λ c. search needs)
-    (λ c. omega (arith, record-inside (at (c .before) false (ne-eqb (found (c .before) .area) 1 (c .if2 .left)))))
-    returns-3)
+    (λ c. search needs) (λ c. search needs) (λ c. omega (arith, record-inside (at (c .before) true (eq-eqb (found (c .before) .area) 1 (c .if2 .taken)))))
+    returns-2 (λ c. search needs) (λ c. search needs)
+    (λ c. omega (arith, record-inside (at (c .before) false (ne-eqb (found (c .before) .area) 1 (c .if2 .left))))) returns-3)

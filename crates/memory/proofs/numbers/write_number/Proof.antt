@@ -6,15 +6,5 @@ use Rattle.memory.proofs.numbers.write_number.Tie as tie
 
 pub write-number-spec : {M : Type 1} → statement M
 write-number-spec =
-<<<<<<< HEAD
     tie.close (tie.spec (λ c. search needs) (λ c. search needs) (λ c. search needs) (λ c. search needs) (λ c. search needs)
-=======
-    tie.close
-    (tie.spec
-    (λ c. search needs)
-    (λ c. search needs)
-    (λ c. search needs)
-    (λ c. search needs)
-    (λ c. search needs)
->>>>>>> help-d
     (λ c. two-written (c .args .area .now) (c .args .n) (c .pre .0) (c .pre .1)))

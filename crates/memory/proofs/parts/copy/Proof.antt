@@ -16,20 +16,6 @@ abbrev μ-loop : tie.MeasureT-loop
 
 pub copy-spec : {M : Type 1} → statement M
 copy-spec =
-<<<<<<< HEAD
     tie.close (tie.spec Inv-loop μ-loop (λ c. record { inside = omega arith; long = c .pre; front = refl }) (λ c. search needs) (λ c. search needs)
     (λ c. search needs) (λ c. search needs) (λ c. copied-more (c .before .before .loop .inv) _ refl (omega arith)) (λ c. omega arith)
-=======
-    tie.close
-    (tie.spec
-    Inv-loop
-    μ-loop
-    (λ c. record { inside = omega arith; long = c .pre; front = refl })
-    (λ c. search needs)
-    (λ c. search needs)
-    (λ c. search needs)
-    (λ c. search needs)
-    (λ c. copied-more (c .before .before .loop .inv) _ refl (omega arith))
-    (λ c. omega arith)
->>>>>>> help-d
     (λ c. copied-all (c .before .loop .inv) (omega arith)))

@@ -16,23 +16,7 @@ abbrev μ-loop : tie.MeasureT-loop
 
 pub copy-counts-spec : {M : Type 1} → statement M
 copy-counts-spec =
-<<<<<<< HEAD
     tie.close (tie.spec Inv-loop μ-loop (λ c. record { inside = omega arith; long = c .pre; front = refl }) (λ c. search needs) (λ c. search needs)
     (λ c. let h : c .before .before .loop .i < length (c .before .before .loop .to) = omega arith in search needs) (λ c. search needs) (λ c. search needs)
     (λ c. search needs) (λ c. copied-more (c .before .before .loop .inv) _ refl (omega arith)) (λ c. search needs)
-=======
-    tie.close
-    (tie.spec
-    Inv-loop
-    μ-loop
-    (λ c. record { inside = omega arith; long = c .pre; front = refl })
-    (λ c. search needs)
-    (λ c. search needs)
-    (λ c. let h : c .before .before .loop .i < length (c .before .before .loop .to) = omega arith in search needs)
-    (λ c. search needs)
-    (λ c. search needs)
-    (λ c. search needs)
-    (λ c. copied-more (c .before .before .loop .inv) _ refl (omega arith))
-    (λ c. search needs)
->>>>>>> help-d
     (λ c. copied-all (c .before .loop .inv) (omega arith)))

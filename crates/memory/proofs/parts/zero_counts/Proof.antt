@@ -20,23 +20,8 @@ long c = length-replicate (length (c .before .args .counts .now)) 0
 
 pub zero-counts-spec : {M : Type 1} → statement M
 zero-counts-spec =
-<<<<<<< HEAD
     tie.close (tie.spec Inv-loop μ-loop (λ c. record { inside = omega arith; long = sym (length-replicate (length (c .args .counts .now)) 0); front = refl })
     (λ c. omega (arith, long (c .before))) (λ c. omega (arith, long (c .before))) (λ c. omega (arith, long (c .before)))
     (λ c. omega (arith, long (c .before)))
     (λ c. let at = c .before in copied-more (at .loop .inv) 0 (sym (zero-at (length (at .before .args .counts .now)) (at .loop .i))) (omega (arith, long at)))
     (λ c. omega (arith, long (c .before))) (λ c. copied-all (c .before .loop .inv) (omega (arith, long (c .before)))))
-=======
-    tie.close
-    (tie.spec
-    Inv-loop
-    μ-loop
-    (λ c. record { inside = omega arith; long = sym (length-replicate (length (c .args .counts .now)) 0); front = refl })
-    (λ c. omega (arith, long (c .before)))
-    (λ c. omega (arith, long (c .before)))
-    (λ c. omega (arith, long (c .before)))
-    (λ c. omega (arith, long (c .before)))
-    (λ c. let at = c .before in copied-more (at .loop .inv) 0 (sym (zero-at (length (at .before .args .counts .now)) (at .loop .i))) (omega (arith, long at)))
-    (λ c. omega (arith, long (c .before)))
-    (λ c. copied-all (c .before .loop .inv) (omega (arith, long (c .before)))))
->>>>>>> help-d

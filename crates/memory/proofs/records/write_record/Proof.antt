@@ -21,19 +21,5 @@ returns c =
 
 pub write-record-spec : {M : Type 1} → statement M
 write-record-spec =
-<<<<<<< HEAD
     tie.close (tie.spec (λ c. search needs) (λ c. sym (front (c .before .before .before))) (λ c κs. front (c .before .before .before)) (λ c. search needs)
     (λ c. search needs) (λ c. search needs) (λ c κs. search needs) (λ c. search needs) returns)
-=======
-    tie.close
-    (tie.spec
-    (λ c. search needs)
-    (λ c. sym (front (c .before .before .before)))
-    (λ c κs. front (c .before .before .before))
-    (λ c. search needs)
-    (λ c. search needs)
-    (λ c. search needs)
-    (λ c κs. search needs)
-    (λ c. search needs)
-    returns)
->>>>>>> help-d
