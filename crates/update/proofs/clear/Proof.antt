@@ -36,7 +36,6 @@ module _ (c : tie.After-known-told) where
   allowed-as : Permitted (t new) s
   allowed-as = permitted (t new) (new .new .ensures) (c .before .checked .given .1)
 
--- ---- the needs
 clear-areas-requires : tie.Need-clear-areas-requires
 clear-areas-requires c κs =
     let right = c .before .before .before .before .before in

@@ -51,7 +51,6 @@ module _ (c : tie.After-lengths-right) where
   tested : Tested (t e) (s known) (words e) (c .before .work-length .result) (areas e) (c .lengths-right .result)
   tested = record { settings = allowed-as known; words = c .before .work-length .ensures; areas = c .lengths-right .ensures }
 
--- ---- the needs
 returns : tie.Need-returns
 returns c =
     let new = c .before .before in

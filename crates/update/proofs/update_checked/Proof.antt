@@ -75,7 +75,6 @@ module _ (c : tie.Else2) where
 abbrev good : tie.After-kept3 → tie.Else2
 good c = c .before .before .before .before .before .before .before
 
--- ---- the needs
 judge-requires : tie.Need-judge-requires
 judge-requires c κs =
     let opened = c .before .before .before .before in

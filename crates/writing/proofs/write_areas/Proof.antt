@@ -41,7 +41,6 @@ at-counts c = c .before .before .before .before .before .before .before .before 
 abbrev at-clipped : tie.After-write-clipped-arg2 → tie.Start
 at-clipped c = at-counts (c .before .before .before .before .before)
 
--- ---- the needs
 copy-counts-requires : tie.Need-copy-counts-requires
 copy-counts-requires c κs =
     let e = at-counts c in

@@ -61,7 +61,6 @@ module _ (c : tie.After-lengths-right) where
   tested : Tested (file-settings (file e)) (s known) (words e) (c .before .work-length .result) (areas e) (c .lengths-right .result)
   tested = record { settings = allowed-as known; words = c .before .work-length .ensures; areas = c .lengths-right .ensures }
 
--- ---- the needs
 returns-2 : tie.Need-returns-2
 returns-2 c =
     let read = c .before .before .before in

@@ -82,7 +82,6 @@ module _ (c : tie.Else2) where
   enough : placed .place-area .result ≤ card-of (t (e placed)) .side-places
   enough = omega (arith, c .if2 .left, side-places-are (t (e placed)))
 
--- ---- the needs
 returns : tie.Need-returns
 returns c =
     let refused = c .before .before in

@@ -33,7 +33,6 @@ module _ (c : tie.After-copy) where
   rest : 2 + sized counted .record-size .result * start (sized counted) .args .count ≤ length back-again
   rest = zeros-start (start (sized counted) .pre) (sized counted .record-size .ensures) (counted .write-number .ensures) (c .copy .ensures)
 
--- ---- the needs
 write-number-requires : tie.Need-write-number-requires
 write-number-requires c κs =
     let e = start (c .before) in

@@ -52,7 +52,6 @@ module _ (c : tie.After-keys-rise) where
   judged : (b : Bool) → c .keys-rise .result ≡ b → cond (not b) 13 0 ≡ by-file (t (here right)) (file (here right))
   judged b e = file-13-0 (full right) (c .before .width .ensures) (sym e ∙ c .keys-rise .ensures)
 
--- ---- the needs
 returns-2 : tie.Need-returns-2
 returns-2 c =
     let here = counted (c .before) in

@@ -19,7 +19,6 @@ module _ (c : tie.Else1) where
   right : head-wrong file ≡ false
   right = sym (c .before .head-wrong .ensures) ∙ c .if1 .left
 
--- ---- the needs
 returns : tie.Need-returns
 unfolding by-head
 returns c = rw (sym (c .before .head-wrong .ensures) ∙ c .if1 .taken)

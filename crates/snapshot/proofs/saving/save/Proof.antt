@@ -35,7 +35,6 @@ module _ (c : tie.After-known-told) where
   allowed-as : Permitted (t new) s
   allowed-as = permitted (t new) (new .new .ensures) (c .before .checked .given .1)
 
--- ---- the needs
 returns-2 : tie.Need-returns-2
 returns-2 c =
     let sized = c .before in

@@ -76,7 +76,6 @@ module _ (c : tie.After-record-size) where
   end : 2 + c .record-size .result * n (counted placed) ≤ length (area e)
   end = end-within (known (counted placed)) (c .record-size .ensures)
 
--- ---- the needs
 place-area-requires : tie.Need-place-area-requires
 place-area-requires c κs =
     let buckets = c .before .before .before in

@@ -27,7 +27,6 @@ module _ (c : tie.After-record-size) where
   end : 2 + c .record-size .result * start .args .count ≤ length (start .args .ledger .now)
   end = end-within (start .pre .0) (c .record-size .ensures)
 
--- ---- the needs
 write-head-requires : tie.Need-write-head-requires
 write-head-requires c κs =
     let start = c .before .before .before in

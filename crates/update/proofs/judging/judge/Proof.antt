@@ -107,7 +107,6 @@ module _ (c : tie.After-place-new) where
 abbrev placing : tie.After-struct-known → tie.After-place-new
 placing c = c .before .before .before .before .before
 
--- ---- the needs
 returns : tie.Need-returns
 returns c =
     let valid = c .before .before .valid in

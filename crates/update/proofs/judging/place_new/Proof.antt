@@ -77,7 +77,6 @@ module _ (c : tie.After-place-parts) where
 abbrev placing : tie.After-side-need-arg → tie.After-place-parts
 placing c = c .before .before .before .before .before
 
--- ---- the needs
 place-parts-requires : tie.Need-place-parts-requires
 place-parts-requires c κs =
     let sized = c .before .before .before .before in

@@ -71,7 +71,6 @@ module _ (c : tie.After-edit-ledger) where
 abbrev listed : tie.After-write-areas-arg5 → tie.After-edit-ledger
 listed c = c .before .before .before .before .before .before .before
 
--- ---- the needs
 edit-ledger-requires : tie.Need-edit-ledger-requires
 edit-ledger-requires c κs =
     let pre = start c .pre in

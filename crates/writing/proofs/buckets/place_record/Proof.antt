@@ -107,7 +107,6 @@ unfolding bucket-size
 room-for s size part-size mark record-length part-length e f g h low =
     rw (g, h, e, f) (omega (arith, row-fits mark (s .room) (record-size s) low, mul-comm (record-size s) mark, mul-comm (record-size s) (s .room)))
 
--- ---- the needs
 returns : tie.Need-returns
 returns c =
     let e = start (c .before) in

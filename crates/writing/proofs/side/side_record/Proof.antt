@@ -87,7 +87,6 @@ module _ (c : tie.After-record-size) where
 next-free : (z size free j k : ℕ) → size ≡ z → free ≡ z * j → k ≡ j + 1 → free + size ≡ z * k
 next-free z size free j k e f g = rw (e, f, g, mul-add, mul-one)
 
--- ---- the needs
 aside-requires : tie.Need-aside-requires
 aside-requires c κs =
     let start = entry (c .before) in

@@ -47,7 +47,6 @@ module _ (c : tie.After-zero-fill) where
   few : 2 ≤ length blank
   few = omega (arith, c .zero-fill .kept .0, has-two start)
 
--- ---- the needs
 returns : tie.Need-returns
 returns c =
     let zeroed = c .before .before .before in
