@@ -4,10 +4,9 @@ use mathlib.Core.Bool.{true, _&&_}
 use mathlib.Core.List.{List, [], _∷_}
 use Prim.Native.Nat.{ℕ, zero, suc, _+_, _-_, _*_, _≤_, _<_}
 use native.Mathlib.Nat.{le-of-suc-le-suc, suc-mul, zero-mul, add-comm, mul-le-mul-right}
-use native.Mathlib.Numerals.{add-one}
 use native.Mathlib.Omega.{arith}
 use lib.ListN.{length, take, drop, getD}
-use lib.Seq.{drop-cons, drop-drop, drop-nil}
+use lib.Seq.{drop-drop}
 use Rattle.memory.proofs.SliceLaws.{length-part}
 use Rattle.theory.specs.Records.{Record, entries, record-at, records, key-below, rising}
 
@@ -51,13 +50,26 @@ module _ {w n : ℕ} {a : List ℕ} {i : ℕ} (r : Row w n a i) where
   pub row-key : key-in w a i ≡ getD (records w n a) i no-record .key
   row-key = sym (key-here w n i a (r .listed))
 
--- ---- keys that rise from record i on
-pub rising-from : (l : List Record) (i : ℕ) → i + 1 < length l
-    → rising (drop i l) ≡ (key-below (getD l i no-record .key) (getD l (i + 1) no-record .key) && rising (drop (i + 1) l))
-rising-from l i h = rw (add-one, drop-cons l i no-record (omega arith), drop-cons l (suc i) no-record (omega arith))
+-- ---- keys that rise, two records at a time, and room for both
+pub room-two : (at left z n : ℕ) → at + left * z ≤ n → 1 < left → at + z + z ≤ n
+room-two at left z n h p = room-next (at + z) (left - 1) z n (room-next at left z n h (omega arith) .1) (omega arith) .0
 
-pub rising-end : (l : List Record) (i : ℕ) → length l ≤ i + 1 → rising (drop i l) ≡ true
-rising-end [] i h = rw drop-nil
-rising-end (x ∷ []) zero h = refl
-rising-end (x ∷ y ∷ ys) zero h = absurd (omega arith)
-rising-end (x ∷ xs) (suc i) h = rising-end xs i (omega arith)
+module _ (w : ℕ) where
+  key-is : (a : List ℕ) → record-at w a .key ≡ take w a
+  unfolding record-at
+  key-is a = refl
+
+  pub rising-next : (n at : ℕ) (a : List ℕ) → 1 < n → rising (records w n (drop at a))
+      ≡ (key-below (take w (drop at a)) (take w (drop (at + (w + 4)) a)) && rising (records w (n - 1) (drop (at + (w + 4)) a)))
+  rising-next n at a h =
+      let e = records-next w n (drop at a) (omega arith) in
+      let f = records-next w (n - 1) (drop (at + (w + 4)) a) (omega arith) in
+      rw (e, drop-drop (w + 4) at a, f, key-is (drop at a), key-is (drop (at + (w + 4)) a))
+
+  pub rising-one : (at : ℕ) (a : List ℕ) → rising (records w 1 (drop at a)) ≡ true
+  unfolding records entries
+  rising-one at a = refl
+
+  pub rising-none : (a : List ℕ) → rising (records w 0 a) ≡ true
+  unfolding records entries
+  rising-none a = refl

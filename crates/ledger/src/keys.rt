@@ -1,6 +1,5 @@
 // "Keys are ordered byte by byte from the first, unsigned."
 use memory::numbers::low_word_at;
-use memory::records::key_at;
 use settings::Settings;
 ghost use mathlib.Core.Path.{_≡_};
 ghost use Prim.Native.Nat.{_+_, _*_, _≤_};
@@ -81,17 +80,17 @@ pub fn keys_rise(places: &[u8], n: usize, width: usize) -> bool
         return true;
     }
     let size = width + Settings::CLASS_WIDTH;
-    let last = n - 1;
-    let mut i: usize = 0;
-    while i < last {
-        let next = i + 1;
-        if !below_key(
-            key_at(places, i, size, width),
-            key_at(places, next, size, width),
-        ) {
+    let mut left = n;
+    let mut at: usize = 0;
+    while 1 < left {
+        let next = at + size;
+        let end = at + width;
+        let stop = next + width;
+        if !below_key(&places[at..end], &places[next..stop]) {
             return false;
         }
-        i = next;
+        left -= 1;
+        at = next;
     }
     true
 }
