@@ -37,15 +37,13 @@ lowest-even : (r : ℕ) (f : ℕ → ℕ) (a : ℕ) → f a ≡ lowest r f (a * 
 unfolding if-set
 lowest-even r f a =
     let bit : a * 2 % 2 ≡ 0 = omega arith in
-    let half : a * 2 / 2 ≡ a = omega arith in
-    rw (bit, half)
+    let half : a * 2 / 2 ≡ a = omega arith in rw (bit, half)
 
 lowest-odd : (r : ℕ) (f : ℕ → ℕ) (a : ℕ) → bitXor r (f a) ≡ lowest r f (suc (a * 2))
 unfolding if-set
 lowest-odd r f a =
     let bit : suc (a * 2) % 2 ≡ 1 = omega arith in
-    let half : suc (a * 2) / 2 ≡ a = omega arith in
-    rw (bit, half)
+    let half : suc (a * 2) / 2 ≡ a = omega arith in rw (bit, half)
 
 doubled-is : (r : ℕ) (f : ℕ → ℕ) (a n : ℕ) → doubled r (map f (upto a n)) ≡ map (lowest r f) (upto (a * 2) (n * 2))
 unfolding doubled

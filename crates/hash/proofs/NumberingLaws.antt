@@ -50,5 +50,4 @@ drop-past (y ∷ ys) (suc n) x = drop-past ys n x
 
 pub rest-more : (z n x : ℕ) (at : List ℕ) → n < z → drop n at ≡ replicate (z - n) 0 → drop (n + 1) (set at n x) ≡ replicate (z - (n + 1)) 0
 rest-more z n x at h e =
-    let one : z - n ≡ suc (z - suc n) = omega arith in
-    rw (add-one n, drop-past at n x, e, one)
+    let one : z - n ≡ suc (z - suc n) = omega arith in rw (add-one n, drop-past at n x, e, one)

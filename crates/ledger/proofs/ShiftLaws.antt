@@ -34,16 +34,9 @@ module _ (a : List ℕ) (size : ℕ) where
       let tail : List ℕ = take (to - (i + 1)) (drop (i + 1) a) ++ drop (to + size) a in
       let inside : i < length (take (i + 1 + size) a) = rw (length-take-le (i + 1 + size) a (omega arith)) (omega arith) in
       let read : getD cur i 0 ≡ getD a i 0 = rw e (List·getD-append (take (i + 1 + size) a) tail 0 i inside ∙ getD-take (i + 1 + size) a i 0 (omega arith)) in
-      rw (
-        read,
-        e,
-        grown,
-        append-assoc (take (i + size) a) (getD a (i + size) 0 ∷ []) tail,
-        set-at (take (i + size) a) (getD a (i + size) 0) tail (getD a i 0) (i + size) (length-take-le (i + size) a (omega arith)),
-        left,
-        drop-cons a i 0 (omega arith),
-        add-one,
-      )
+      rw (read, e, grown, append-assoc (take (i + size) a) (getD a (i + size) 0 ∷ []) tail)
+      (rw (set-at (take (i + size) a) (getD a (i + size) 0) tail (getD a i 0) (i + size) (length-take-le (i + size) a (omega arith)), left)
+      (rw (drop-cons a i 0 (omega arith), add-one)))
 
   -- one byte more has moved down
   module _ (from j : ℕ) (h : from ≤ j) (fits : j + size < length a) where

@@ -51,8 +51,7 @@ module _ (w n k : ℕ) (input : List ℕ) (a : Areas) (empty : List ℕ) where
   rest-on i b h =
       let more : k - i ≡ suc (k - (i + 1)) = omega arith in
       let number : n + (i + 1) ≡ suc (n + i) = omega arith in
-      let place : 18 * (i + 1) ≡ 18 * i + 18 = omega arith in
-      rw (more, number, place, ← drop-drop 18 (18 * i) input)
+      let place : 18 * (i + 1) ≡ 18 * i + 18 = omega arith in rw (more, number, place, ← drop-drop 18 (18 * i) input)
 
   pub ran-on : (i v number : ℕ) (b c : Areas) (to next piece : List ℕ) (at end : ℕ) → i < k → v ≡ w → number ≡ n + i → piece ≡ take 18 (drop (18 * i) input)
       → Ran i b to at

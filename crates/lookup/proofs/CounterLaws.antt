@@ -68,8 +68,7 @@ module _ {t : Settings} {clipped : List ℕ} {m : ℕ} (g : Counters t clipped m
   unfolding clipped-length card-of hash
   counter-there h j b e =
       let lt : b < 2 ^ t .p = rw (e, g .m-is) (mod-lt (h / 2 ^ (16 * j)) (pow-pos (t .p))) in
-      let even = sound t (g .ok) .even in
-      omega (arith, g .size)
+      let even = sound t (g .ok) .even in omega (arith, g .size)
 
   -- all hashes are read
   pub choice-of : {h rest most best j : ℕ} → SoFar (t .top) (t .k) m h clipped rest most best (t .top * 65536 + m) j → t .k ≤ j

@@ -187,5 +187,4 @@ module _ (table : List ℕ) (t : plain.Settings) (clipped buckets side keys : Li
       → judged-of t clipped buckets side key ≡ Ready c
   unfolding judged-of
   unrefused-alone c e key wide =
-      let r = burst-ready c e in
-      rw (r .0, r .2, eq-eqb (length key) (card-of t .width) wide, r .4)
+      let r = burst-ready c e in rw (r .0, r .2, eq-eqb (length key) (card-of t .width) wide, r .4)

@@ -125,14 +125,12 @@ module _ {k : List ℕ} {n : ℕ} {a : List ℕ} {room : ℕ} where
         count : ltb i n ≡ true → suc (cond (ltb first n) (suc first) n - suc i) ≡ cond (ltb first n) (suc first) n - i
         count e =
             let h = ltb-true i n e in
-            let l = g .low in
-            by-test (ltb first n) (λ f. rw f (omega arith)) (λ f. rw f (omega arith))
+            let l = g .low in by-test (ltb first n) (λ f. rw f (omega arith)) (λ f. rw f (omega arith))
 
         none-more : ltb i n ≡ false → 0 ≡ cond (ltb first n) (suc first) n - i
         none-more e =
             let h = ltb-false i n e in
-            let l = g .low in
-            rw (le-ltb first n (omega arith)) (omega arith)
+            let l = g .low in rw (le-ltb first n (omega arith)) (omega arith)
 
   -- the next place, by the test of its key as the loop has it
   pub first-next : {left first : ℕ} → First k n a room left first → 0 < left → (at : ℕ) → at ≡ left * (length k + 4) → (t : Bool)

@@ -23,15 +23,8 @@ count-is (x ∷ y ∷ ys) h = omega arith
 four-at : (l : List ℕ) (i : ℕ) → i + 4 ≤ length l
     → take 4 (drop i l) ≡ getD l i 0 ∷ getD l (i + 1) 0 ∷ getD l (i + 2) 0 ∷ getD l (i + 3) 0 ∷ []
 four-at l i h =
-    rw (
-      add-one,
-      add-two,
-      add-three,
-      drop-cons l i 0 (omega arith),
-      drop-cons l (suc i) 0 (omega arith),
-      drop-cons l (suc (suc i)) 0 (omega arith),
-      drop-cons l (suc (suc (suc i))) 0 (omega arith),
-    )
+    rw (add-one, add-two, add-three, drop-cons l i 0 (omega arith), drop-cons l (suc i) 0 (omega arith), drop-cons l (suc (suc i)) 0 (omega arith))
+    (rw (drop-cons l (suc (suc (suc i))) 0 (omega arith)))
 
 pub class-is : (l : List ℕ) (i : ℕ) → i + 4 ≤ length l
     → of-bytes (take 4 (drop i l)) ≡ ((getD l i 0 * 256 + getD l (i + 1) 0) * 256 + getD l (i + 2) 0) * 256 + getD l (i + 3) 0
@@ -93,10 +86,5 @@ pub record-written : (to key : List ℕ) (n : ℕ) (front end : List ℕ) → le
     ≡ record-bytes (record { key = key; class = n })
 unfolding record-bytes
 record-written to key n front end size e f =
-    rw (
-      e,
-      f,
-      tail-back (length key) (key ++ drop (length key) to) (to-bytes 4 n) (rw length-append (omega arith)),
-      take-at key (drop (length key) to) (length key)
-          refl,
-    )
+    rw (e, f, tail-back (length key) (key ++ drop (length key) to) (to-bytes 4 n) (rw length-append (omega arith)))
+    (rw (take-at key (drop (length key) to) (length key) refl))

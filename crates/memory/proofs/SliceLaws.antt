@@ -169,15 +169,8 @@ flat-set f g z e a (suc n) zero h o =
 flat-set f g z e a (suc n) (suc i) h o =
     let s : suc i * z ≡ z + i * z = suc-mul i z ∙ add-comm (i * z) z in
     let q : a + suc i ≡ suc a + i = omega arith in
-    rw (
-      s,
-      q,
-      take-past (f a) (flat f (upto (suc a) n)) z (i * z) (e a),
-      length-drop-past (f a) (flat f (upto (suc a) n)) z (i * z) (e a),
-      append-assoc,
-      flat-set f g z e (suc a) n i (le-of-suc-le-suc h) (λ x t. o x (λ y. t (y ∙ q))),
-      o a (omega arith),
-    )
+    rw (s, q, take-past (f a) (flat f (upto (suc a) n)) z (i * z) (e a), length-drop-past (f a) (flat f (upto (suc a) n)) z (i * z) (e a))
+    (rw (append-assoc, flat-set f g z e (suc a) n i (le-of-suc-le-suc h) (λ x t. o x (λ y. t (y ∙ q))), o a (omega arith)))
 
 -- ---- bytes
 -- what a slice of bytes gives of each element, of all

@@ -32,8 +32,7 @@ use Rattle.snapshot.specs.Files.{put-at, CountedLedger, Saving}
 pub put-back : (at n : ℕ) (xs : List ℕ) {ys : List ℕ} → at + 2 ≤ length xs → ys ≡ to-bytes 2 n ++ drop 2 (take (length xs - at) (drop at xs))
     → back at (length xs - at) xs ys ≡ put-at at n xs
 put-back at n xs {ys} h e =
-    let inside : at ≤ length xs = omega arith in
-    tail-back at xs ys inside ∙ rw (e, tail-is at xs inside, drop-drop 2 at xs)
+    let inside : at ≤ length xs = omega arith in tail-back at xs ys inside ∙ rw (e, tail-is at xs inside, drop-drop 2 at xs)
 
 -- ---- numbers put one after the other
 abbrev put-all : ℕ → List ℕ → List ℕ → List ℕ

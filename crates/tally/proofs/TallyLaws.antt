@@ -56,8 +56,7 @@ sum-below g b = sum (map g (upto 0 b))
 sum-last : (g : ℕ → ℕ) (a n : ℕ) → sum (map g (upto a (suc n))) ≡ sum (map g (upto a n)) + g (a + n)
 sum-last g a zero = let e : a + 0 ≡ a = omega arith in rw e (omega arith)
 sum-last g a (suc n) =
-    let e : a + suc n ≡ suc a + n = omega arith in
-    rw e (let h = sum-last g (suc a) n in omega (arith, h))
+    let e : a + suc n ≡ suc a + n = omega arith in rw e (let h = sum-last g (suc a) n in omega (arith, h))
 
 pub sum-more : (g : ℕ → ℕ) (b : ℕ) → sum-below g (b + 1) ≡ sum-below g b + g b
 sum-more g b = let e : 0 + b ≡ b = omega arith in rw add-one (rw e at (sum-last g 0 b))
@@ -66,8 +65,7 @@ pub sum-most : (g : ℕ → ℕ) (k : ℕ) → ((b : ℕ) → g b ≤ k) → (b 
 sum-most g k h zero = omega arith
 sum-most g k h (suc b) =
     let e : 0 + b ≡ b = omega arith in
-    let s = rw e at (sum-last g 0 b) in
-    omega (arith, s, h b, sum-most g k h b)
+    let s = rw e at (sum-last g 0 b) in omega (arith, s, h b, sum-most g k h b)
 
 kept-sum : (f : ℕ → ℕ) (l : List ℕ) → sum (filter (λ x. not (eqb x 255)) (map f l)) ≡ sum (map (λ b. cond (eqb (f b) 255) 0 (f b)) l)
 kept-sum f [] = refl

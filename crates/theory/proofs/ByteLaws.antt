@@ -93,13 +93,8 @@ module _ (w : ℕ) where
   read-record : (r : Record) (rest : List ℕ) → Fit w r → record-at w (record-bytes r ++ rest) ≡ r
   unfolding record-bytes record-at
   read-record r rest f =
-      rw (
-        append-assoc,
-        take-at (r .key) (to-bytes 4 (r .class) ++ rest) w (f .wide),
-        drop-at (r .key) (to-bytes 4 (r .class) ++ rest) w (f .wide),
-        take-at (to-bytes 4 (r .class)) rest 4 (length-to-bytes 4 (r .class)),
-        of-to-bytes 4 (r .class) (f .small),
-      )
+      rw (append-assoc, take-at (r .key) (to-bytes 4 (r .class) ++ rest) w (f .wide), drop-at (r .key) (to-bytes 4 (r .class) ++ rest) w (f .wide))
+      (rw (take-at (to-bytes 4 (r .class)) rest 4 (length-to-bytes 4 (r .class)), of-to-bytes 4 (r .class) (f .small)))
 
   pub read-records : (l : List Record) (rest : List ℕ) → All (Fit w) l → records w (length l) (flat record-bytes l ++ rest) ≡ l
   unfolding records
@@ -111,14 +106,9 @@ module _ (w : ℕ) where
   unfolding find-bytes
   read-found k [] rest h = refl
   read-found k (r ∷ rs) rest h =
-      rw (
-        append-assoc,
-        take-at (record-bytes r) (flat record-bytes rs ++ rest) (w + 4) (length-record r (h .0)),
-        drop-at (record-bytes r) (flat record-bytes rs ++ rest) (w + 4) (length-record r (h .0)),
-        key-first r (flat record-bytes rs ++ rest) (h .0),
-        read-found k rs rest (h .1),
-      )
-      (by-test (same-key k (r .key)) (λ e. rw e) (λ e. rw e))
+      rw (append-assoc, take-at (record-bytes r) (flat record-bytes rs ++ rest) (w + 4) (length-record r (h .0)))
+      (rw (drop-at (record-bytes r) (flat record-bytes rs ++ rest) (w + 4) (length-record r (h .0)))
+      (rw (key-first r (flat record-bytes rs ++ rest) (h .0), read-found k rs rest (h .1)) (by-test (same-key k (r .key)) (λ e. rw e) (λ e. rw e))))
 
   -- n records read out of bytes: how many, that they fit, and that they are written as the bytes that were read
   pub length-records : (n : ℕ) (a : List ℕ) → length (records w n a) ≡ n

@@ -82,15 +82,9 @@ unfolding print-lines
 lines-in-pieces w n zero k [] y a h = rw (zero-add k, add-zero n)
 lines-in-pieces w n zero k (b ∷ x) y a h = absurd (omega arith)
 lines-in-pieces w n (suc j) k x y a h =
-    rw (
-      suc-add j k,
-      take-append-le 18 x y (omega arith),
-      drop-append-le 18 x y (omega arith),
-      lines-in-pieces w (suc n) j k (drop 18 x) y (print-bytes w n (take 18 x) a .areas) (rw length-drop (omega arith)),
-      add-suc n j,
-      ← suc-add n j,
-      append-assoc,
-    )
+    rw (suc-add j k, take-append-le 18 x y (omega arith), drop-append-le 18 x y (omega arith))
+    (rw (lines-in-pieces w (suc n) j k (drop 18 x) y (print-bytes w n (take 18 x) a .areas) (rw length-drop (omega arith)), add-suc n j)
+    (rw (← suc-add n j, append-assoc)))
 
 -- ---- the input in blocks of whole calls, and a last one
 -- a block of j whole calls
@@ -107,12 +101,9 @@ pub blocks-print-whole : (w n : ℕ) (bs : List (List ℕ)) (last : List ℕ) (a
 unfolding print-blocks
 blocks-print-whole w n [] last a h = refl
 blocks-print-whole w n (x ∷ xs) last a h =
-    rw (
-      append-assoc,
-      whole-count x (flat (λ x. x) xs ++ last) (h .0),
-      lines-in-pieces w n (call-count x) (call-count (flat (λ x. x) xs ++ last)) x (flat (λ x. x) xs ++ last) a (whole-length x (h .0)),
-      blocks-print-whole w (n + call-count x) xs last (print-lines w n (call-count x) x a .areas) (h .1),
-    )
+    rw (append-assoc, whole-count x (flat (λ x. x) xs ++ last) (h .0))
+    (rw (lines-in-pieces w n (call-count x) (call-count (flat (λ x. x) xs ++ last)) x (flat (λ x. x) xs ++ last) a (whole-length x (h .0)))
+    (rw (blocks-print-whole w (n + call-count x) xs last (print-lines w n (call-count x) x a .areas) (h .1))))
 
 -- ---- OUTPUT: on a table cleared first, whatever its areas held; in blocks; by the plain ledger
 settings-allowed : allowed flowrun-settings ≡ true
@@ -168,10 +159,8 @@ unfolding print-lines print-bytes plain-lines
 lines-plain n zero b l h g = refl
 lines-plain n (suc k) b l h g =
     let c = call-in (take 18 b) in
-    rw (
-      line-plain n (getD (take 18 b) 0 0) c l g,
-      lines-plain (suc n) k (drop 18 b) (plain-list c l) (all-drop Byte 18 b h) (list-stays c l (small-call (take 18 b) (all-take Byte 18 b h)) g),
-    )
+    rw (line-plain n (getD (take 18 b) 0 0) c l g)
+    (rw (lines-plain (suc n) k (drop 18 b) (plain-list c l) (all-drop Byte 18 b h) (list-stays c l (small-call (take 18 b) (all-take Byte 18 b h)) g)))
 
 pub output-plain : (b : List ℕ) → All Byte b → output b ≡ plain-output b
 unfolding output plain-output

@@ -29,22 +29,15 @@ half-byte f b h = go (eqb (b % 2) 0) refl
     go true e = let q : (f (2 * (b / 2)) + 16 * f (2 * (b / 2) + 1)) % 16 ≡ f (2 * (b / 2)) = omega arith in q ∙ ap f (omega (arith, eqb-true (b % 2) 0 e))
     go false e =
         let q : (f (2 * (b / 2)) + 16 * f (2 * (b / 2) + 1)) / 16 ≡ f (2 * (b / 2) + 1) = omega arith in
-        let n : b % 2 ≢ 0 = eqb-false (b % 2) 0 e in
-        q ∙ ap f (omega arith)
+        let n : b % 2 ≢ 0 = eqb-false (b % 2) 0 e in q ∙ ap f (omega arith)
 
 module _ (s : Card) where
   -- ---- n record places
   pub length-places : (n : ℕ) (l : List Record) → All (Fit (s .width)) l → length l ≤ n → length (places s n l) ≡ record-size s * n
   unfolding places record-size
   length-places n l h le =
-      rw (
-        length-append,
-        length-replicate,
-        length-flat record-bytes (s .width + 4) l
-            (all-map (λ r f. length-record (s .width) r f) l h),
-        ← mul-add,
-        add-sub-of-le le,
-      )
+      rw (length-append, length-replicate, length-flat record-bytes (s .width + 4) l (all-map (λ r f. length-record (s .width) r f) l h), ← mul-add)
+      (rw (add-sub-of-le le))
 
   pub read-places : (n : ℕ) (l : List Record) → All (Fit (s .width)) l → records (s .width) (length l) (places s n l) ≡ l
   unfolding places
@@ -109,12 +102,8 @@ module _ (s : Card) where
 
         pub length-buckets : length (buckets-bytes s c l) ≡ buckets-length s
         unfolding buckets-bytes buckets-length
-        length-buckets = rw (
-          length-flat (λ b. bucket-bytes s c l b) (bucket-size s) (upto 0 (s .buckets))
-              (all-every length-bucket (upto 0 (s .buckets))),
-          length-upto,
-          mul-comm,
-        )
+        length-buckets = rw (length-flat (λ b. bucket-bytes s c l b) (bucket-size s) (upto 0 (s .buckets)) (all-every length-bucket (upto 0 (s .buckets))))
+            (rw (length-upto, mul-comm))
 
         pub read-bucket : (b : ℕ) → b < s .buckets → bucket-part s (buckets-bytes s c l) b ≡ bucket-bytes s c l b
         unfolding buckets-bytes bucket-part

@@ -41,23 +41,17 @@ module _ (s : Card) where
       → by-counters s f k a b c d ≡ by-counters s g k a b c d
   unfolding by-counters
   by-counters-cong f g k h a b c d =
-      rw (
-        any-cong (λ b. ltb (s .top) (f b)) (λ b. ltb (s .top) (g b)) (s .numbers k) (all-map (λ b e. ap (λ x. ltb (s .top) x) e) (s .numbers k) h),
-        any-cong (λ b. eqb (f b) 0) (λ b. eqb (g b) 0) (s .numbers k) (all-map (λ b e. ap (λ x. eqb x 0) e) (s .numbers k) h),
-        all-cong (λ b. eqb (f b) (s .top)) (λ b. eqb (g b) (s .top)) (s .numbers k) (all-map (λ b e. ap (λ x. eqb x (s .top)) e) (s .numbers k) h),
-      )
+      rw (any-cong (λ b. ltb (s .top) (f b)) (λ b. ltb (s .top) (g b)) (s .numbers k) (all-map (λ b e. ap (λ x. ltb (s .top) x) e) (s .numbers k) h))
+      (rw (any-cong (λ b. eqb (f b) 0) (λ b. eqb (g b) 0) (s .numbers k) (all-map (λ b e. ap (λ x. eqb x 0) e) (s .numbers k) h))
+      (rw (all-cong (λ b. eqb (f b) (s .top)) (λ b. eqb (g b) (s .top)) (s .numbers k) (all-map (λ b e. ap (λ x. eqb x (s .top)) e) (s .numbers k) h))))
 
   module _ (ok : Sound s) (c : ℕ → ℕ) (l : List Record) (fit : All (Fit (s .width)) l) (need : side-need s c l ≤ s .side-places) where
     -- ---- where a search of the layout ends up
     read-side : (n : ℕ) → side-place s (side-bytes s c l) n ≡ among (places s (s .side-places) (side-records s c l)) (length (side-records s c l)) n
     unfolding side-place side-bytes side-need
     read-side n =
-        rw (
-          read-count s (s .side-places) (side-records s c l) (omega (arith, ok .side-small)),
-          le-ltb (s .side-places)
-              (length (side-records s c l)) need,
-          after-count,
-        )
+        rw (read-count s (s .side-places) (side-records s c l) (omega (arith, ok .side-small)))
+        (rw (le-ltb (s .side-places) (length (side-records s c l)) need, after-count))
 
     read-crowded : (b : ℕ) → crowded s c l b ≡ true → bucket-place s (bucket-bytes s c l b) (side-bytes s c l) ≡ side-place s (side-bytes s c l) 1
     unfolding bucket-place bucket-bytes

@@ -94,14 +94,9 @@ module _ (t : Settings) (ok : allowed t ≡ true) (l : List Record) (g : HasLayo
   records-back : file-records (snapshot t l) ≡ l
   unfolding file-records
   records-back =
-      rw (
-        settings-back,
-        second-count,
-        snapshot-is t l,
-        drop-at (flat (to-bytes 2) (head t (length l))) (flat record-bytes l) 16
-            (length-head (head t (length l))),
-      )
-      (ap (records (card-of t .width) (length l)) (sym (append-nil (flat record-bytes l))) ∙ read-records (card-of t .width) l [] (g .fit))
+      rw (settings-back, second-count, snapshot-is t l)
+      (rw (drop-at (flat (to-bytes 2) (head t (length l))) (flat record-bytes l) 16 (length-head (head t (length l))))
+      (ap (records (card-of t .width) (length l)) (sym (append-nil (flat record-bytes l))) ∙ read-records (card-of t .width) l [] (g .fit)))
 
   -- a snapshot loads: its settings, its list's layout
   pub load-snapshot : (a : Areas) → Sized (card-of t) a
@@ -109,37 +104,20 @@ module _ (t : Settings) (ok : allowed t ≡ true) (l : List Record) (g : HasLayo
   unfolding load head-wrong
   load-snapshot a z =
       let few : length l ≤ t .capacity = unfold card-of in g .few in
-      rw (
-        length-snapshot,
-        first-count,
-        settings-back,
-        records-back,
-        second-count,
-        ok,
-        le-ltb (16 + record-size (card-of t) * length l) 16 (omega arith),
-        eq-eqb (work-length (card-of t)) (work-length (card-of t)) refl,
-        all-lengths-right (card-of t) a z,
-        le-ltb (t .capacity) (length l) few,
-        eq-eqb (16 + record-size (card-of t) * length l) (16 + record-size (card-of t) * length l) refl,
-        g .order,
-        not-enough (card-of t) l (g .need),
-      )
+      rw (length-snapshot, first-count, settings-back, records-back, second-count, ok)
+      (rw (le-ltb (16 + record-size (card-of t) * length l) 16 (omega arith), eq-eqb (work-length (card-of t)) (work-length (card-of t)) refl)
+      (rw (all-lengths-right (card-of t) a z, le-ltb (t .capacity) (length l) few)
+      (rw (eq-eqb (16 + record-size (card-of t) * length l) (16 + record-size (card-of t) * length l) refl, g .order)
+      (rw (not-enough (card-of t) l (g .need))))))
 
   -- the ledger of a layout is saved as the snapshot of its list
   pub save-layout : (target : List ℕ) → length target ≡ length (snapshot t l) → (a : List ℕ) → a ≡ counted-places (card-of t) (card-of t .capacity) l
       → length a ≡ ledger-length (card-of t) → save t a (work-length (card-of t)) target ≡ record { number = 0; target = snapshot t l }
   unfolding save
   save-layout target e a is size =
-      rw (
-        ok,
-        eq-eqb (work-length (card-of t)) (work-length (card-of t)) refl,
-        eq-eqb (length a) (ledger-length (card-of t)) size,
-        is,
-        not-invalid (card-of t) (sound t ok) l g,
-        ledger-back (card-of t) (sound t ok) l g,
-        not-enough (card-of t) l (g .need),
-        eq-eqb (length target) (16 + record-size (card-of t) * length l) (e ∙ length-snapshot),
-      )
+      rw (ok, eq-eqb (work-length (card-of t)) (work-length (card-of t)) refl, eq-eqb (length a) (ledger-length (card-of t)) size, is)
+      (rw (not-invalid (card-of t) (sound t ok) l g, ledger-back (card-of t) (sound t ok) l g, not-enough (card-of t) l (g .need))
+      (rw (eq-eqb (length target) (16 + record-size (card-of t) * length l) (e ∙ length-snapshot))))
 
 -- ---- LOAD-SAVE: a saved snapshot loads to the same settings and flows, into every area
 module _ (t : Settings) (ledger : List ℕ) (w : ℕ) (target : List ℕ) (done : save t ledger w target .number ≡ 0) where

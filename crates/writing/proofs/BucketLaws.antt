@@ -31,8 +31,7 @@ use Rattle.writing.proofs.TurnLaws.{Turn, turn-bytes, turn-record, turn
 less-one : (z n j : ℕ) → j < n → z * (n - j) - z ≡ z * (n - (j + 1))
 less-one z n j h =
     let e : n - j ≡ (n - (j + 1)) + 1 = omega arith in
-    let q : z * ((n - (j + 1)) + 1) ≡ z * (n - (j + 1)) + z = mul-add z (n - (j + 1)) 1 ∙ rw mul-one in
-    rw (e, q) (omega arith)
+    let q : z * ((n - (j + 1)) + 1) ≡ z * (n - (j + 1)) + z = mul-add z (n - (j + 1)) 1 ∙ rw mul-one in rw (e, q) (omega arith)
 
 module _ (s : Card) where
   pub places-more : (n : ℕ) (l : List Record) (r : Record) → All (Fit (s .width)) l → length l < n
@@ -42,24 +41,17 @@ module _ (s : Card) where
       let k = record-size s * length l in
       let f : length (flat record-bytes l)
       ≡ k = unfold record-size in length-flat record-bytes (s .width + 4) l (all-map (λ r f. length-record (s .width) r f) l fit) in
-      rw (
-        take-at (flat record-bytes l) (zeros (record-size s * (n - length l))) k f,
-        drop-at (flat record-bytes l) (zeros (record-size s * (n - length l))) k f,
-        zeros-drop (record-size s * (n - length l)) (record-size s),
-        less-one (record-size s) n (length l) h,
-        flat-append record-bytes l (r ∷ []),
-        length-append l (r ∷ []),
-        append-nil (record-bytes r),
-        append-assoc (flat record-bytes l) (record-bytes r) (zeros (record-size s * (n - (length l + 1)))),
-      )
+      rw (take-at (flat record-bytes l) (zeros (record-size s * (n - length l))) k f)
+      (rw (drop-at (flat record-bytes l) (zeros (record-size s * (n - length l))) k f, zeros-drop (record-size s * (n - length l)) (record-size s))
+      (rw (less-one (record-size s) n (length l) h, flat-append record-bytes l (r ∷ []), length-append l (r ∷ []), append-nil (record-bytes r))
+      (rw (append-assoc (flat record-bytes l) (record-bytes r) (zeros (record-size s * (n - (length l + 1))))))))
 
   module _ (crowd : ℕ → Bool) where
     -- ---- blank buckets
     blank-is : (b n : ℕ) (v : Bool) → n ≡ bucket-size s → v ≡ crowd b → set (zeros n) 0 (cond v 255 0) ≡ blank-bucket s crowd b
     unfolding blank-bucket places bucket-size
     blank-is b n v e f =
-        let one : n ≡ suc (record-size s * (s .room - 0)) = rw sub-zero (omega arith) in
-        rw (one, f)
+        let one : n ≡ suc (record-size s * (s .room - 0)) = rw sub-zero (omega arith) in rw (one, f)
 
     blank-more : (b : ℕ) → blank-buckets s crowd (b + 1) ≡ blank-buckets s crowd b ++ blank-bucket s crowd b
     unfolding blank-buckets
@@ -137,12 +129,8 @@ module _ (s : Card) where
         length-all-growing : length (growing-buckets s crowd c l) ≡ buckets-length s
         unfolding growing-buckets buckets-length
         length-all-growing =
-            rw (
-              length-flat (growing-bucket s crowd c l) (bucket-size s) (upto 0 (s .buckets))
-                  (all-every length-growing (upto 0 (s .buckets))),
-              length-upto,
-              mul-comm (bucket-size s) (s .buckets),
-            )
+            rw (length-flat (growing-bucket s crowd c l) (bucket-size s) (upto 0 (s .buckets)) (all-every length-growing (upto 0 (s .buckets))))
+            (rw (length-upto, mul-comm (bucket-size s) (s .buckets)))
 
         -- the part of bucket b
         growing-part : (b : ℕ) → b < s .buckets → take (bucket-size s) (drop (b * bucket-size s) (growing-buckets s crowd c l)) ≡ growing-bucket s crowd c l b
@@ -157,13 +145,8 @@ module _ (s : Card) where
           unfolding growing-bucket
           put-here =
               let one : 1 + record-size s * length (choosers s c l (b l r)) ≡ suc (record-size s * length (choosers s c l (b l r))) = omega arith in
-              rw (
-                free,
-                choosers-add l r out,
-                one,
-                length-append (choosers s c l (b l r)) (r ∷ []),
-                ← places-more (s .room) (choosers s c l (b l r)) r (choosers-fit (b l r)) room,
-              )
+              rw (free, choosers-add l r out, one, length-append (choosers s c l (b l r)) (r ∷ []))
+              (rw (← places-more (s .room) (choosers s c l (b l r)) r (choosers-fit (b l r)) room))
 
           put-among : b l r < s .buckets
               → back (b l r * bucket-size s) (bucket-size s) (growing-buckets s crowd c l) (growing-bucket s crowd c (more l r) (b l r))

@@ -58,14 +58,8 @@ module _ (s : Card) where
       }
   unfolding layout layout-by ledger-length true-length clipped-length
   empty-layout =
-      rw (
-        no-places s (s .capacity),
-        map-zeros (true-count s []) no-count 0 (s .buckets),
-        no-clipped (true-count s []) no-count,
-        no-buckets
-            (true-count s []),
-        no-side (true-count s []),
-      )
+      rw (no-places s (s .capacity), map-zeros (true-count s []) no-count 0 (s .buckets), no-clipped (true-count s []) no-count)
+      (rw (no-buckets (true-count s []), no-side (true-count s [])))
 
   -- areas of their lengths, each all zeros
   pub cleared : (ledger true-counts clipped buckets side : List ℕ)

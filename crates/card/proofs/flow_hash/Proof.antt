@@ -7,8 +7,7 @@ use Rattle.card.proofs.flow_hash.Tie as tie
 
 returns : tie.Need-returns
 returns c =
-    let start = c .before .before .before in
-    hash-2 _ (start .args .key .now) (start .args .h .now) (c .if1 .taken)
+    let start = c .before .before .before in hash-2 _ (start .args .key .now) (start .args .h .now) (c .if1 .taken)
 
 returns-2 : tie.Need-returns-2
 returns-2 c =

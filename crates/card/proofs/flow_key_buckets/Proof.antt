@@ -52,8 +52,7 @@ returns c =
 returns-2 : tie.Need-returns-2
 returns-2 c =
     let known = c .before in
-    let e = start known in
-    key-buckets-2 (asked e) (key e) (hashes e) (numbers e) (told known .0) (c .if1 .taken)
+    let e = start known in key-buckets-2 (asked e) (key e) (hashes e) (numbers e) (told known .0) (c .if1 .taken)
 
 returns-3 : tie.Need-returns-3
 returns-3 c =

@@ -33,8 +33,7 @@ loop-again c =
 returns-2 : tie.Need-returns-2 Inv-loop μ-loop
 returns-2 c =
     let l = c .before in
-    let a = l .before .args in
-    sym (sym (l .loop .inv .1) ∙ has-end (a .x) (a .l .now) (l .loop .i) (omega arith))
+    let a = l .before .args in sym (sym (l .loop .inv .1) ∙ has-end (a .x) (a .l .now) (l .loop .i) (omega arith))
 
 pub among-spec : {M : Type 1} → statement M
 among-spec =

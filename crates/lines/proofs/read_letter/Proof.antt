@@ -26,8 +26,7 @@ returns-5 c = λ key class. rw (c .match .keys5)
 
 returns-6 : tie.Need-returns-6
 returns-6 c =
-    let x = c .match .rest in
-    no-call (c .before .args .letter) (x .0 .0 .0 .0 .1) (x .0 .0 .0 .1) (x .0 .0 .1) (x .0 .1) (x .1)
+    let x = c .match .rest in no-call (c .before .args .letter) (x .0 .0 .0 .0 .1) (x .0 .0 .0 .1) (x .0 .0 .1) (x .0 .1) (x .1)
 
 pub read-letter-spec : {M : Type 1} → statement M
 read-letter-spec = tie.close (tie.spec returns returns-2 returns-3 returns-4 returns-5 returns-6)

@@ -43,8 +43,7 @@ at-clipped c = at-counts (c .before .before .before .before .before)
 
 copy-counts-requires : tie.Need-copy-counts-requires
 copy-counts-requires c κs =
-    let e = at-counts c in
-    e .pre .3 ∙ true-length-is (t e) ∙ sym (laying e .buckets) ∙ sym (half-length e)
+    let e = at-counts c in e .pre .3 ∙ true-length-is (t e) ∙ sym (laying e .buckets) ∙ sym (half-length e)
 
 write-clipped-requires : tie.Need-write-clipped-requires
 write-clipped-requires c κs =

@@ -28,8 +28,7 @@ returns : tie.Need-returns Inv-loop μ-loop
 returns c =
     let loop = c .before .loop in
     let args = c .before .before .args in
-    let e : loop .j ≡ args .to - args .size = omega arith in
-    loop .inv .is ∙ rw e
+    let e : loop .j ≡ args .to - args .size = omega arith in loop .inv .is ∙ rw e
 
 pub close-gap-spec : {M : Type 1} → statement M
 close-gap-spec =

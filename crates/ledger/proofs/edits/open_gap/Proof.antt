@@ -28,8 +28,7 @@ loop-again c =
 returns : tie.Need-returns Inv-loop μ-loop
 returns c =
     let loop = c .before .loop in
-    let e : loop .j ≡ c .before .before .args .from = omega arith in
-    loop .inv .is ∙ rw e
+    let e : loop .j ≡ c .before .before .args .from = omega arith in loop .inv .is ∙ rw e
 
 pub open-gap-spec : {M : Type 1} → statement M
 open-gap-spec =

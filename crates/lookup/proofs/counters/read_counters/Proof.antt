@@ -45,8 +45,7 @@ module _ (c : tie.In-loop Inv-loop μ-loop) where
   below : b < 4096
   below =
       let p = m-small counted in
-      let pos : 0 < counted .buckets .result = omega (arith, p .1) in
-      omega (arith, mod-lt (c .before .loop .rest) pos, p .0)
+      let pos : 0 < counted .buckets .result = omega (arith, p .1) in omega (arith, mod-lt (c .before .loop .rest) pos, p .0)
 
 loop-again : tie.Need-loop-again Inv-loop μ-loop
 loop-again c =

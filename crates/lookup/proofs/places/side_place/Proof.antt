@@ -8,8 +8,7 @@ use Rattle.lookup.proofs.places.side_place.Tie as tie
 
 returns : tie.Need-returns
 returns c =
-    let count = c .before .before .count-at .ensures .0 in
-    λ buckets b. side-invalid _ (omega (arith, count))
+    let count = c .before .before .count-at .ensures .0 in λ buckets b. side-invalid _ (omega (arith, count))
 
 returns-2 : tie.Need-returns-2
 returns-2 c =

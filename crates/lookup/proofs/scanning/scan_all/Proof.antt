@@ -45,8 +45,7 @@ module _ (c : tie.After-loop Inv-loop μ-loop) where
 
   all : From 0
   all =
-      let none : c .before .loop .left ≡ 0 = omega (arith, c .loop-test .left) in
-      subst From none (c .before .loop .inv .first-is)
+      let none : c .before .loop .left ≡ 0 = omega (arith, c .loop-test .left) in subst From none (c .before .loop .inv .first-is)
 
 same-words-requires : tie.Need-same-words-requires Inv-loop μ-loop
 same-words-requires c κs =

@@ -89,8 +89,7 @@ returns c =
 
 count-at-requires : tie.Need-count-at-requires
 count-at-requires c κs =
-    let e = c .before .before in
-    omega (arith, length-tail 14 (file e) (omega (arith, long e)), long e)
+    let e = c .before .before in omega (arith, length-tail 14 (file e) (omega (arith, long e)), long e)
 
 place-area-requires : tie.Need-place-area-requires
 place-area-requires c κs =

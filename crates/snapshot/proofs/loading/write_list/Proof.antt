@@ -9,8 +9,7 @@ returns : tie.Need-returns
 returns c =
     let written = c .before .before .before .before .before .before .before .before in
     let ledger = written .before .before .before .before .before .before .before in
-    let is = written .write-areas .ensures in
-    laid-out _ refl (ledger .write-ledger .ensures) (is .0) (is .1) (is .2) (is .3)
+    let is = written .write-areas .ensures in laid-out _ refl (ledger .write-ledger .ensures) (is .0) (is .1) (is .2) (is .3)
 
 pub write-list-spec : {M : Type 1} → statement M
 write-list-spec =
