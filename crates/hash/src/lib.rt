@@ -49,15 +49,15 @@ pub fn fill_table(out: &mut [u64])
 }
 
 // The xor of a lent table's entries for the bytes of a key, with one read a byte; a right table gives H.
-pub fn h_with_table(t: &[u64], key: &[u8]) -> u64
-    requires { ⌜ table-length 8 (length (now key)) ≤ length (now t) ⌝ }
-    ensures { λ r. ⌜ (r ≡ H-by (now (t .entry)) (now (key .entry)))
-        × (TableFor (length (now (key .entry))) (now (t .entry)) → r ≡ H-of (now (key .entry))) ⌝ }
+pub fn h_with_table(table: &[u64], key: &[u8]) -> u64
+    requires { ⌜ table-length 8 (length (now key)) ≤ length (now table) ⌝ }
+    ensures { λ r. ⌜ (r ≡ H-by (now (table .entry)) (now (key .entry)))
+        × (TableFor (length (now (key .entry))) (now (table .entry)) → r ≡ H-of (now (key .entry))) ⌝ }
 {
     let mut h: u64 = 0;
     let mut i: usize = 0;
     while i < key.len() {
-        h = h ^ t[i * 256 + wide(key[i])];
+        h = h ^ table[i * 256 + wide(key[i])];
         i += 1;
     }
     h

@@ -25,7 +25,7 @@ loop-again c =
     let test = c .before .before .before in
     let start = test .before .before .before .before in
     let l = test .before .loop in
-    let table = start .args .t .now in (
+    let table = start .args .table .now in (
       omega arith,
       by-more table (start .args .key .now) (l .i) (l .h) _ (test .loop-test .taken)
           (ap (λ (v : ℕ). getD table (l .i * 256 + v) 0) (c .before .wide .ensures .0)) (l .inv .1),
@@ -36,9 +36,9 @@ returns c =
     let start = c .before .before .before .before in
     let key = start .args .key .now in
     let l = c .before .loop in
-    let is = by-end (start .args .t .now) key (l .i) (l .h) (c .loop-test .left) (l .inv .1) in (
+    let is = by-end (start .args .table .now) key (l .i) (l .h) (c .loop-test .left) (l .inv .1) in (
       is,
-      λ right. is ∙ by-right (length key) (start .args .t .now) right key (omega arith)
+      λ right. is ∙ by-right (length key) (start .args .table .now) right key (omega arith)
           (λ j. omega (arith, c .before .before .shared-slice-known2 .given j)),
     )
 
