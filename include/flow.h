@@ -1,7 +1,8 @@
 /* The doors of the flow card's pruned hash table. They are proved: each answers on every input, as its comment says.
  *
  * A lent area is a pointer and then its length, in numbers of the pointer's type. Its pointer is not null, also where the length is 0,
- * and is aligned for that type. An area that a door may write overlaps no other area lent to the same call.
+ * and is aligned for that type. An area that a door may write overlaps no other area lent to the same call. A generator is an area that has
+ * no length beside its pointer.
  *
  * No area may be written while another call reads or writes it: the doors take no locks. Calls that only read may share areas. A search beside
  * an update of the same areas may answer absent for a held flow, or with another flow's class (beside a busy writer one search in four did).
@@ -15,7 +16,8 @@
  *   side_places  0 to 64 records in the side store
  *
  * A door answers 0, or the number of a refusal; where several apply, the lowest (flow_load has its own order). A search that finds nothing
- * answers 100. A refused call alters no area but work, and flow_load sets its settings to zeros.
+ * answers 100. A refused call alters no area but work, and flow_load sets its settings to zeros. flow_generator_next refuses nothing. 14 and
+ * 15 are the programs' alone: no door gives them.
  *   1  a setting is out of range
  *   2  a lent area is not of its length
  *   3  a key, or a buffer for a packet's key, is not of 13 bytes; or the keys of a burst are not of 13 bytes for each answer
@@ -30,6 +32,8 @@
  *  11  the packet's protocol is 6 or 17, and under 4 bytes follow its header
  *  12  a file is cut, overlong or does not start with the count 6; or the target of a save is not of the file's length
  *  13  the keys of a file do not rise
+ *  14  program flowrun: a call has an unknown letter, or the input ends within a call
+ *  15  program flowload: s is zero, the flow count is outside 1 to 4096, or the input is not of 32 bytes; it then writes nothing
  *
  * The areas that hold a table, with a record of 17 bytes: a key of 13, then its class in 4, high byte first:
  *   ledger          2 + 17 * capacity bytes: a two-byte count, high byte first, records in rising key order, zeros
@@ -215,6 +219,17 @@ uint32_t flow_load(const uint8_t *file, size_t file_length, uint8_t *ledger, siz
                    size_t true_counts_length, uint8_t *clipped, size_t clipped_length, uint8_t *buckets, size_t buckets_length,
                    uint8_t *side, size_t side_length, uint16_t *work, size_t work_length, uint64_t *settings,
                    size_t settings_length);
+
+/* A generator of numbers, held by whoever draws them: s is stepped by xorshift64, w grows by 362437 modulo 2^64. */
+struct flow_generator {
+    uint64_t s;
+    uint64_t w;
+};
+
+/* The next number of a generator, which advances where it is held: the one that program flowload makes its calls from, two numbers a call, so
+ * that a bench draws the same ones. Lent: generator, with any s and w; an s of zero, which the program refuses, stays zero.
+ * It steps both, and returns s + w modulo 2^64, both after the step. */
+uint64_t flow_generator_next(struct flow_generator *generator);
 
 #ifdef __cplusplus
 }

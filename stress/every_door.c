@@ -8,7 +8,7 @@
 #include <stdlib.h>
 #include <string.h>
 
-enum { TABLES = 2000, CALLS = 60, PACKETS = 20000, MOST_KEYS = 40, MOST_ANSWER = 100 };
+enum { TABLES = 2000, CALLS = 60, PACKETS = 20000, GENERATORS = 1000, MOST_KEYS = 40, MOST_ANSWER = 100 };
 
 /* splitmix64 */
 static uint64_t state = 91;
@@ -453,6 +453,28 @@ static void packets(void)
     }
 }
 
+/* Numbers of a generator in memory of exactly its size: each is the sum of what it then holds, and an s of zero stays zero. */
+static void generators(void)
+{
+    for (int i = 0; i < GENERATORS; i++) {
+        struct area held = random_area(1, sizeof(struct flow_generator));
+        struct flow_generator *generator = held.at;
+        if (i % 5 == 0) {
+            generator->s = 0;
+        }
+        if (i % 7 == 0) {
+            generator->w = UINT64_MAX;
+        }
+        for (int j = 0; j < CALLS; j++) {
+            uint64_t w = generator->w, zero = generator->s == 0, number = flow_generator_next(generator);
+            if (generator->w != w + 362437 || (generator->s == 0) != zero || number != generator->s + generator->w) {
+                fail("a generator's number is not the sum of what it holds");
+            }
+        }
+        free(held.at);
+    }
+}
+
 int main(void)
 {
     static const uint64_t most[6] = {6, 4, 4, 15, 24, 5}, least[6] = {4, 1, 1, 2, 1, 0};
@@ -476,6 +498,7 @@ int main(void)
         }
     }
     packets();
+    generators();
     free(tables[0].at);
     free(tables[1].at);
     for (int i = 0; i <= MOST_ANSWER; i++) {

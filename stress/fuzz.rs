@@ -1,7 +1,8 @@
 //! The fuzzer's target: bytes are taken as settings, areas and a list of calls of every door. Each answer and every area is compared with
 //! the model's. A difference aborts, which the fuzzer reports with the bytes that led there.
 
-use flow::{doors, HashTable};
+use flow::{doors, Generator, HashTable};
+use model::bench_load;
 use model::calls::{perform, Call};
 use model::card::Card;
 use model::hash::{self, KEY_BYTES};
@@ -183,6 +184,7 @@ impl Trial {
             26 => self.settings(bytes),
             27 => self.hash(bytes),
             28 => self.other_length(bytes),
+            29 => generator(bytes),
             _ => self.other_byte(bytes),
         }
     }
@@ -505,4 +507,24 @@ fn packet(bytes: &mut Bytes) {
     let answer = doors::packet_key(&packet, &mut key);
     assert_eq!((answer, key), (by_paper, expected), "{packet:?}");
     note("packet key", answer);
+}
+
+// Some numbers of a generator that starts at small numbers, at any, or at the largest.
+fn generator(bytes: &mut Bytes) {
+    let [s, w] = [0, 1].map(|_| match bytes.next() {
+        255 => u64::MAX,
+        254 => u64::from_be_bytes(bytes.take(8).try_into().unwrap()),
+        byte => u64::from(byte),
+    });
+    let mut held = Generator { s, w };
+    let mut by_paper = bench_load::Generator { s, w };
+    for _ in 0..=bytes.next() % 8 {
+        let (number, expected) = (held.next_number(), by_paper.number());
+        assert_eq!(
+            (number, held.s, held.w),
+            (expected, by_paper.s, by_paper.w),
+            "from s {s}, w {w}"
+        );
+        note("generator", 0);
+    }
 }

@@ -1,6 +1,8 @@
 //! The doors as they stand. Each answers 0 or the number of a refusal, on every input, and a search also 100 for absent; a refused call
-//! alters nothing but work, and a refused load also makes the settings that it hands back zeros. Settings stand in the order p, k, room,
-//! top, capacity, side places.
+//! alters nothing but work, and a refused load also makes the settings that it hands back zeros. [`generator_next`] refuses nothing, and
+//! answers the generator's number. Settings stand in the order p, k, room, top, capacity, side places.
+
+use crate::Generator;
 
 /// The five areas that the calls share, lent to one that writes.
 #[derive(Debug)]
@@ -17,8 +19,8 @@ pub struct LentAreas<'a> {
     pub side: &'a mut [u8],
 }
 
-// Makes a safe function of each door. Settings pass as six numbers, a slice as a pointer and its length, the areas as five slices.
-// Safe: the doors require nothing of their arguments, and a slice lends its whole length for the call.
+// Makes a safe function of each door. Settings pass as six numbers, a slice as a pointer and its length, the areas as five slices, a struct as
+// a pointer. Safe: the doors require nothing of their arguments, and a slice lends its whole length for the call, a struct all of itself.
 macro_rules! doors {
     ($($(#[$doc:meta])* fn $name:ident = $door:ident($($arguments:tt)*) -> $answer:ty;)*) => {
         $(doors! { @ [$(#[$doc])* $name $door $answer] () () () $($arguments)*, })*
@@ -56,6 +58,9 @@ macro_rules! doors {
             ($($c)* _: *const $number, _: usize,)
             ($($passed)* $x.as_ptr(), $x.len(),)
             $($rest)* }
+    };
+    (@ $head:tt ($($takes:tt)*) ($($c:tt)*) ($($passed:tt)*) $x:ident: &mut $held:ident, $($rest:tt)*) => {
+        doors! { @ $head ($($takes)* $x: &mut $held,) ($($c)* _: *mut $held,) ($($passed)* $x,) $($rest)* }
     };
     (@ $head:tt ($($takes:tt)*) ($($c:tt)*) ($($passed:tt)*) $x:ident: u32, $($rest:tt)*) => {
         doors! { @ $head ($($takes)* $x: u32,) ($($c)* _: u32,) ($($passed)* $x,) $($rest)* }
@@ -140,4 +145,7 @@ doors! {
 
     /// The key of an IPv4 packet; 3 if the buffer for it is not of 13 bytes; 10 if the packet's header is wrong; 11 if its ports are missing.
     fn packet_key = flow_packet_key(packet: &[u8], key: &mut [u8]) -> u32;
+
+    /// Steps a generator where it is held, s by xorshift64 and w by 362437 modulo 2^64, and gives s + w modulo 2^64, both after the step.
+    fn generator_next = flow_generator_next(generator: &mut Generator) -> u64;
 }

@@ -2,11 +2,12 @@
 //!
 //! [`doors`] has each door as it stands: numbers and slices in, the answer's number out. The rest of the crate is what a Rust user
 //! takes: [`Settings`] that are in range, a [`Table`] that owns its areas, a [`HashTable`] that is filled, [`LookupAreas`] to [`search`],
-//! by one key or by a burst of keys ([`search_burst`]), and to [`tally`] where others own them, the key of a packet by [`packet_key`], and
-//! a [`Refusal`] in place of a number.
+//! by one key or by a burst of keys ([`search_burst`]), and to [`tally`] where others own them, the key of a packet by [`packet_key`], the
+//! [`Generator`] of a load for the bench, and a [`Refusal`] in place of a number.
 
 #![deny(missing_docs)]
 
+mod generator;
 mod lookup;
 mod packet;
 mod refusal;
@@ -14,6 +15,7 @@ mod table;
 
 pub mod doors;
 
+pub use generator::Generator;
 pub use lookup::{
     search, search_burst, search_lent, search_place, tally, Answers, LookupAreas, RecordPlace,
     Store, Tally,

@@ -34,11 +34,13 @@ pub enum Refusal {
     FileOrder = 13,
     /// 14: the program's input has an unknown letter, or ends within a call.
     Input = 14,
+    /// 15: the program's load has a zero s or a flow count outside 1 to 4,096, or its input is not of 32 bytes.
+    BenchLoad = 15,
 }
 
 impl Refusal {
     /// Every refusal, in the order of the numbers.
-    pub const ALL: [Refusal; 14] = [
+    pub const ALL: [Refusal; 15] = [
         Refusal::Setting,
         Refusal::AreaLength,
         Refusal::KeyLength,
@@ -53,9 +55,10 @@ impl Refusal {
         Refusal::FileLength,
         Refusal::FileOrder,
         Refusal::Input,
+        Refusal::BenchLoad,
     ];
 
-    /// The number that a door answers, 1 to 14.
+    /// Its number, 1 to 15. Doors answer up to 13; 14 and 15 are the programs'.
     pub fn number(self) -> u32 {
         self as u32
     }
@@ -88,6 +91,9 @@ impl Refusal {
             }
             Refusal::FileOrder => "the file's keys do not rise",
             Refusal::Input => "the program's input has an unknown letter or ends within a call",
+            Refusal::BenchLoad => {
+                "the program's load has a zero s, a flow count outside 1 to 4,096, or not 32 bytes"
+            }
         }
     }
 }

@@ -3,72 +3,14 @@
 use model::card::Card;
 use model::flowrun::{output, settings};
 use model::records::{Key, Record};
-use std::io::Write;
-use std::path::Path;
-use std::process::{Command, Stdio};
-use std::thread;
 use std::time::Duration;
 use testing::made::{random_class, random_key};
+use testing::programs::{flowrun_compared, flowrun_compared_whole, note_lines};
 use testing::random::Random;
 use testing::seen::Seen;
 
 const INPUTS: u64 = 200;
 const IN_PIECES: u64 = 20;
-
-// The output on an input that comes in pieces of these lengths, again and again, with a pause after each if there is one.
-fn run(input: &[u8], pieces: &[usize], pause: Option<Duration>) -> String {
-    let program = Path::new(env!("CARGO_MANIFEST_DIR")).join("../target/bin/flowrun");
-    assert!(
-        program.exists(),
-        "{} is not there: run `rt check flowrun` in the repository's root first",
-        program.display()
-    );
-    let mut child = Command::new(program)
-        .stdin(Stdio::piped())
-        .stdout(Stdio::piped())
-        .stderr(Stdio::piped())
-        .spawn()
-        .unwrap();
-    let mut pipe = child.stdin.take().unwrap();
-    let (input, pieces) = (input.to_vec(), pieces.to_vec());
-    let feeder = thread::spawn(move || {
-        let mut rest = &input[..];
-        for &length in pieces.iter().cycle() {
-            let (piece, more) = rest.split_at(length.min(rest.len()));
-            pipe.write_all(piece).unwrap();
-            rest = more;
-            if rest.is_empty() {
-                return;
-            }
-            if let Some(pause) = pause {
-                thread::sleep(pause);
-            }
-        }
-    });
-    let ended = child.wait_with_output().unwrap();
-    feeder.join().unwrap();
-    assert!(ended.status.success() && ended.stderr.is_empty());
-    String::from_utf8(ended.stdout).unwrap()
-}
-
-// The program's output, which is the model's: compared line by line first, so that a failure names its call.
-fn compared(input: &[u8], pieces: &[usize], pause: Option<Duration>) -> String {
-    // both at the same time
-    let (found, expected) = thread::scope(|scope| {
-        let found = scope.spawn(|| run(input, pieces, pause));
-        let expected = output(input);
-        (found.join().unwrap(), expected)
-    });
-    for (line, by_paper) in found.lines().zip(expected.lines()) {
-        assert_eq!(line, by_paper);
-    }
-    assert!(found == expected, "{} bytes of input", input.len());
-    found
-}
-
-fn compared_whole(input: &[u8]) -> String {
-    compared(input, &[65536], None)
-}
 
 fn call(letter: u8, key: &Key, class: u32) -> [u8; 18] {
     let mut call = [letter; 18];
@@ -99,13 +41,13 @@ fn sample_of_the_paper() {
                 5 D 0 0 0 0\n\
                 6 S 100 0 0 0\n";
     assert_eq!(output(&input), text);
-    assert_eq!(compared_whole(&input), text);
+    assert_eq!(flowrun_compared_whole(&input), text);
 }
 
 #[test]
 fn empty_input() {
     assert_eq!(
-        compared_whole(&[]),
+        flowrun_compared_whole(&[]),
         "call op answer class buckets compared\n"
     );
 }
@@ -117,11 +59,11 @@ fn left_overs() {
     for length in 1..18 {
         for letter in [b'I', b'S', b'X', b'?', 0] {
             let part = call(letter, &[1; 13], 7);
-            let alone = compared_whole(&part[..length]);
+            let alone = flowrun_compared_whole(&part[..length]);
             assert!(alone.ends_with("\n1 ? 14 0 0 0\n"));
             let mut input = call(b'I', &random.bytes(), 1).to_vec();
             input.extend(&part[..length]);
-            let after = compared_whole(&input);
+            let after = flowrun_compared_whole(&input);
             assert!(after.ends_with("\n2 ? 14 0 0 0\n"));
         }
     }
@@ -184,17 +126,6 @@ fn random_input(random: &mut Random, tidy: &[Key], calls: u64) -> Vec<u8> {
     input
 }
 
-fn note(seen: &mut Seen, text: &str) {
-    for line in text.lines().skip(1) {
-        let fields: Vec<&str> = line.split(' ').collect();
-        let kind = ["I", "C", "D", "S", "X", "?"]
-            .into_iter()
-            .find(|&letter| letter == fields[1])
-            .unwrap();
-        seen.note(kind, fields[2].parse().unwrap());
-    }
-}
-
 const ALL: &[(&str, &[u32])] = &[
     ("I", &[0, 6, 8, 9]),
     ("C", &[0, 7]),
@@ -212,7 +143,7 @@ fn random_inputs() {
     for _ in 0..INPUTS {
         let calls = random.between(1_000, 20_000);
         let input = random_input(&mut random, &tidy, calls);
-        note(&mut seen, &compared_whole(&input));
+        note_lines(&mut seen, &flowrun_compared_whole(&input));
     }
     seen.report(&format!("calls in {INPUTS} inputs"), ALL);
 }
@@ -234,11 +165,11 @@ fn input_in_pieces() {
         let calls = random.between(20, 60);
         let input = random_input(&mut random, &tidy, calls);
         let pause = Some(Duration::from_micros(100));
-        note(&mut seen, &compared(&input, &pieces, pause));
+        note_lines(&mut seen, &flowrun_compared(&input, &pieces, pause));
         // more calls than one buffer holds, with no pause
         let calls = random.between(4_000, 8_000);
         let input = random_input(&mut random, &tidy, calls);
-        compared(&input, &pieces, None);
+        flowrun_compared(&input, &pieces, None);
     }
     seen.report(
         "calls in pieces with pauses",

@@ -109,7 +109,7 @@ fn refusals_by_number() {
             .to_string()
             .starts_with(&format!("refusal {}: ", i + 1)));
     }
-    for number in [0, 15, 100, u32::MAX] {
+    for number in [0, 16, 100, u32::MAX] {
         assert_eq!(Refusal::from_number(number), None);
     }
 }

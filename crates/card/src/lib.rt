@@ -14,6 +14,7 @@ ghost use Rattle.settings.specs.Checked.{paper, card};
 ghost use Rattle.card.specs.Doors.{Filled, settings-check-of, lengths-of, area-lengths-of, hash-table-of, hash-of, hash-lent-of};
 ghost use Rattle.card.specs.Doors.{first-hashes, Numbered, key-buckets-of};
 
+pub mod generators; // generators.rt: the door that advances a generator of the bench's load
 pub mod packets; // packets.rt: the door that reads a packet
 pub mod reading; // reading.rt: the doors of search and tally
 pub mod snapshots; // snapshots.rt: the doors that save and load

@@ -1,9 +1,12 @@
-// Numbers in bytes: counts high byte first, as document 01 has them; words low byte first, as the processor loads them; and numbers made wider.
+// Numbers in bytes: counts and eight-byte numbers high byte first, as the papers have them; words low byte first, as the processor loads them; and
+// numbers made wider.
+use super::records::class_at;
+use super::records::write_class;
 ghost use mathlib.Core.Path.{_≡_};
 ghost use mathlib.Core.List.{_++_};
 ghost use Prim.Native.Nat.{_+_, _<_, _≤_};
 ghost use lib.ListN.{length, take, drop};
-ghost use Rattle.theory.specs.Records.{to-bytes, count-of};
+ghost use Rattle.theory.specs.Records.{to-bytes, of-bytes, count-of};
 ghost use Rattle.memory.specs.Words.{low-first};
 
 pub fn wide(byte: u8) -> usize
@@ -68,4 +71,21 @@ pub fn low_word_at(area: &[u8], at: usize) -> u64
     ensures { λ r. ⌜ r ≡ low-first (take 8 (drop at (now (area .entry)))) ⌝ }
 {
     wide_half(low_half_at(area, at)) + wide_half(low_half_at(area, at + 4)) * 4294967296
+}
+
+// The number in the eight bytes from a place on, high byte first: each half as a class is read.
+pub fn eight_at(area: &[u8], at: usize) -> u64
+    requires { ⌜ at + 8 ≤ length (now area) ⌝ }
+    ensures { λ r. ⌜ r ≡ of-bytes (take 8 (drop at (now (area .entry)))) ⌝ }
+{
+    wide_half(class_at(area, at)) * 4294967296 + wide_half(class_at(area, at + 4))
+}
+
+// A number in the eight bytes of a part, high byte first: each half as a class is written.
+pub fn write_eight(to: &mut [u8], n: u64)
+    requires { ⌜ length (now to) ≡ 8 ⌝ }
+    ensures { λ _. ⌜ now (to .exit) ≡ to-bytes 8 n ⌝ }
+{
+    write_class(&mut to[..4], (n / 4294967296) as u32);
+    write_class(&mut to[4..], (n % 4294967296) as u32);
 }

@@ -10,13 +10,18 @@ use Rattle.theory.specs.Lists.{flat}
 use Rattle.theory.specs.Records.{Record, to-bytes, number-after, of-bytes, record-bytes, entries, record-at, records, find, same-key, find-bytes}
 use Rattle.theory.specs.Lookup.{part}
 pub use Rattle.theory.specs.Demands.{Byte, Fit}
-use Rattle.theory.proofs.ListLaws.{by-test, All, all-map, all-at, all-drop}
+use Rattle.theory.proofs.ListLaws.{by-test, All, all-map, all-at, all-drop, all-append}
 
 -- ---- numbers
 pub length-to-bytes : (k n : ℕ) → length (to-bytes k n) ≡ k
 unfolding to-bytes
 length-to-bytes zero n = refl
 length-to-bytes (suc k) n = omega (arith, length-append (to-bytes k (n / 256)) (n % 256 ∷ []), length-to-bytes k (n / 256))
+
+pub to-bytes-small : (k n : ℕ) → All Byte (to-bytes k n)
+unfolding to-bytes
+to-bytes-small zero n = tt
+to-bytes-small (suc k) n = let low : n % 256 < 256 = omega arith in all-append Byte (to-bytes k (n / 256)) (n % 256 ∷ []) (to-bytes-small k (n / 256)) (low, tt)
 
 number-snoc : (a : ℕ) (xs : List ℕ) (x : ℕ) → number-after a (xs ++ x ∷ []) ≡ number-after a xs * 256 + x
 unfolding number-after

@@ -14,4 +14,5 @@ pub mod Demands
 pub mod LentLaws
 pub mod SnapshotLaws
 pub mod FlowrunLaws
+pub mod BenchLoadLaws
 pub mod Cases

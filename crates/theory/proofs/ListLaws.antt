@@ -8,7 +8,7 @@ use native.Mathlib.Nat.{le-of-suc-le-suc, not-suc-le-zero, add-zero, suc-add, ad
 use native.Mathlib.Omega.{arith}
 use lib.Dec.{leb, eqb}
 use borrow.Author.Tests.{eqb-true, eqb-false, eq-eqb, ne-eqb, leb-true, leb-false}
-use lib.ListN.{length, take, drop, getD, length-append}
+use lib.ListN.{length, take, drop, getD, replicate, length-append}
 use lib.Seq.{take-at, drop-append-add}
 use Rattle.theory.specs.Lists.{filter, any, all, flat, upto, has, least}
 pub use Rattle.theory.specs.Lists.{All}
@@ -88,6 +88,14 @@ module _ {A : Type 0} where
   all-take P zero l a = tt
   all-take P (suc n) [] a = tt
   all-take P (suc n) (x ∷ xs) a = (a .0, all-take P n xs (a .1))
+
+  pub all-append : (P : A → Type 0) (l m : List A) → All P l → All P m → All P (l ++ m)
+  all-append P [] m a b = b
+  all-append P (x ∷ xs) m a b = (a .0, all-append P xs m (a .1) b)
+
+  pub all-replicate : (P : A → Type 0) (n : ℕ) (x : A) → P x → All P (replicate n x)
+  all-replicate P zero x p = tt
+  all-replicate P (suc n) x p = (p, all-replicate P n x p)
 
   pub any-cong : (p q : A → Bool) (l : List A) → All (λ x. p x ≡ q x) l → any p l ≡ any q l
   any-cong p q [] h = refl

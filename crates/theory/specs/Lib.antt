@@ -11,4 +11,5 @@ pub mod CallAreas
 pub mod Snapshot
 pub mod Packet
 pub mod Flowrun
+pub mod BenchLoad
 pub mod Demands

@@ -1,7 +1,7 @@
 -- Laws of writing the new list: what stands in the edited ledger is that list, and the five areas are its layout.
 use mathlib.Core.Path.{_≡_, sym, ap, _∙_}
 use mathlib.Core.Bool.{false}
-use mathlib.Core.List.{List, [], _∷_, _++_}
+use mathlib.Core.List.{List, [], _∷_}
 use Prim.Native.Nat.{ℕ, _+_, _-_, _≤_}
 use native.Mathlib.Omega.{arith}
 use borrow.Author.Tests.{eq-eqb, ne-eqb}
@@ -9,7 +9,7 @@ use lib.ListN.{length, take, drop, length-map, length-take}
 use Rattle.theory.specs.Records.{Record, records}
 use Rattle.theory.specs.Settings.{Card, ledger-length}
 use Rattle.theory.specs.Layout.{Areas, counted-places, layout}
-use Rattle.theory.proofs.ListLaws.{by-test, All, all-take, all-drop}
+use Rattle.theory.proofs.ListLaws.{by-test, All, all-take, all-drop, all-append}
 use Rattle.theory.proofs.ByteLaws.{Fit}
 use Rattle.theory.proofs.LayoutLaws.{read-places, after-count, length-counted}
 use Rattle.writing.proofs.LentRecordLaws.{lent-records}
@@ -24,10 +24,6 @@ use Rattle.theory.specs.CallAreas.{replied}
 use Rattle.update.proofs.PlanLaws.{length-edited}
 
 -- ---- what holds of each record of a list and of the call's holds of each that an edit makes
-all-append : {A : Type 0} (P : A → Type 0) (l m : List A) → All P l → All P m → All P (l ++ m)
-all-append P [] m a b = b
-all-append P (x ∷ xs) m a b = (a .0, all-append P xs m (a .1) b)
-
 pub all-edited : (P : Record → Type 0) (edit : Edit) (at : ℕ) (x : Record) (l : List Record) → P x → All P l → All P (edited edit at x l)
 all-edited P edit at x l p a =
     let after = all-append P (take (brings edit) (x ∷ [])) _ (all-take P (brings edit) (x ∷ []) (p, tt)) (all-drop P (at + leaves-out edit) l a) in

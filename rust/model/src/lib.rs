@@ -1,7 +1,8 @@
-//! Document 01 in plain Rust, and the burst of searches that was asked for later, written from their words alone. It shares no code with the
-//! doors or with the crate over them.
+//! Document 01 in plain Rust, what document 02 asks for so far, and the burst of searches that was asked for later, written from their words
+//! alone. It shares no code with the doors or with the crate over them.
 //! Clear before fast: a layout takes time in proportion to records and buckets, all else is done as the paper says it.
 
+pub mod bench_load;
 pub mod calls;
 pub mod card;
 pub mod flowrun;

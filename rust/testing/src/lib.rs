@@ -2,5 +2,6 @@
 
 pub mod lending;
 pub mod made;
+pub mod programs;
 pub mod random;
 pub mod seen;
