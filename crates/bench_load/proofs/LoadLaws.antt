@@ -1,15 +1,17 @@
 -- Laws of writing a load: the letter of a call, the parts of a call lent and back, and calls written one after the other.
 use mathlib.Core.Path.{_≡_, refl, sym, ap, _∙_}
 use mathlib.Core.Logic.{_≢_}
+use mathlib.Core.Bool.{true}
 use mathlib.Core.List.{List, [], _∷_, _++_, append-assoc, append-nil}
 use mathlib.Core.Option.{some}
 use Prim.Native.Nat.{ℕ, _+_, _-_, _*_, _/_, _%_, _≤_, _<_, min}
 use native.Mathlib.Nat.{add-sub-cancel-left}
 use native.Mathlib.Omega.{arith}
 use borrow.Author.Tests.{ne-eqb}
-use lib.ListN.{length, take, drop, set, replicate}
+use lib.ListN.{length, take, drop, set, replicate, length-set}
 use lib.Seq.{length-take-le, take-all}
 use Rattle.theory.specs.Records.{to-bytes, record-bytes}
+use Rattle.theory.specs.Settings.{in-range}
 use Rattle.theory.specs.BenchLoad.{Generator, draw, after-call, load-class, call-letter, load-key, load-call, call-bytes}
 use Rattle.theory.specs.BenchLoad.{draws, load-bytes, after-calls, load-in, load-asked, load-written}
 use Rattle.theory.proofs.BenchLoadLaws.{length-call, length-load, bytes-more, after-more, load-right, flows-allowed}
@@ -25,17 +27,45 @@ pub search-letter : (flows first second : ℕ) → first % 4 ≢ 0 → first % 4
 unfolding load-call
 search-letter flows first second a b c = rw (ne-eqb (first % 4) 0 a, ne-eqb (first % 4) 1 b, ne-eqb (first % 4) 2 c)
 
--- the key and the class: eight bytes, five zeros, four bytes
-pub key-and-class : (flows first second : ℕ) (key zeros class : List ℕ) → key ≡ to-bytes 8 (second % flows) → zeros ≡ replicate 5 0
-    → class ≡ to-bytes 4 (first % 4294967296)
-    → key ++ (zeros ++ class) ≡ record-bytes (record { key = load-key flows (drawn first second); class = load-class (drawn first second) })
-unfolding record-bytes load-key load-class
-key-and-class flows first second key zeros class e f g = rw (e, f, g, append-assoc)
+-- a call: the letter, then eight bytes, five zeros and four bytes, lent one after the other and back
+pub call-written : (flows first second letter : ℕ) (eight zeros four : List ℕ) → letter ≡ call-letter (load-call flows (drawn first second))
+    → eight ≡ to-bytes 8 (second % flows) → zeros ≡ replicate 5 0 → four ≡ to-bytes 4 (first % 4294967296)
+    → letter ∷ (eight ++ (zeros ++ four)) ≡ call-bytes flows (drawn first second)
+unfolding call-bytes record-bytes load-key load-class
+call-written flows first second letter eight zeros four e f g h = rw (e, f, g, h, append-assoc)
 
--- the letter in place 0, then what follows it, lent to the end and back
-pub letter-first : (to rest : List ℕ) (letter : ℕ) → length to ≡ 18 → back 1 (length (set to 0 letter) - 1) (set to 0 letter) rest ≡ letter ∷ rest
-letter-first [] rest letter size = absurd (omega arith)
-letter-first (x ∷ xs) rest letter size = tail-back 1 (letter ∷ xs) rest (omega arith)
+-- the part after each of the first three
+abbrev pub lettered : List ℕ → ℕ → List ℕ
+lettered to letter = set to 0 letter
+
+abbrev pub keyed : List ℕ → ℕ → List ℕ → List ℕ
+keyed to letter eight = back 1 8 (lettered to letter) eight
+
+abbrev pub padded : List ℕ → ℕ → List ℕ → List ℕ → List ℕ
+padded to letter eight zeros = back 9 5 (keyed to letter eight) zeros
+
+module _ (to : List ℕ) (letter : ℕ) (size : length to ≡ 18) where
+  pub lettered-long : length (lettered to letter) ≡ 18
+  lettered-long = length-set to 0 letter ∙ size
+
+  letter-first : (l : List ℕ) → length l ≡ 18 → take 1 (set l 0 letter) ≡ letter ∷ []
+  letter-first [] h = absurd (omega arith)
+  letter-first (x ∷ xs) h = refl
+
+  module _ (eight : List ℕ) (e : length eight ≡ 8) where
+    pub keyed-long : length (keyed to letter eight) ≡ 18
+    keyed-long = length-back 1 8 (lettered to letter) eight (omega (arith, lettered-long)) e ∙ lettered-long
+
+    module _ (zeros : List ℕ) (f : length zeros ≡ 5) where
+      pub padded-long : length (padded to letter eight zeros) ≡ 18
+      padded-long = length-back 9 5 (keyed to letter eight) zeros (omega (arith, keyed-long)) f ∙ keyed-long
+
+      pub call-back : (four : List ℕ)
+          → back 14 (length (padded to letter eight zeros) - 14) (padded to letter eight zeros) four ≡ letter ∷ (eight ++ (zeros ++ four))
+      call-back four =
+          rw (tail-back 14 (padded to letter eight zeros) four (omega (arith, padded-long)))
+          (rw (take-back 9 5 (keyed to letter eight) zeros (omega (arith, keyed-long)) f)
+          (rw (take-back 1 8 (lettered to letter) eight (omega (arith, lettered-long)) e, letter-first to size, append-assoc)))
 
 -- ---- a buffer of n bytes up to `at`: so many calls from g, and the generator after them
 pub record Filled (flows : ℕ) (g : Generator) (n : ℕ) (to : List ℕ) (now : Generator) (at : ℕ) : Type 0 where
@@ -85,10 +115,9 @@ module _ {flows : ℕ} {g : Generator} {n : ℕ} {to : List ℕ} {now : Generato
 
 -- ---- the load of an input, by its four numbers
 pub asked-is : (b : List ℕ) (s w flows count : ℕ) → s ≡ load-in b .generator .s → w ≡ load-in b .generator .w → flows ≡ load-in b .flows
-    → count ≡ load-in b .count → length b ≡ 32 → s ≢ 0 → 1 ≤ flows → flows ≤ 4096
+    → count ≡ load-in b .count → length b ≡ 32 → s ≢ 0 → in-range 1 4096 flows ≡ true
     → some (load-of (record { generator = record { s = s; w = w }; flows = flows; count = count })) ≡ load-asked b
-asked-is b s w flows count e f g h long nonzero low high =
-    rw (e, f, g, h) (sym (load-right b long (rw e at nonzero) (rw g at low) (rw g at high)))
+asked-is b s w flows count e f g h long nonzero allowed = rw (e, f, g, h) (sym (load-right b long (rw e at nonzero) (rw g at allowed)))
 
 -- a load that was read has a flow
 pub flows-read : (b : List ℕ) (r : Asked) → asked-of r ≡ load-asked b → (x : BenchLoad) → r ≡ Load x → 0 < x .flows

@@ -6,8 +6,8 @@ use memory::records::write_class;
 ghost use mathlib.Core.Path.{_≡_};
 ghost use Prim.Native.Nat.{ℕ, _/_, _%_, _<_, min};
 ghost use lib.ListN.{length};
-ghost use Rattle.theory.specs.Records.{record-bytes};
-ghost use Rattle.theory.specs.BenchLoad.{stepped, next-number, draw, after-call, load-class, call-letter, load-key, load-call, call-bytes};
+ghost use Rattle.theory.specs.Settings.{in-range};
+ghost use Rattle.theory.specs.BenchLoad.{stepped, next-number, draw, after-call, call-letter, load-call, call-bytes};
 ghost use Rattle.theory.specs.BenchLoad.{load-bytes, after-calls, load-asked};
 ghost use Rattle.bench_load.specs.Loads.{generator-of, drawn, asked-of, Cut};
 
@@ -49,26 +49,16 @@ fn letter(first: u64) -> u8
     }
 }
 
-// "the key is the second mod F in eight bytes, high byte first, then five zero bytes; the class is the low 32 bits of the first"
-fn write_key_and_class(to: &mut [u8], flows: u64, first: u64, second: u64)
-    requires { ⌜ (length (now to) ≡ 17) × (0 < flows) ⌝ }
-    ensures { λ _. ⌜ now (to .exit) ≡ record-bytes (record {
-      key = load-key flows (drawn first second);
-      class = load-class (drawn first second);
-    }) ⌝ }
-{
-    write_eight(&mut to[..8], second % flows);
-    zero_fill(&mut to[8..13]);
-    write_class(&mut to[13..], (first % 4294967296) as u32);
-}
-
-// A call for flowrun of two numbers: letter, key, class. The class stands there for a removal and a search too.
+// A call for flowrun of two numbers. "the key is the second mod F in eight bytes, high byte first, then five zero bytes; the class is the low 32 bits of
+// the first": it stands there for a removal and a search too.
 fn write_call(to: &mut [u8], flows: u64, first: u64, second: u64)
     requires { ⌜ (length (now to) ≡ 18) × (0 < flows) ⌝ }
     ensures { λ _. ⌜ now (to .exit) ≡ call-bytes flows (drawn first second) ⌝ }
 {
     to[0] = letter(first);
-    write_key_and_class(&mut to[1..], flows, first, second);
+    write_eight(&mut to[1..9], second % flows);
+    zero_fill(&mut to[9..14]);
+    write_class(&mut to[14..], (first % 4294967296) as u32);
 }
 
 // "Each call takes two numbers": the next call of a generator, and the generator after it.
@@ -114,6 +104,12 @@ pub enum Asked {
 // "A flow count F is 1 to 4,096."
 pub const MOST_FLOWS: u64 = 4096;
 
+fn flows_allowed(flows: u64) -> bool
+    ensures { λ r. ⌜ r ≡ in-range 1 4096 flows ⌝ }
+{
+    (1 <= flows) & (flows <= MOST_FLOWS)
+}
+
 // "eight bytes each, high byte first"; 15: "s zero, F outside its range or an input not of 32 bytes"
 pub fn read_load(input: &[u8]) -> Asked
     ensures { λ r. ⌜ asked-of r ≡ load-asked (now (input .entry)) ⌝ }
@@ -128,10 +124,7 @@ pub fn read_load(input: &[u8]) -> Asked
     if s == 0 {
         return Asked::Refused;
     }
-    if flows < 1 {
-        return Asked::Refused;
-    }
-    if flows > MOST_FLOWS {
+    if !flows_allowed(flows) {
         return Asked::Refused;
     }
     Asked::Load(BenchLoad {

@@ -8,7 +8,7 @@ use Prim.Native.Nat.{ℕ, zero, suc, _+_, _*_, _%_, _^_, _≤_, _<_}
 use native.Mathlib.Nat.{suc-add, zero-add}
 use native.Mathlib.Omega.{arith}
 use lib.Dec.{leb, eqb}
-use borrow.Author.Tests.{leb-true, ne-eqb, le-leb, lt-leb}
+use borrow.Author.Tests.{leb-true, ne-eqb}
 use lib.ListN.{length, getD, length-append}
 use lib.Seq.{take-at, drop-at, take-all}
 use Rattle.theory.specs.Lists.{flat}
@@ -134,15 +134,9 @@ module _ (b : List ℕ) where
   unfolding load-wrong
   zero-s e = refused (rw e)
 
-  outside : in-range 1 4096 (load-in b .flows) ≡ false → load-asked b ≡ none
+  pub flows-outside : in-range 1 4096 (load-in b .flows) ≡ false → load-asked b ≡ none
   unfolding load-wrong
-  outside e = refused (by-test (eqb (load-in b .generator .s) 0) (λ s. rw s) (λ s. rw (s, e)))
-
-  pub no-flows : load-in b .flows < 1 → load-asked b ≡ none
-  no-flows h = outside (rw (lt-leb 1 (load-in b .flows) h))
-
-  pub many-flows : 4096 < load-in b .flows → load-asked b ≡ none
-  many-flows h = outside (rw (le-leb 1 (load-in b .flows) (omega arith), lt-leb (load-in b .flows) 4096 h))
+  flows-outside e = refused (by-test (eqb (load-in b .generator .s) 0) (λ s. rw s) (λ s. rw (s, e)))
 
   pub other-length : length b ≢ 32 → load-asked b ≡ none
   unfolding load-wrong
@@ -150,9 +144,9 @@ module _ (b : List ℕ) where
       refused (by-test (eqb (load-in b .generator .s) 0) (λ s. rw s)
       (λ s. by-test (in-range 1 4096 (load-in b .flows)) (λ f. rw (s, f, ne-eqb (length b) 32 h)) (λ f. rw (s, f))))
 
-  pub load-right : length b ≡ 32 → load-in b .generator .s ≢ 0 → 1 ≤ load-in b .flows → load-in b .flows ≤ 4096 → load-asked b ≡ some (load-in b)
+  pub load-right : length b ≡ 32 → load-in b .generator .s ≢ 0 → in-range 1 4096 (load-in b .flows) ≡ true → load-asked b ≡ some (load-in b)
   unfolding load-asked load-wrong
-  load-right e s low high = rw (e, ne-eqb (load-in b .generator .s) 0 s, le-leb 1 (load-in b .flows) low, le-leb (load-in b .flows) 4096 high)
+  load-right e s f = rw (e, ne-eqb (load-in b .generator .s) 0 s, f)
 
   -- a load that is given has a flow count in its range
   in-its-range : load-wrong b ≡ false → in-range 1 4096 (load-in b .flows) ≡ true

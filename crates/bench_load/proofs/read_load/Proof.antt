@@ -1,10 +1,11 @@
 -- `bench_load::read_load` meets its contract: each test is one of the paper's reasons for 15.
-use mathlib.Core.Path.{_≡_, sym, _∙_}
+use mathlib.Core.Path.{_≡_, refl, sym, _∙_}
 use mathlib.Core.List.{List}
 use Prim.Native.Nat.{ℕ}
 use borrow.Author.Needs.{needs}
 use Rattle.theory.specs.BenchLoad.{eight-at, load-in}
-use Rattle.theory.proofs.BenchLoadLaws.{zero-s, no-flows, many-flows, other-length}
+use Rattle.theory.proofs.ListLaws.{negated-true, negated-false}
+use Rattle.theory.proofs.BenchLoadLaws.{zero-s, flows-outside, other-length}
 use Rattle.bench_load.proofs.LoadLaws.{asked-is}
 use Rattle.bench_load.proofs.read_load.Statement.{statement}
 use Rattle.bench_load.proofs.read_load.Tie as tie
@@ -37,17 +38,19 @@ returns-2 : tie.Need-returns-2
 returns-2 c = sym (zero-s (input (c .before)) (sym (s-is (c .before)) ∙ search needs))
 
 returns-3 : tie.Need-returns-3
-returns-3 c = let read = c .before .before in sym (no-flows (input read) (rw (← flows-is read) (search needs)))
+returns-3 c =
+    let judged = c .before in
+    let read = judged .before .before in
+    sym (flows-outside (input read) (rw (← flows-is read, ← judged .flows-allowed .ensures) (negated-true _ (judged .flows-allowed .result) refl (c .if3 .taken))))
 
 returns-4 : tie.Need-returns-4
-returns-4 c = let read = c .before .before .before in sym (many-flows (input read) (rw (← flows-is read) (search needs)))
-
-returns-5 : tie.Need-returns-5
-returns-5 c =
-    let read = c .before .before .before in
-    asked-is (input read) _ _ _ _ (s-is read) (w-is read) (flows-is read) (count-is read) (search needs) (search needs) (search needs) (search needs)
+returns-4 c =
+    let judged = c .before in
+    let read = judged .before .before in
+    asked-is (input read) _ _ _ _ (s-is read) (w-is read) (flows-is read) (count-is read) (search needs) (search needs)
+    (sym (judged .flows-allowed .ensures) ∙ negated-false _ (judged .flows-allowed .result) refl (c .if3 .left))
 
 pub read-load-spec : {M : Type 1} → statement M
 read-load-spec =
-    tie.close (tie.spec returns (λ c κs. search needs) (λ c κs. search needs) (λ c κs. search needs) (λ c κs. search needs) returns-2 returns-3 returns-4
-    returns-5)
+    tie.close (tie.spec returns (λ c κs. search needs) (λ c κs. search needs) (λ c κs. search needs) (λ c κs. search needs) returns-2
+    (λ c κs. search needs) returns-3 returns-4)
