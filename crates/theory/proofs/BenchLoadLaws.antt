@@ -3,7 +3,7 @@ use mathlib.Core.Path.{_≡_, refl, ap}
 use mathlib.Core.Logic.{_≢_}
 use mathlib.Core.Bool.{Bool, true, false, cond, not, _||_}
 use mathlib.Core.List.{List, [], _++_, map-append}
-use mathlib.Core.Option.{none, some}
+use mathlib.Core.Option.{Option, none, some}
 use Prim.Native.Nat.{ℕ, zero, suc, _+_, _*_, _%_, _^_, _≤_, _<_}
 use native.Mathlib.Nat.{suc-add, zero-add}
 use native.Mathlib.Omega.{arith}
@@ -16,7 +16,8 @@ use Rattle.theory.specs.Records.{Record, to-bytes, of-bytes, record-byte
 use Rattle.theory.specs.Settings.{in-range}
 use Rattle.theory.specs.Flowrun.{letter-call, call-in, call-count, header, output, plain-lines, plain-output}
 use Rattle.theory.specs.BenchLoad.{Generator, Drawn, draw, after-call, load-class, call-letter, load-key, load-call, call-bytes}
-use Rattle.theory.specs.BenchLoad.{draws, load-calls, load-bytes, after-calls, BenchLoad, load-in, load-wrong, load-asked, call-lines}
+use Rattle.theory.specs.BenchLoad.{draws, load-calls, load-bytes, after-calls, BenchLoad, load-in, load-wrong, load-asked}
+use Rattle.theory.specs.BenchLoad.{asked-number, asked-written, call-lines}
 use Rattle.theory.proofs.ListLaws.{and-left, and-right, or-left, or-right, negated-false, by-test}
 use Rattle.theory.proofs.ListLaws.{All, all-every, all-append, all-replicate, length-flat}
 use Rattle.theory.proofs.GrowingLaws.{flat-append}
@@ -123,6 +124,11 @@ lines-of-calls flows k (suc n) g l =
 pub output-of-load : (flows n : ℕ) (g : Generator) → output (load-bytes flows n g) ≡ header ++ call-lines 1 (load-calls flows n g) []
 unfolding plain-output
 output-of-load flows n g = rw (output-plain (load-bytes flows n g) (load-small flows n g), count-load flows n g, lines-of-calls flows 1 n g [])
+
+-- ---- 15: nothing is written
+pub refused-writes-nothing : (x : Option BenchLoad) → asked-number x ≡ 15 → asked-written x ≡ []
+refused-writes-nothing none e = refl
+refused-writes-nothing (some x) e = absurd (omega arith)
 
 -- ---- what an input asks for: 15 for each of its reasons, else the load that it holds
 module _ (b : List ℕ) where
