@@ -27,14 +27,14 @@ pub search-letter : (flows first second : ℕ) → first % 4 ≢ 0 → first % 4
 unfolding load-call
 search-letter flows first second a b c = rw (ne-eqb (first % 4) 0 a, ne-eqb (first % 4) 1 b, ne-eqb (first % 4) 2 c)
 
--- a call: the letter, then eight bytes, five zeros and four bytes, lent one after the other and back
+-- a call is its letter, eight bytes, five zeros and four bytes
 pub call-written : (flows first second letter : ℕ) (eight zeros four : List ℕ) → letter ≡ call-letter (load-call flows (drawn first second))
     → eight ≡ to-bytes 8 (second % flows) → zeros ≡ replicate 5 0 → four ≡ to-bytes 4 (first % 4294967296)
     → letter ∷ (eight ++ (zeros ++ four)) ≡ call-bytes flows (drawn first second)
 unfolding call-bytes record-bytes load-key load-class
 call-written flows first second letter eight zeros four e f g h = rw (e, f, g, h, append-assoc)
 
--- the part after each of the first three
+-- these put into a part one after the other: the part after each of the first three, and once the four bytes are back
 abbrev pub lettered : List ℕ → ℕ → List ℕ
 lettered to letter = set to 0 letter
 

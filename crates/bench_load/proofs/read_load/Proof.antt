@@ -1,8 +1,9 @@
 -- `bench_load::read_load` meets its contract: each test is one of the paper's reasons for 15.
-use mathlib.Core.Path.{_≡_, refl, sym, _∙_}
+use mathlib.Core.Path.{_≡_, refl, sym, ap, _∙_}
 use mathlib.Core.List.{List}
 use Prim.Native.Nat.{ℕ}
 use borrow.Author.Needs.{needs}
+use Rattle.theory.specs.Settings.{in-range}
 use Rattle.theory.specs.BenchLoad.{eight-at, load-in}
 use Rattle.theory.proofs.ListLaws.{negated-true, negated-false}
 use Rattle.theory.proofs.BenchLoadLaws.{zero-s, flows-outside, other-length}
@@ -41,7 +42,8 @@ returns-3 : tie.Need-returns-3
 returns-3 c =
     let judged = c .before in
     let read = judged .before .before in
-    sym (flows-outside (input read) (rw (← flows-is read, ← judged .flows-allowed .ensures) (negated-true _ (judged .flows-allowed .result) refl (c .if3 .taken))))
+    let outside = sym (judged .flows-allowed .ensures) ∙ negated-true _ (judged .flows-allowed .result) refl (c .if3 .taken) in
+    sym (flows-outside (input read) (ap (in-range 1 4096) (sym (flows-is read)) ∙ outside))
 
 returns-4 : tie.Need-returns-4
 returns-4 c =

@@ -46,35 +46,38 @@ module _ (c : tie.After-zero-fill) where
   abbrev zeros : List ℕ
   zeros = c .zero-fill .last .0
 
+  abbrev after-letter : tie.After-letter
+  after-letter = at-letter at-eight
+
   cleared : zeros ≡ replicate 5 0
   cleared =
       c .zero-fill .ensures
-      ∙ rw (length-part 9 5 (keyed (to (at-letter at-eight)) (letter (at-letter at-eight)) (eight at-eight)) (omega (arith, long-2 at-eight)))
+      ∙ ap (λ n. replicate n 0) (length-part 9 5 (keyed (to after-letter) (letter after-letter) (eight at-eight)) (omega (arith, long-2 at-eight)))
 
-  long-3 : length (padded (to (at-letter at-eight)) (letter (at-letter at-eight)) (eight at-eight) zeros) ≡ 18
-  long-3 = padded-long (to (at-letter at-eight)) (letter (at-letter at-eight)) (size (at-letter at-eight)) (eight at-eight) (eight-long at-eight) zeros (rw cleared)
+  long-3 : length (padded (to after-letter) (letter after-letter) (eight at-eight) zeros) ≡ 18
+  long-3 = padded-long (to after-letter) (letter after-letter) (size after-letter) (eight at-eight) (eight-long at-eight) zeros (rw cleared)
 
 write-class-requires : tie.Need-write-class-requires
 write-class-requires c κs =
     let zeroed = c .before .before .before in
-    length-tail 14 (padded (to (at-letter (at-eight zeroed))) (letter (at-letter (at-eight zeroed))) (eight (at-eight zeroed)) (zeros zeroed))
-    (omega (arith, long-3 zeroed)) ∙ rw (long-3 zeroed)
+    length-tail 14 (padded (to (after-letter zeroed)) (letter (after-letter zeroed)) (eight (at-eight zeroed)) (zeros zeroed)) (omega (arith, long-3 zeroed))
+    ∙ rw (long-3 zeroed)
 
 returns : tie.Need-returns
 returns c =
     let class = c .before .before .write-class in
     let zeroed = c .before .before .before .before .before .before in
     let keyed = at-eight zeroed in
-    let first = at-letter keyed in
-    let args = first .before .before .args in
-    call-back (to first) (letter first) (size first) (eight keyed) (eight-long keyed) (zeros zeroed) (rw (cleared zeroed)) (class .last .0)
-    ∙ call-written (args .flows) (args .first) (args .second) (letter first) (eight keyed) (zeros zeroed) (class .last .0)
-    (first .letter .ensures (args .flows) (args .second)) (keyed .write-eight .ensures) (cleared zeroed) (class .ensures)
+    let lettered = after-letter zeroed in
+    let args = lettered .before .before .args in
+    call-back (to lettered) (letter lettered) (size lettered) (eight keyed) (eight-long keyed) (zeros zeroed) (rw (cleared zeroed)) (class .last .0)
+    ∙ call-written (args .flows) (args .first) (args .second) (letter lettered) (eight keyed) (zeros zeroed) (class .last .0)
+    (lettered .letter .ensures (args .flows) (args .second)) (keyed .write-eight .ensures) (cleared zeroed) (class .ensures)
 
 pub write-call-spec : {M : Type 1} → statement M
 write-call-spec =
     tie.close (tie.spec (λ c κs. search needs) (λ c. search needs) (λ c. search needs) (λ c. search needs) (λ c. search (needs, long-1 c)) (λ c. search needs)
     (λ c κs. search needs) (λ c. search needs) (λ c. search needs) (λ c. search (needs, long-2 (c .before .before))) (λ c κs. search needs)
     (λ c. omega (arith, long-3 (c .before .before))) (λ c. search (needs, long-3 (c .before .before))) (λ c. search needs) (λ c. search needs)
-    write-class-requires (λ c. ap length (returns c) ∙ length-call _ _ ∙ sym (size (at-letter (at-eight (c .before .before .before .before .before .before)))))
+    write-class-requires (λ c. ap length (returns c) ∙ length-call _ _ ∙ sym (size (after-letter (c .before .before .before .before .before .before))))
     returns)
