@@ -7,17 +7,11 @@ use native.Mathlib.Numerals.{add-one, add-two, add-three}
 use native.Mathlib.Omega.{arith}
 use lib.ListN.{length, take, drop, getD, set, length-append, length-drop}
 use lib.Seq.{drop-cons, drop-drop, take-add, take-at}
-use Rattle.theory.specs.Records.{to-bytes, number-after, of-bytes, count-of, record-bytes}
+use Rattle.theory.specs.Records.{to-bytes, number-after, of-bytes, record-bytes}
 use Rattle.theory.proofs.ListLaws.{All}
 use Rattle.theory.proofs.ByteLaws.{Byte, length-to-bytes}
 use Rattle.memory.specs.Words.{low-first}
 use Rattle.memory.proofs.SliceLaws.{back, tail-back}
-
-pub count-is : (l : List ℕ) → 2 ≤ length l → count-of l ≡ getD l 0 0 * 256 + getD l 1 0
-unfolding number-after
-count-is [] h = absurd (omega arith)
-count-is (x ∷ []) h = absurd (omega arith)
-count-is (x ∷ y ∷ ys) h = omega arith
 
 -- four bytes from a place on, one by one
 four-at : (l : List ℕ) (i : ℕ) → i + 4 ≤ length l

@@ -1,14 +1,13 @@
 -- What judging a packet gives: the facts that reading counts on, and the answer of `read-packet` at each outcome.
 use mathlib.Core.Path.{_≡_, refl}
-use mathlib.Core.Bool.{Bool, true, false, cond, not, _||_}
+use mathlib.Core.Bool.{Bool, true, false, cond}
 use mathlib.Core.List.{List}
 use Prim.Native.Nat.{ℕ, _-_, _≤_}
 use native.Mathlib.Omega.{arith}
-use lib.Dec.{eqb, ltb}
 use lib.ListN.{length, take, drop, replicate}
 use borrow.Author.Tests.{ltb-false, eq-eqb, ne-eqb}
-use Rattle.theory.specs.Packet.{version, header-length, has-ports, header-wrong, after-header, ports-cut, ports, packet-key, Keyed, read-packet}
-use Rattle.theory.proofs.ListLaws.{or-left, or-right}
+use Rattle.theory.specs.Packet.{header-length, has-ports, header-wrong, after-header, ports-cut, ports, packet-key, Keyed, read-packet}
+use Rattle.theory.proofs.PacketLaws.{fixed-there, header-within}
 use Rattle.memory.proofs.SliceLaws.{tail-is}
 use Rattle.packet.specs.Judging.{refusal-of, HeaderRight, Right}
 
@@ -18,16 +17,7 @@ kept n buffer = record { number = n; buffer = buffer }
 
 module _ (q : List ℕ) where
   pub header-right : header-wrong q ≡ false → HeaderRight q
-  unfolding header-wrong
-  header-right e =
-      let short = ltb (length q) 20 in
-      let other = not (eqb (version q) 4) in
-      let small = ltb (header-length q) 20 in
-      let beyond = ltb (length q) (header-length q) in
-      record {
-        fixed = ltb-false (length q) 20 (or-left short other (or-left (short || other) small (or-left (short || other || small) beyond e)));
-        within = ltb-false (length q) (header-length q) (or-right (short || other || small) beyond e);
-      }
+  header-right e = record { fixed = fixed-there q e; within = header-within q e }
 
   pub ports-there : ports-cut q ≡ false → has-ports q ≡ true → 4 ≤ length (after-header q)
   unfolding ports-cut
@@ -70,7 +60,7 @@ module _ (q : List ℕ) where
       unfolding read-packet
       keyed-0 e = let n = neither e in rw (eq-eqb (length buffer) 13 right-length, n .0, n .1)
 
--- ---- a protocol that has ports: they stand in the part that is lent from the header's end on
+-- ---- a packet that has ports: they stand in the part that is lent from the header's end on
 pub record PortsRead (q : List ℕ) (r : ℕ) : Type 0 where
   pub right : Right q
   pub has : has-ports q ≡ true

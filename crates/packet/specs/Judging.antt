@@ -15,7 +15,7 @@ pub record HeaderRight (q : List ℕ) : Type 0 where
   pub fixed : 20 ≤ length q
   pub within : header-length q ≤ length q
 
--- the ports, too, are there if the protocol has some
+-- the ports, too, are there if the packet has some
 pub record Right (q : List ℕ) : Type 0 where
   pub header : HeaderRight q
   pub ports : has-ports q ≡ true → 4 ≤ length (after-header q)

@@ -1,9 +1,10 @@
 // The header of an IPv4 packet: what it says, and whether it is wrong.
 use super::ports::protocol_has_ports;
+use memory::numbers::count_at;
 ghost use mathlib.Core.Path.{_≡_};
 ghost use Prim.Native.Nat.{_≤_};
 ghost use lib.ListN.{length};
-ghost use Rattle.theory.specs.Packet.{header-length, has-ports, header-wrong};
+ghost use Rattle.theory.specs.Packet.{header-length, fragment-offset, has-ports, header-wrong};
 ghost use Rattle.theory.specs.Packet as packets;
 
 fn version(packet: &[u8]) -> u8
@@ -28,11 +29,20 @@ pub fn protocol(packet: &[u8]) -> u8
     packet[9]
 }
 
+// The low 13 bits of bytes 6 and 7, below the flags: zero in a whole packet and in a first fragment.
+pub fn fragment_offset(packet: &[u8]) -> usize
+    requires { ⌜ 20 ≤ length (now packet) ⌝ }
+    ensures { λ r. ⌜ r ≡ fragment-offset (now (packet .entry)) ⌝ }
+{
+    count_at(&packet[6..8]) % 8192
+}
+
+// "Where the fragment offset .. is not zero, ports are zero and 11 is not given."
 pub fn has_ports(packet: &[u8]) -> bool
     requires { ⌜ 20 ≤ length (now packet) ⌝ }
     ensures { λ r. ⌜ r ≡ has-ports (now (packet .entry)) ⌝ }
 {
-    protocol_has_ports(protocol(packet))
+    (fragment_offset(packet) == 0) & protocol_has_ports(protocol(packet))
 }
 
 // "10, under 20 bytes, version not 4, header length under 20 or beyond the packet"

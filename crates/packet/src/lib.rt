@@ -1,4 +1,5 @@
-// Document 01, the key of an IPv4 packet (RFC 791): the packet is judged first, and only then is its key written.
+// Document 01, the key of an IPv4 packet (RFC 791): the packet is judged first, and only then is its key written. Document 02, U2: the header says
+// whether the packet is a later fragment, which has no ports.
 use header::has_ports;
 use header::header_length;
 use header::header_wrong;
@@ -15,7 +16,7 @@ ghost use Rattle.packet.specs.Judging.{refusal-of, HeaderRight, Right};
 pub mod header; // header.rt: what the header says, and whether it is wrong
 pub mod ports; // ports.rt: which protocols have ports, and where they stand
 
-// "11, protocol 6 or 17 with under 4 bytes after the header"
+// "11, protocol 6 or 17 with under 4 bytes after the header", and no later fragment.
 fn ports_cut(packet: &[u8]) -> bool
     requires { ⌜ HeaderRight (now packet) ⌝ }
     ensures { λ r. ⌜ r ≡ ports-cut (now (packet .entry)) ⌝ }
@@ -36,7 +37,7 @@ fn refusal(packet: &[u8]) -> u32
     0
 }
 
-// "Ports come from the part after the header, options skipped, for protocols 6 and 17; for others they are zero."
+// "Ports come from the part after the header, options skipped, for protocols 6 and 17; for others they are zero", and for later fragments.
 fn write_ports(packet: &[u8], to: &mut [u8])
     requires { ⌜ Right (now packet) × (length (now to) ≡ 4) ⌝ }
     ensures { λ _. ⌜ now (to .exit) ≡ ports (now (packet .entry)) ⌝ }

@@ -36,6 +36,13 @@ of-to-bytes (suc k) n h = rw (number-snoc, of-to-bytes k (n / 256) (omega arith)
 number-more : (k : ℕ) (l : List ℕ) → suc k ≤ length l → of-bytes (take (suc k) l) ≡ of-bytes (take k l) * 256 + getD l k 0
 number-more k l h = rw (take-suc l k 0 h) (number-snoc 0 (take k l) (getD l k 0))
 
+-- two bytes, one by one
+pub count-is : (l : List ℕ) → 2 ≤ length l → of-bytes (take 2 l) ≡ getD l 0 0 * 256 + getD l 1 0
+unfolding number-after
+count-is [] h = absurd (omega arith)
+count-is (x ∷ []) h = absurd (omega arith)
+count-is (x ∷ y ∷ ys) h = omega arith
+
 -- the first k bytes of a list of bytes: their number is below 256 ^ k, and is written as they are
 module _ (l : List ℕ) (bytes : All Byte l) where
   pub number-below : (k : ℕ) → k ≤ length l → of-bytes (take k l) < 256 ^ k

@@ -13,6 +13,7 @@ pub mod CallLaws
 pub mod Demands
 pub mod LentLaws
 pub mod SnapshotLaws
+pub mod PacketLaws
 pub mod FlowrunLaws
 pub mod BenchLoadLaws
 pub mod Cases

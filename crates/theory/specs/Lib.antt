@@ -10,6 +10,7 @@ pub mod Calls
 pub mod CallAreas
 pub mod Snapshot
 pub mod Packet
+pub mod Fragments
 pub mod Flowrun
 pub mod BenchLoad
 pub mod Demands

@@ -8,7 +8,7 @@ use borrow.Author.Needs.{needs}
 use Rattle.packet.proofs.write_ports.Statement.{statement}
 use Rattle.packet.proofs.write_ports.Tie as tie
 
--- ---- the protocol has no ports
+-- ---- the packet has no ports
 returns : tie.Need-returns
 returns c =
     let told = c .before .before .before .before in

@@ -1,7 +1,7 @@
 -- `memory::numbers::count_at` meets its contract: the two bytes are read one by one, the law `count-is`.
 use borrow.Author.Needs.{needs}
 use native.Mathlib.Omega.{arith}
-use Rattle.memory.proofs.ByteNumberLaws.{count-is}
+use Rattle.theory.proofs.ByteLaws.{count-is}
 use Rattle.memory.proofs.numbers.count_at.Statement.{statement}
 use Rattle.memory.proofs.numbers.count_at.Tie as tie
 
