@@ -26,7 +26,7 @@ pub enum Refusal {
     SideFull = 9,
     /// 10: the packet has under 20 bytes, is not of version 4, or has a header length under 20 or beyond the packet.
     PacketHeader = 10,
-    /// 11: a packet of protocol 6 or 17 has under 4 bytes after its header.
+    /// 11: a packet of protocol 6 or 17 whose fragment offset is zero has under 4 bytes after its header.
     PacketPorts = 11,
     /// 12: the file is cut or overlong, its first count is not 6, or the target of a save is not of the file's length.
     FileLength = 12,

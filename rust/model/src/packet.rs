@@ -1,55 +1,91 @@
-//! 'Packet': the key of an IPv4 packet (RFC 791).
+//! 'Packet': the key of an IPv4 packet. The header is read field by field, each as wide as RFC 791, section 3.1, draws it.
 
 use crate::hash::KEY_BYTES;
 use crate::records::Key;
 
-/// What the key is made of, and the part after the header.
-struct Packet<'a> {
-    source: &'a [u8],
-    destination: &'a [u8],
-    protocol: u8,
-    data: &'a [u8],
+/// The bits of a packet from the first on, as the RFC numbers them: the most significant bit of a byte comes first.
+struct Bits<'a> {
+    packet: &'a [u8],
+    at: usize,
 }
 
-impl Packet<'_> {
-    /// None under 20 bytes, for another version than 4, and for a header length under 20 or beyond the packet.
-    fn of(bytes: &[u8]) -> Option<Packet<'_>> {
-        let fixed = bytes.get(..20)?;
-        let (version, words) = (fixed[0] / 16, fixed[0] % 16);
-        if version != 4 || words < 5 {
-            return None;
-        }
-        Some(Packet {
-            source: &fixed[12..16],
-            destination: &fixed[16..20],
-            protocol: fixed[9],
-            data: bytes.get(4 * usize::from(words)..)?,
+impl Bits<'_> {
+    /// The number that the next bits are.
+    fn field(&mut self, width: usize) -> u32 {
+        (0..width).fold(0, |number, _| {
+            let bit = self.packet[self.at / 8] >> (7 - self.at % 8) & 1;
+            self.at += 1;
+            number << 1 | u32::from(bit)
         })
     }
+}
 
-    /// Zeros for a protocol without ports; None where they are cut off.
-    fn ports(&self) -> Option<&[u8]> {
-        match self.protocol {
-            6 | 17 => self.data.get(..4),
-            _ => Some(&[0; 4]),
+/// What the key depends on.
+struct Header {
+    version: u32,
+    words: u32,
+    fragment_offset: u32,
+    protocol: u32,
+    source: u32,
+    destination: u32,
+}
+
+impl Header {
+    /// The fixed part, of a packet of 20 bytes or more.
+    fn of(packet: &[u8]) -> Header {
+        let mut bits = Bits { packet, at: 0 };
+        let [version, words] = [4, 4].map(|width| bits.field(width));
+        let [_service, _total_length, _identification, _flags] =
+            [8, 16, 16, 3].map(|width| bits.field(width));
+        let [fragment_offset, _time_to_live, protocol, _checksum] =
+            [13, 8, 8, 16].map(|width| bits.field(width));
+        let [source, destination] = [32, 32].map(|width| bits.field(width));
+        Header {
+            version,
+            words,
+            fragment_offset,
+            protocol,
+            source,
+            destination,
         }
+    }
+
+    /// Document 02, U2: only the first fragment of a packet has them, and a packet that was not cut into fragments.
+    fn has_ports(&self) -> bool {
+        self.fragment_offset == 0 && [6, 17].contains(&self.protocol)
     }
 }
 
 /// Source address, destination address, source port, destination port, protocol; or 10 or 11.
-pub fn packet_key(bytes: &[u8]) -> Result<Key, u32> {
-    let packet = Packet::of(bytes).ok_or(10u32)?;
-    let ports = packet.ports().ok_or(11u32)?;
-    let key = [packet.source, packet.destination, ports, &[packet.protocol]].concat();
-    Ok(key.try_into().unwrap())
+pub fn packet_key(packet: &[u8]) -> Result<Key, u32> {
+    if packet.len() < 20 {
+        return Err(10);
+    }
+    let header = Header::of(packet);
+    let header_bytes = 4 * header.words as usize;
+    if header.version != 4 || header_bytes < 20 || header_bytes > packet.len() {
+        return Err(10);
+    }
+    let data = &packet[header_bytes..];
+    if header.has_ports() && data.len() < 4 {
+        return Err(11);
+    }
+    let mut key = [0; KEY_BYTES];
+    key[..4].copy_from_slice(&header.source.to_be_bytes());
+    key[4..8].copy_from_slice(&header.destination.to_be_bytes());
+    if header.has_ports() {
+        key[8..12].copy_from_slice(&data[..4]);
+    }
+    key[12] = header.protocol as u8;
+    Ok(key)
 }
 
 /// 0 with the key in the buffer, or a refusal and the buffer as it was.
-pub fn packet_key_into(bytes: &[u8], buffer: &mut [u8]) -> u32 {
+pub fn packet_key_into(packet: &[u8], buffer: &mut [u8]) -> u32 {
     if buffer.len() != KEY_BYTES {
         return 3;
     }
-    match packet_key(bytes) {
+    match packet_key(packet) {
         Err(number) => number,
         Ok(key) => {
             buffer.copy_from_slice(&key);
