@@ -29,7 +29,7 @@
  *   8  a flow is to be added, and the capacity is reached; or a file has more records than its capacity
  *   9  after the call more flows would belong to the side store than it has places
  *  10  the packet's header is wrong: it has under 20 bytes, its version is not 4, or its header length is under 20 or beyond the packet
- *  11  the packet's protocol is 6 or 17, and under 4 bytes follow its header
+ *  11  the packet's protocol is 6 or 17, its fragment offset is zero, and under 4 bytes follow its header
  *  12  a file is cut, overlong or does not start with the count 6; or the target of a save is not of the file's length
  *  13  the keys of a file do not rise
  *  14  program flowrun: a call has an unknown letter, or the input ends within a call
@@ -192,8 +192,13 @@ uint32_t flow_remove(uint64_t p, uint64_t k, uint64_t room, uint64_t top, uint64
 
 /* The key of an IPv4 packet (RFC 791). Lent: packet, of any length, which is only read; key, of 13 bytes.
  * 0: key holds source address, destination address, source port, destination port and protocol. The ports are the first four bytes after the
- *    header, options skipped, for protocols 6 and 17, and zeros for others.
- * 3: key is not of 13 bytes. 10: the packet's header is wrong. 11: its ports are missing. */
+ *    header, options skipped, for protocols 6 and 17 where the fragment offset (low 13 bits of bytes 6 and 7) is zero, and zeros for others.
+ * 3: key is not of 13 bytes. 10: the packet's header is wrong. 11: its ports are missing.
+ *
+ * A later fragment of a packet, whose offset is not zero, carries payload where the first one has its ports. Its key is the addresses, zero
+ * ports and the protocol, and it is never refused with 11. The flags, 'more fragments' among them, are not read, and no fragments are put
+ * together. So the later fragments of a flow are found only if a flow of the same addresses and protocol with zero ports is held: control
+ * software adds that flow beside the flow itself, in the class that all fragments between the two addresses are to have (examples/fragments.c). */
 uint32_t flow_packet_key(const uint8_t *packet, size_t packet_length, uint8_t *key, size_t key_length);
 
 /* Saves a table's flows as a file: its settings and its records. Lent: ledger, of its length under the settings, which is only read; work, of its
