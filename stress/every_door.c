@@ -444,9 +444,18 @@ static void packets(void)
         if (packet.length > 9 && i % 5 != 0) {
             bytes[0] = (uint8_t)(0x40 + between(3, 15));
             bytes[9] = (uint8_t[]){6, 17, 1}[between(0, 2)];
+            /* any flags, and a fragment offset of zero, of one bit, or any */
+            uint64_t offset = (uint64_t[]){0, 1u << between(0, 12), between(0, 8191)}[between(0, 2)];
+            bytes[6] = (uint8_t)(between(0, 7) << 5 | offset >> 8);
+            bytes[7] = (uint8_t)offset;
         }
-        if (note(flow_packet_key(LENT(packet), LENT(key))) == 0) {
+        uint32_t answer = note(flow_packet_key(LENT(packet), LENT(key)));
+        if (answer == 0) {
             look_at(key.at, FLOW_KEY_BYTES);
+        }
+        if (packet.length > 7 && (bytes[6] % 32 != 0 || bytes[7] != 0) &&
+            (answer == 11 || (answer == 0 && memcmp((const uint8_t *)key.at + 8, "\0\0\0", 4) != 0))) {
+            fail("a later fragment has ports");
         }
         free(packet.at);
         free(key.at);
