@@ -438,6 +438,7 @@ static void calls_on_any_areas(void)
 
 static void packets(void)
 {
+    static const uint8_t no_ports[4];
     for (int i = 0; i < PACKETS; i++) {
         struct area packet = random_area((size_t)i % 81, 1), key = lend(i % 7 == 0 ? between(0, 20) : FLOW_KEY_BYTES, 1);
         uint8_t *bytes = packet.at;
@@ -453,8 +454,8 @@ static void packets(void)
         if (answer == 0) {
             look_at(key.at, FLOW_KEY_BYTES);
         }
-        if (packet.length > 7 && (bytes[6] % 32 != 0 || bytes[7] != 0) &&
-            (answer == 11 || (answer == 0 && memcmp((const uint8_t *)key.at + 8, "\0\0\0", 4) != 0))) {
+        int later = packet.length > 7 && (bytes[6] % 32 != 0 || bytes[7] != 0);
+        if (later && (answer == 11 || (answer == 0 && memcmp((const uint8_t *)key.at + 8, no_ports, 4) != 0))) {
             fail("a later fragment has ports");
         }
         free(packet.at);

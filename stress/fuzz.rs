@@ -498,13 +498,9 @@ fn packet(bytes: &mut Bytes) {
         packet[0] = 64 + packet[0] % 16;
         packet[9] = [packet[9], 6, 17][bytes.number(2)];
         // any flags; the fragment offset as it came, zero, or one bit of it
-        let bit = 1u16 << bytes.number(12);
-        let flags = u16::from(packet[6]) << 8 & 0xe000;
-        match bytes.number(2) {
-            0 => {}
-            1 => packet[6..8].copy_from_slice(&flags.to_be_bytes()),
-            _ => packet[6..8].copy_from_slice(&(flags | bit).to_be_bytes()),
-        }
+        let came = u16::from_be_bytes([packet[6], packet[7]]);
+        let offset = [came & 0x1fff, 0, 1 << bytes.number(12)][bytes.number(2)];
+        packet[6..8].copy_from_slice(&(came & 0xe000 | offset).to_be_bytes());
     }
     let mut key = match bytes.next() {
         255 => vec![7; bytes.number(20)],
