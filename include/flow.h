@@ -198,7 +198,8 @@ uint32_t flow_remove(uint64_t p, uint64_t k, uint64_t room, uint64_t top, uint64
  * A later fragment of a packet, whose offset is not zero, carries payload where the first one has its ports. Its key is the addresses, zero
  * ports and the protocol, and it is never refused with 11. The flags, 'more fragments' among them, are not read, and no fragments are put
  * together. So the later fragments of a flow are found only if a flow of the same addresses and protocol with zero ports is held: control
- * software adds that flow beside the flow itself, in the class that all fragments between the two addresses are to have (examples/fragments.c). */
+ * software adds that flow beside the flow itself, in the class that all later fragments of the protocol between the two addresses are to
+ * have (examples/fragments.c). */
 uint32_t flow_packet_key(const uint8_t *packet, size_t packet_length, uint8_t *key, size_t key_length);
 
 /* Saves a table's flows as a file: its settings and its records. Lent: ledger, of its length under the settings, which is only read; work, of its

@@ -30,7 +30,8 @@ use crate::{accepted, doors, Refusal, KEY_BYTES};
 /// A later fragment of a packet, whose offset is not zero, carries payload where the first one has its ports. Its key is the addresses, zero
 /// ports and the protocol, and it is never refused for missing ports. The flags, 'more fragments' among them, are not read, and no fragments
 /// are put together. So the later fragments of a flow are found only if a flow of the same addresses and protocol with zero ports is held:
-/// control software adds that flow beside the flow itself, in the class that all fragments between the two addresses are to have.
+/// control software adds that flow beside the flow itself, in the class that all later fragments of the protocol between the two addresses
+/// are to have.
 ///
 /// ```
 /// use flow::packet_key;

@@ -30,7 +30,7 @@ pub fn protocol(packet: &[u8]) -> u8
 }
 
 // The low 13 bits of bytes 6 and 7, below the flags: zero in a whole packet and in a first fragment.
-pub fn fragment_offset(packet: &[u8]) -> usize
+fn fragment_offset(packet: &[u8]) -> usize
     requires { ⌜ 20 ≤ length (now packet) ⌝ }
     ensures { λ r. ⌜ r ≡ fragment-offset (now (packet .entry)) ⌝ }
 {
