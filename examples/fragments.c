@@ -5,48 +5,19 @@
 #include "flow.h"
 #include <inttypes.h>
 #include <stdio.h>
-#include <stdlib.h>
 
-/* 64 buckets, 3 hashes a key, room for 2 records a bucket, top count 4, at most 128 flows, 8 side places. */
+/* 64 buckets, 3 hashes a key, room for 2 records a bucket, top count 4, at most 128 flows, 8 side places; and the areas' lengths under them. */
 #define SETTINGS 6, 3, 2, 4, 128, 8
+enum { KEY = FLOW_KEY_BYTES, RECORD = FLOW_RECORD_BYTES, HEADER = 20, MORE_FRAGMENTS = 0x20, CLASS = 3 };
+static uint8_t ledger[2 + RECORD * 128], clipped[64 / 2], buckets[64 * (1 + RECORD * 2)], side[2 + RECORD * 8];
+static uint16_t true_counts[64], work[2 * 64];
 
-enum { KEY = FLOW_KEY_BYTES, HEADER = 20, MORE_FRAGMENTS = 0x20, CLASS = 3 };
-
-/* The areas, of the lengths that flow_area_lengths gives, in the order of the doors. */
-static uint64_t lengths[6];
-static uint8_t *ledger, *clipped, *buckets, *side;
-static uint16_t *true_counts, *work;
-
-#define LOOKUP clipped, lengths[2], buckets, lengths[3], side, lengths[4]
-#define AREAS ledger, lengths[0], true_counts, lengths[1], LOOKUP
-
-static int lend_areas(void)
-{
-    if (flow_area_lengths(SETTINGS, lengths, 6) != 0) {
-        return 0;
-    }
-    ledger = malloc(lengths[0]);
-    true_counts = malloc(lengths[1] * sizeof *true_counts);
-    clipped = malloc(lengths[2]);
-    buckets = malloc(lengths[3]);
-    side = malloc(lengths[4]);
-    work = malloc(lengths[5] * sizeof *work);
-    return ledger && true_counts && clipped && buckets && side && work;
-}
-
-static void free_areas(void)
-{
-    free(ledger);
-    free(true_counts);
-    free(clipped);
-    free(buckets);
-    free(side);
-    free(work);
-}
+#define LOOKUP clipped, sizeof clipped, buckets, sizeof buckets, side, sizeof side
+#define AREAS ledger, sizeof ledger, true_counts, 64, LOOKUP
 
 static void add(const char *what, const uint8_t key[KEY])
 {
-    printf("add %s: %" PRIu32 "\n", what, flow_add(SETTINGS, AREAS, work, lengths[5], key, KEY, CLASS));
+    printf("add %s: %" PRIu32 "\n", what, flow_add(SETTINGS, AREAS, work, 2 * 64, key, KEY, CLASS));
 }
 
 /* What a driver does with each packet: its key, and the class of the flow with that key. */
@@ -74,10 +45,6 @@ int main(void)
                                           0x13, 0x8c, 0x13, 0x8c, 5, 222, 0, 0};
     const uint8_t later[HEADER + 22] = {0x45, 0, 0, 42, 0, 7, 0, 185, 64, 17, 0, 0, 10, 0, 0, 1, 10, 0, 0, 2, 0x47, 0x40, 0x11, 0x10};
 
-    if (!lend_areas()) {
-        fputs("no memory for the areas\n", stderr);
-        return 1;
-    }
     printf("clear: %" PRIu32 "\n", flow_clear(SETTINGS, AREAS));
     add("the video", video);
     class_of("first fragment", first, sizeof first);
@@ -90,6 +57,5 @@ int main(void)
     /* ports can be missing only where there are some */
     class_of("first fragment, 3 bytes after the header", first, HEADER + 3);
     class_of("later fragment, 3 bytes after the header", later, HEADER + 3);
-    free_areas();
     return 0;
 }

@@ -63,7 +63,8 @@ later-never-cut q buffer later =
     (λ e. rw e (by-test (header-wrong q) (λ e. rw e (λ f. absurd (omega arith))) (λ e. rw e (λ f. absurd (omega arith))))))
 
 -- the ports stand behind eight bytes of addresses
-behind-addresses : (q four rest : List ℕ) → 20 ≤ length q → length four ≡ 4 → take 4 (drop 8 (take 4 (drop 12 q) ++ take 4 (drop 16 q) ++ four ++ rest)) ≡ four
+behind-addresses : (q four rest : List ℕ) → 20 ≤ length q → length four ≡ 4
+    → take 4 (drop 8 (take 4 (drop 12 q) ++ take 4 (drop 16 q) ++ four ++ rest)) ≡ four
 behind-addresses q four rest long is-four =
     let source : List ℕ = take 4 (drop 12 q) in
     let destination : List ℕ = take 4 (drop 16 q) in
