@@ -16,4 +16,5 @@ pub mod SnapshotLaws
 pub mod PacketLaws
 pub mod FlowrunLaws
 pub mod BenchLoadLaws
+pub mod TrialLaws
 pub mod Cases

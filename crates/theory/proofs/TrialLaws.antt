@@ -1,0 +1,103 @@
+-- Laws of the trials: the run on areas gives the plain ledger's numbers, a load is played call by call, the greatest need fits the side store, and what an
+-- answer of 0 says of the areas.
+use mathlib.Core.Path.{_≡_, refl, sym}
+use mathlib.Core.Bool.{Bool, true, false, cond}
+use mathlib.Core.List.{List, [], _∷_}
+use Prim.Native.Nat.{ℕ, zero, suc, _+_, _*_, _%_, _^_, _≤_, _<_, zero-le}
+use native.Mathlib.Omega.{arith}
+use lib.Dec.{ltb, eqb}
+use borrow.Author.Tests.{ltb-false}
+use Rattle.theory.specs.Lists.{All, any}
+use Rattle.theory.specs.Records.{Record, count-of}
+use Rattle.theory.specs.Settings.{Card, ledger-length, true-length, clipped-length, buckets-length, side-length, work-length}
+use Rattle.theory.specs.Placing.{true-count, side-need, side-records}
+use Rattle.theory.specs.Layout.{Areas, layout, layout-by, side-bytes}
+use Rattle.theory.specs.Ledger.{Call, Reply, Step, side-need-of, plain}
+use Rattle.theory.specs.Calls.{call, shown}
+use Rattle.theory.specs.BenchLoad.{Generator, Drawn, draw, after-call, load-class, load-call, draws, load-calls}
+use Rattle.theory.specs.Trials.{Numbers, no-numbers, greater, counted, counted-all, tried, played, area-bytes, area-above}
+use Rattle.theory.specs.Demands.{Small, HasLayout}
+use Rattle.theory.proofs.ListLaws.{by-test, any-none}
+use Rattle.theory.proofs.SettingsLaws.{Sound}
+use Rattle.theory.proofs.LayoutLaws.{read-count}
+use Rattle.theory.proofs.CallLaws.{has-layout-empty, stays, call-step}
+
+module _ (s : Card) (ok : Sound s) where
+  -- in a layout the side store's count is the side need
+  pub side-count : (l : List Record) → HasLayout s l → count-of (layout s l .side-store) ≡ side-need-of s l
+  unfolding layout layout-by side-bytes side-need-of side-need
+  side-count l g = read-count s (s .side-places) (side-records s (true-count s l) l) (omega (arith, g .need, ok .side-small))
+
+  -- ---- from the layout of a list, the calls on areas give the plain ledger's numbers
+  pub played-tried : (cs : List Call) (l : List Record) (x : Numbers) → All Small cs → HasLayout s l → played s cs (layout s l) x ≡ tried s cs l x
+  unfolding played tried counted-all
+  played-tried [] l x m g = refl
+  played-tried (c ∷ cs) l x m g =
+      let next = stays s ok c l (m .0) g in
+      rw (call-step s ok c l g, side-count (plain s c l .state) next) (played-tried cs (plain s c l .state) _ (m .1) next)
+
+  -- ---- a list that is held fits the side store, and so does the greatest need
+  greater-fits : (a b n : ℕ) → a ≤ n → b ≤ n → greater a b ≤ n
+  greater-fits a b n p q = by-test (ltb a b) (λ e. rw e q) (λ e. rw e p)
+
+  need-fits : (cs : List Call) (l : List Record) (x : Numbers) → All Small cs → HasLayout s l → x .greatest-need ≤ s .side-places
+      → tried s cs l x .greatest-need ≤ s .side-places
+  unfolding tried counted-all counted
+  need-fits [] l x m g h = h
+  need-fits (c ∷ cs) l x m g h =
+      let next = stays s ok c l (m .0) g in
+      need-fits cs (plain s c l .state) _ (m .1) next (greater-fits (x .greatest-need) (side-need-of s (plain s c l .state)) (s .side-places) h (next .need))
+
+  pub greatest-fits : (cs : List Call) → All Small cs → tried s cs [] no-numbers .greatest-need ≤ s .side-places
+  greatest-fits cs m = need-fits cs [] no-numbers m (has-layout-empty s ok) zero-le
+
+-- the empty list, which a cleared table holds, has no side need
+pub cleared-need : (s : Card) → side-need-of s [] ≡ 0
+unfolding side-need-of side-need side-records
+cleared-need s = refl
+
+-- ---- the calls of a load
+small-call : (flows : ℕ) (d : Drawn) → Small (load-call flows d)
+unfolding load-call load-class
+small-call flows d =
+    by-test (eqb (d .first % 4) 0) (λ e. rw e (omega arith))
+    (λ e. by-test (eqb (d .first % 4) 1) (λ f. rw (e, f) (omega arith)) (λ f. by-test (eqb (d .first % 4) 2) (λ h. rw (e, f, h) tt) (λ h. rw (e, f, h) tt)))
+
+pub small-calls : (flows n : ℕ) (g : Generator) → All Small (load-calls flows n g)
+unfolding load-calls draws
+small-calls flows zero g = tt
+small-calls flows (suc n) g = (small-call flows (draw g), small-calls flows n (after-call g))
+
+-- one call of a load is played, and then the rest from the generator after it
+pub played-next : (s : Card) (flows n : ℕ) (g : Generator) (a : Areas) (x : Numbers)
+    → played s (load-calls flows (suc n) g) a x
+    ≡ played s (load-calls flows n (after-call g)) (call s (load-call flows (draw g)) a .state)
+    (counted (call s (load-call flows (draw g)) a .reply) (count-of (call s (load-call flows (draw g)) a .state .side-store)) x)
+unfolding played counted-all load-calls draws
+played-next s flows n g a x = refl
+
+pub played-end : (s : Card) (flows : ℕ) (g : Generator) (a : Areas) (x : Numbers) → played s (load-calls flows 0 g) a x ≡ x
+unfolding played counted-all load-calls draws
+played-end s flows g a x = refl
+
+-- ---- no area above 64 KiB
+pub record Within64K (s : Card) : Type 0 where
+  pub ledger : ledger-length s ≤ 65536
+  pub true-counts : 2 * true-length s ≤ 65536
+  pub clipped-counts : clipped-length s ≤ 65536
+  pub buckets : buckets-length s ≤ 65536
+  pub side-store : side-length s ≤ 65536
+  pub work : 2 * work-length s ≤ 65536
+
+pub within-64k : (s : Card) → area-above s ≡ false → Within64K s
+unfolding area-above area-bytes
+within-64k s e =
+    let each = any-none (λ n. ltb 65536 n) (area-bytes s) e in
+    record {
+      ledger = ltb-false _ _ (each .0);
+      true-counts = ltb-false _ _ (each .1 .0);
+      clipped-counts = ltb-false _ _ (each .1 .1 .0);
+      buckets = ltb-false _ _ (each .1 .1 .1 .0);
+      side-store = ltb-false _ _ (each .1 .1 .1 .1 .0);
+      work = ltb-false _ _ (each .1 .1 .1 .1 .1 .0);
+    }
