@@ -15,7 +15,7 @@ use Rattle.theory.specs.Settings.{in-range}
 use Rattle.theory.specs.BenchLoad.{Generator, draw, after-call, load-class, call-letter, load-key, load-call, call-bytes}
 use Rattle.theory.specs.BenchLoad.{draws, load-bytes, after-calls, load-in, load-asked, load-written}
 use Rattle.theory.proofs.BenchLoadLaws.{length-call, length-load, bytes-more, after-more, load-right, flows-allowed}
-use Rattle.memory.proofs.SliceLaws.{back, length-back, take-back, tail-back, front-length, front-take}
+use Rattle.memory.proofs.SliceLaws.{back, length-back, take-back, tail-back, length-tail, front-length, front-take}
 use Rattle.bench_load.specs.declared.Generator as code
 use Rattle.bench_load.specs.declared.BenchLoad.{BenchLoad}
 use Rattle.bench_load.specs.declared.Asked.{Asked}
@@ -27,22 +27,35 @@ pub search-letter : (flows first second : ℕ) → first % 4 ≢ 0 → first % 4
 unfolding load-call
 search-letter flows first second a b c = rw (ne-eqb (first % 4) 0 a, ne-eqb (first % 4) 1 b, ne-eqb (first % 4) 2 c)
 
--- a call is its letter, eight bytes, five zeros and four bytes
-pub call-written : (flows first second letter : ℕ) (eight zeros four : List ℕ) → letter ≡ call-letter (load-call flows (drawn first second))
-    → eight ≡ to-bytes 8 (second % flows) → zeros ≡ replicate 5 0 → four ≡ to-bytes 4 (first % 4294967296)
-    → letter ∷ (eight ++ (zeros ++ four)) ≡ call-bytes flows (drawn first second)
-unfolding call-bytes record-bytes load-key load-class
-call-written flows first second letter eight zeros four e f g h = rw (e, f, g, h, append-assoc)
+-- a key is eight bytes at the front of a part and zeros after them
+module _ (to eight : List ℕ) (size : length to ≡ 13) (e : length eight ≡ 8) where
+  front-long : length (eight ++ drop 8 to) ≡ 13
+  front-long = front-length 8 to eight (omega arith) e ∙ size
 
--- these put into a part one after the other: the part after each of the first three, and once the four bytes are back
+  pub zeros-lent : length (take (length (eight ++ drop 8 to) - 8) (drop 8 (eight ++ drop 8 to))) ≡ 5
+  zeros-lent = length-tail 8 (eight ++ drop 8 to) (omega (arith, front-long)) ∙ omega (arith, front-long)
+
+  pub key-back : (zeros : List ℕ) → back 8 (length (eight ++ drop 8 to) - 8) (eight ++ drop 8 to) zeros ≡ eight ++ zeros
+  key-back zeros = rw (tail-back 8 (eight ++ drop 8 to) zeros (omega (arith, front-long)), front-take 8 to eight (omega arith) e)
+
+pub key-written : (flows first second : ℕ) (eight zeros : List ℕ) → eight ≡ to-bytes 8 (second % flows) → zeros ≡ replicate 5 0
+    → eight ++ zeros ≡ load-key flows (drawn first second)
+unfolding load-key
+key-written flows first second eight zeros e f = rw (e, f)
+
+-- a call is its letter, its key and its class
+pub call-written : (flows first second letter : ℕ) (key class : List ℕ) (x : ℕ) → letter ≡ call-letter (load-call flows (drawn first second))
+    → key ≡ load-key flows (drawn first second) → class ≡ to-bytes 4 x → x ≡ load-class (drawn first second)
+    → letter ∷ (key ++ class) ≡ call-bytes flows (drawn first second)
+unfolding call-bytes record-bytes
+call-written flows first second letter key class x e f g h = rw (e, f, g, h)
+
+-- these put into a part one after the other: the part after each of the first two, and once the class is back
 abbrev pub lettered : List ℕ → ℕ → List ℕ
 lettered to letter = set to 0 letter
 
 abbrev pub keyed : List ℕ → ℕ → List ℕ → List ℕ
-keyed to letter eight = back 1 8 (lettered to letter) eight
-
-abbrev pub padded : List ℕ → ℕ → List ℕ → List ℕ → List ℕ
-padded to letter eight zeros = back 9 5 (keyed to letter eight) zeros
+keyed to letter key = back 1 13 (lettered to letter) key
 
 module _ (to : List ℕ) (letter : ℕ) (size : length to ≡ 18) where
   pub lettered-long : length (lettered to letter) ≡ 18
@@ -52,20 +65,14 @@ module _ (to : List ℕ) (letter : ℕ) (size : length to ≡ 18) where
   letter-first [] h = absurd (omega arith)
   letter-first (x ∷ xs) h = refl
 
-  module _ (eight : List ℕ) (e : length eight ≡ 8) where
-    pub keyed-long : length (keyed to letter eight) ≡ 18
-    keyed-long = length-back 1 8 (lettered to letter) eight (omega (arith, lettered-long)) e ∙ lettered-long
+  module _ (key : List ℕ) (e : length key ≡ 13) where
+    pub keyed-long : length (keyed to letter key) ≡ 18
+    keyed-long = length-back 1 13 (lettered to letter) key (omega (arith, lettered-long)) e ∙ lettered-long
 
-    module _ (zeros : List ℕ) (f : length zeros ≡ 5) where
-      pub padded-long : length (padded to letter eight zeros) ≡ 18
-      padded-long = length-back 9 5 (keyed to letter eight) zeros (omega (arith, keyed-long)) f ∙ keyed-long
-
-      pub call-back : (four : List ℕ)
-          → back 14 (length (padded to letter eight zeros) - 14) (padded to letter eight zeros) four ≡ letter ∷ (eight ++ (zeros ++ four))
-      call-back four =
-          rw (tail-back 14 (padded to letter eight zeros) four (omega (arith, padded-long)))
-          (rw (take-back 9 5 (keyed to letter eight) zeros (omega (arith, keyed-long)) f)
-          (rw (take-back 1 8 (lettered to letter) eight (omega (arith, lettered-long)) e, letter-first to size, append-assoc)))
+    pub call-back : (class : List ℕ) → back 14 (length (keyed to letter key) - 14) (keyed to letter key) class ≡ letter ∷ (key ++ class)
+    call-back class =
+        rw (tail-back 14 (keyed to letter key) class (omega (arith, keyed-long)))
+        (rw (take-back 1 13 (lettered to letter) key (omega (arith, lettered-long)) e, letter-first to size, append-assoc))
 
 -- ---- a buffer of n bytes up to `at`: so many calls from g, and the generator after them
 pub record Filled (flows : ℕ) (g : Generator) (n : ℕ) (to : List ℕ) (now : Generator) (at : ℕ) : Type 0 where

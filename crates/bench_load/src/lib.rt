@@ -7,7 +7,7 @@ ghost use mathlib.Core.Path.{_≡_};
 ghost use Prim.Native.Nat.{ℕ, _/_, _%_, _<_, min};
 ghost use lib.ListN.{length};
 ghost use Rattle.theory.specs.Settings.{in-range};
-ghost use Rattle.theory.specs.BenchLoad.{stepped, next-number, draw, after-call, call-letter, load-call, call-bytes};
+ghost use Rattle.theory.specs.BenchLoad.{stepped, next-number, draw, after-call, load-class, call-letter, load-key, load-call, call-bytes};
 ghost use Rattle.theory.specs.BenchLoad.{load-bytes, after-calls, load-asked};
 ghost use Rattle.bench_load.specs.Loads.{generator-of, drawn, asked-of, Cut};
 
@@ -49,27 +49,61 @@ fn letter(first: u64) -> u8
     }
 }
 
-// A call for flowrun of two numbers. "the key is the second mod F in eight bytes, high byte first, then five zero bytes; the class is the low 32 bits of
-// the first": it stands there for a removal and a search too.
+// "the key is the second mod F in eight bytes, high byte first, then five zero bytes"
+pub fn write_key(to: &mut [u8], flows: u64, second: u64)
+    requires { ⌜ (length (now to) ≡ 13) × (0 < flows) ⌝ }
+    ensures { λ _. ⌜ ((first : ℕ) → now (to .exit) ≡ load-key flows (drawn first second)) ⌝ }
+{
+    write_eight(&mut to[..8], second % flows);
+    zero_fill(&mut to[8..]);
+}
+
+// "the class is the low 32 bits of the first"
+pub fn class_of(first: u64) -> u32
+    ensures { λ r. ⌜ ((second : ℕ) → r ≡ load-class (drawn first second)) ⌝ }
+{
+    (first % 4294967296) as u32
+}
+
+// A call for flowrun of two numbers: letter, key, class, which stands there for a removal and a search too.
 fn write_call(to: &mut [u8], flows: u64, first: u64, second: u64)
     requires { ⌜ (length (now to) ≡ 18) × (0 < flows) ⌝ }
     ensures { λ _. ⌜ now (to .exit) ≡ call-bytes flows (drawn first second) ⌝ }
 {
     to[0] = letter(first);
-    write_eight(&mut to[1..9], second % flows);
-    zero_fill(&mut to[9..14]);
-    write_class(&mut to[14..], (first % 4294967296) as u32);
+    write_key(&mut to[1..14], flows, second);
+    write_class(&mut to[14..], class_of(first));
 }
 
-// "Each call takes two numbers": the next call of a generator, and the generator after it.
+// "Each call takes two numbers": these, and the generator after them.
+pub struct Drawn {
+    pub first: u64,
+    pub second: u64,
+    pub after: Generator,
+}
+
+pub fn next_two(generator: Generator) -> Drawn
+    ensures { λ r. ⌜ (drawn (r .first) (r .second) ≡ draw (generator-of generator))
+        × (generator-of (r .after) ≡ after-call (generator-of generator)) ⌝ }
+{
+    let one = advance(generator);
+    let two = advance(one.generator);
+    let after = two.generator;
+    Drawn {
+        first: one.number,
+        second: two.number,
+        after,
+    }
+}
+
+// The next call of a generator, and the generator after it.
 fn write_next(to: &mut [u8], flows: u64, generator: Generator) -> Generator
     requires { ⌜ (length (now to) ≡ 18) × (0 < flows) ⌝ }
     ensures { λ r. ⌜ (now (to .exit) ≡ call-bytes flows (draw (generator-of generator))) × (generator-of r ≡ after-call (generator-of generator)) ⌝ }
 {
-    let one = advance(generator);
-    let two = advance(one.generator);
-    write_call(to, flows, one.number, two.number);
-    two.generator
+    let two = next_two(generator);
+    write_call(to, flows, two.first, two.second);
+    two.after
 }
 
 // As many calls as a buffer holds, and the generator after them.
