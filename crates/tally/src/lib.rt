@@ -162,7 +162,13 @@ fn count_all(s: Settings, ledger: &[u8], buckets: &[u8], side: &[u8]) -> Totals
 }
 
 // Tally on allowed settings and areas of their lengths: 4, then 5, then the four numbers.
-fn tally_checked(s: Settings, ledger: &[u8], clipped: &[u8], buckets: &[u8], side: &[u8]) -> Totals
+pub fn tally_checked(
+    s: Settings,
+    ledger: &[u8],
+    clipped: &[u8],
+    buckets: &[u8],
+    side: &[u8],
+) -> Totals
     requires { ⌜ CheckedLookup (paper s) (now clipped) (now buckets) (now side) × (length (now ledger) ≡ ledger-length (card s)) ⌝ }
     ensures { λ r. ⌜ totals-of r ≡ tally-areas (card s) (entry-read ledger clipped buckets side) ⌝ }
 {

@@ -22,12 +22,12 @@ use Rattle.update.specs.declared.editing.Edit.the-variants.{Insert, Repl
 use Rattle.update.specs.Editing.{edit-call}
 
 -- ---- the three edits are calls of one shape
-refused-is : (edit : Edit) (k : List ℕ) (x n : ℕ) → refused-reply (edit-call edit k x) n ≡ answered (bare n)
+pub refused-is : (edit : Edit) (k : List ℕ) (x n : ℕ) → refused-reply (edit-call edit k x) n ≡ answered (bare n)
 refused-is Insert k x n = refl
 refused-is Replace k x n = refl
 refused-is Remove k x n = refl
 
-shape : (edit : Edit) (k : List ℕ) (x : ℕ) (c : Card) (w : ℕ) (a : Areas)
+pub shape : (edit : Edit) (k : List ℕ) (x : ℕ) (c : Card) (w : ℕ) (a : Areas)
     → (lent-lengths c w (edit-call edit k x) a ≡ eqb w (work-length c) ∷ all-lengths c a) × (call c (edit-call edit k x) a ≡ update c k (edit-call edit k x) a)
 unfolding lent-lengths call
 shape Insert k x c w a = (refl, refl)

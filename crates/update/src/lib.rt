@@ -39,8 +39,8 @@ fn record_of(key: &[u8], class: u32, size: usize) -> [u8; 64]
     buffer
 }
 
-// Add, change or remove on allowed settings and areas of their lengths: 3 and what judging refuses; else the layout is written.
-fn update_checked(
+// Add, change or remove on allowed settings and areas of their lengths: 3 and what judging refuses; else the layout is written. The table is lent.
+pub fn update_checked(
     s: Settings,
     table: &[u64],
     edit: Edit,
