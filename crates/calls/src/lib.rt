@@ -52,13 +52,7 @@ fn refused(kind: Kind, number: u32) -> Reply
     ensures { λ r. ⌜ ((key : List ℕ) (class : ℕ) → reply-of r ≡ plain.refused-reply (call-of kind key class) number) ⌝ }
 {
     match kind {
-        Kind::Tally => Reply::Totalled(Totals {
-            number,
-            in_buckets: 0,
-            in_side: 0,
-            marked_255: 0,
-            fill: 0,
-        }),
+        Kind::Tally => Reply::Totalled(tally::no_totals(number)),
         _ => answer_only(number),
     }
 }

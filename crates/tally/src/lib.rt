@@ -31,7 +31,8 @@ pub struct Totals {
     pub fill: u32,
 }
 
-fn no_totals(number: u32) -> Totals
+// The number, with no totals.
+pub fn no_totals(number: u32) -> Totals
     ensures { λ r. ⌜ totals-of r ≡ ledgers.no-totals number ⌝ }
 {
     Totals {
