@@ -1,0 +1,4 @@
+pub mod JudgeTrialLaws
+pub mod TrialNumberLaws
+pub mod TrialLineLaws
+pub mod PlayLaws
