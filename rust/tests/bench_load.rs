@@ -6,11 +6,10 @@ use model::bench_load::{self as paper, call_of, output, Load, INPUT_BYTES};
 use model::flowrun::CALL_BYTES;
 use std::io::{Read, Write};
 use std::os::unix::process::ExitStatusExt;
-use std::process::{Child, Command, ExitStatus, Stdio};
-use std::thread;
-use std::time::{Duration, Instant};
-use testing::made::random_bytes;
-use testing::programs::{flowrun_compared_whole, note_lines, program, run, run_in_pieces};
+use std::process::{Command, Stdio};
+use std::time::Duration;
+use testing::made::{load, random_bytes};
+use testing::programs::{end_of, flowrun_compared_whole, note_lines, program, run, run_in_pieces};
 use testing::random::Random;
 use testing::seen::Seen;
 
@@ -19,10 +18,6 @@ const GENERATORS: usize = 100;
 const NUMBERS: u64 = 1_000_000;
 // so many calls the program writes at once
 const PIECE: u64 = 3640;
-
-fn load(s: u64, w: u64, f: u64, count: u64) -> Vec<u8> {
-    [s, w, f, count].map(u64::to_be_bytes).concat()
-}
 
 // The program's output, which is the model's: compared call by call first, so that a failure names its call.
 fn compared(input: &[u8]) -> Vec<u8> {
@@ -181,21 +176,6 @@ fn numbers_refused() {
     }
     println!("{tried} loads refused");
     assert_eq!(tried, 3 * 4 * (3 * 10 * 2 - 3));
-}
-
-// How it ends, within a minute, which no run needs.
-fn end_of(child: &mut Child) -> ExitStatus {
-    let start = Instant::now();
-    loop {
-        if let Some(status) = child.try_wait().unwrap() {
-            return status;
-        }
-        if start.elapsed() > Duration::from_secs(60) {
-            child.kill().unwrap();
-            panic!("the program goes on although nobody reads any more");
-        }
-        thread::sleep(Duration::from_millis(1));
-    }
 }
 
 // As many calls as a count can say, and a reader that leaves after some bytes. The signal SIGPIPE may end the program; where it was started with

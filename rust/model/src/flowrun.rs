@@ -20,7 +20,7 @@ pub fn output(input: &[u8]) -> String {
     let mut ledger = Ledger::default();
     let mut text = String::from("call op answer class buckets compared\n");
     for (i, call) in input.chunks(CALL_BYTES).enumerate() {
-        let (letter, answer) = line(&card, &mut ledger, call);
+        let (letter, answer) = perform(&card, &mut ledger, call);
         let Answer {
             number,
             class,
@@ -37,8 +37,8 @@ pub fn output(input: &[u8]) -> String {
     text
 }
 
-/// The letter printed, and the answer with the class found or written.
-fn line(card: &Card, ledger: &mut Ledger, call: &[u8]) -> (char, Answer) {
+/// A call on the plain ledger: the letter printed, and the answer with the class found or written.
+pub fn perform(card: &Card, ledger: &mut Ledger, call: &[u8]) -> (char, Answer) {
     if call.len() < CALL_BYTES {
         return ('?', Answer::refused(14));
     }

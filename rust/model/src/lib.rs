@@ -15,3 +15,4 @@ pub mod placing;
 pub mod records;
 pub mod settings;
 pub mod snapshot;
+pub mod trials;

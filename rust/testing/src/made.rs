@@ -333,3 +333,8 @@ pub fn random_work(random: &mut Random, settings: &Model) -> Vec<u16> {
 pub fn resize<T: Clone + Default>(random: &mut Random, area: &mut Vec<T>) {
     area.resize(wrong_length(random, area.len()), T::default());
 }
+
+/// A load for the bench: s, w, F and the count of calls, in eight bytes each, high byte first.
+pub fn load(s: u64, w: u64, f: u64, count: u64) -> Vec<u8> {
+    [s, w, f, count].map(u64::to_be_bytes).concat()
+}

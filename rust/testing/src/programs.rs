@@ -4,9 +4,9 @@ use crate::seen::Seen;
 use model::flowrun;
 use std::io::{ErrorKind, Read, Write};
 use std::path::{Path, PathBuf};
-use std::process::{Command, Stdio};
+use std::process::{Child, Command, ExitStatus, Stdio};
 use std::thread;
-use std::time::Duration;
+use std::time::{Duration, Instant};
 
 // As much at once as a pipe holds.
 const WHOLE: &[usize] = &[65536];
@@ -71,6 +71,24 @@ pub fn run_in_pieces(
     feeder.join().unwrap();
     assert!(ended.status.success() && ended.stderr.is_empty());
     output
+}
+
+/// More than any run under test needs.
+pub const DEADLINE: Duration = Duration::from_secs(60);
+
+/// How a program ends, which it must within [`DEADLINE`].
+pub fn end_of(child: &mut Child) -> ExitStatus {
+    let start = Instant::now();
+    loop {
+        if let Some(status) = child.try_wait().unwrap() {
+            return status;
+        }
+        if start.elapsed() > DEADLINE {
+            child.kill().unwrap();
+            panic!("the program does not end");
+        }
+        thread::sleep(Duration::from_millis(1));
+    }
 }
 
 /// flowrun's output on an input in pieces, which is the model's: compared line by line first, so that a failure names its call.
