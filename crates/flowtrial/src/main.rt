@@ -2,10 +2,13 @@
 // is run. It only reads and writes; crate trials judges, plays and makes the lines.
 use bench_load::Asked;
 use bench_load::BenchLoad;
+use trials::Trials;
 ghost use mathlib.Core.Path.{_≡_};
-ghost use Prim.Native.Nat.{_<_};
+ghost use mathlib.Core.Bool.{true};
+ghost use Prim.Native.Nat.{suc};
 ghost use lib.ListN.{length};
 ghost use Rattle.trials.specs.Playing.{Playable, Lent};
+ghost use Rattle.trials.specs.Telling.{TrialsPlayable};
 
 // 64 KiB of two-byte numbers.
 fn large_numbers() -> [u16; 32768]
@@ -14,28 +17,33 @@ fn large_numbers() -> [u16; 32768]
     [0; 32768]
 }
 
-// The next trial, under its number; whether more may follow.
+// What is left after a trial, and whether its line was written and more may follow.
+struct Next {
+    left: Trials,
+    more: bool,
+}
+
+// The next trial: its settings read, its line written.
 fn run_next(
-    number: u64,
-    load: BenchLoad,
+    left: Trials,
     ledger: &mut [u8],
     true_counts: &mut [u16],
     clipped: &mut [u8],
     buckets: &mut [u8],
     side: &mut [u8],
     work: &mut [u16],
-) -> bool
-    requires { ⌜ Playable load × Lent (now ledger) (now «true_counts») (now clipped) (now buckets) (now side) (now work) ⌝ }
+) -> Next
+    requires { ⌜ TrialsPlayable left × Lent (now ledger) (now «true_counts») (now clipped) (now buckets) (now side) (now work) ⌝ }
+    ensures { λ r. ⌜ (r .more ≡ true → (r .left .load ≡ left .load) × (r .left .number ≡ suc (left .number))) ⌝ }
 {
     let mut settings = [0u8; 12];
     let got = io::read_full(0, &mut settings);
     if got == 0 {
-        return false;
+        return Next { left, more: false };
     }
     let mut line = [0u8; 168];
-    let end = trials::write_trial(
-        number,
-        load,
+    let told = trials::tell_next(
+        left,
         &settings[..got],
         ledger,
         true_counts,
@@ -45,7 +53,12 @@ fn run_next(
         work,
         &mut line,
     );
-    io::write_all(1, &line[..end]) & (got == 12)
+    let bytes = told.bytes;
+    let rest = told.rest;
+    Next {
+        left: rest,
+        more: io::write_all(1, &line[..bytes]) & (got == 12),
+    }
 }
 
 // Trials up to the end of the input. A proved loop has to end, and nothing says that an input does: no run comes to the last number.
@@ -60,22 +73,13 @@ fn run_trials(
 )
     requires { ⌜ Playable load × Lent (now ledger) (now «true_counts») (now clipped) (now buckets) (now side) (now work) ⌝ }
 {
-    let mut number: u64 = 1;
-    while number < 1125899906842624 {
-        let more = run_next(
-            number,
-            load,
-            ledger,
-            true_counts,
-            clipped,
-            buckets,
-            side,
-            work,
-        );
-        if !more {
+    let mut left = trials::all_trials(load);
+    while left.number < 1125899906842624 {
+        let next = run_next(left, ledger, true_counts, clipped, buckets, side, work);
+        if !next.more {
             return;
         }
-        number += 1;
+        left = next.left;
     }
 }
 

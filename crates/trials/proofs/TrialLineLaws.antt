@@ -1,12 +1,19 @@
--- Laws of a trial's line: the eight fields one after another, and a line at the start of a buffer.
-use mathlib.Core.Path.{_≡_, refl}
-use mathlib.Core.List.{List, [], _∷_, _++_}
-use Prim.Native.Nat.{ℕ}
+-- Laws of a trial's line: the eight fields one after another, a line at the start of a buffer, and the lines of the trials after it.
+use mathlib.Core.Path.{_≡_, refl, sym, _∙_}
+use mathlib.Core.List.{List, [], _∷_, _++_, append-nil}
+use Prim.Native.Nat.{ℕ, suc, _+_}
+use native.Mathlib.Numerals.{add-one}
+use lib.ListN.{take}
+use lib.Seq.{take-at, drop-at, take-all}
 use Rattle.theory.specs.Flowrun.{decimal, then-space, then-line-feed}
 use Rattle.theory.specs.BenchLoad.{BenchLoad}
-use Rattle.theory.specs.Trials.{Numbers, trial-answer, trial-line, trial-numbers, trial-text}
+use Rattle.theory.specs.Trials.{Numbers, trial-answer, trial-line, trial-numbers, trial-text, trial-lines}
+use Rattle.io.specs.Counts.{Counts}
+use Rattle.bench_load.specs.Loads.{load-of}
 use Rattle.text.specs.Writing.{Writes, Appends}
 use Rattle.text.proofs.TextLaws.{appends-then}
+use Rattle.trials.specs.declared.Trials.{Trials}
+use Rattle.trials.specs.Telling.{Tells}
 
 -- a field, and the text after it
 field-then : (n : ℕ) (u a b c : List ℕ) (i j k : ℕ) → Appends (then-space (decimal n)) a i b j → Appends u b j c k
@@ -37,3 +44,21 @@ pub text-written : (load : BenchLoad) (number : ℕ) (b : List ℕ) {answer : �
     → x ≡ trial-numbers load b → Appends (trial-line number answer x) before 0 after n → Writes (trial-text load number b) before after n
 unfolding trial-text
 text-written load number b e f line = rw (← e, ← f) (line _ [] (refl, refl))
+
+-- ---- the line of the next trial, and the lines of the rest after it
+pub tells : (left rest : Trials) (settings before after : List ℕ) (n : ℕ)
+    → Writes (trial-text (load-of (left .load)) (left .number) settings) before after n × Counts n after → rest .load ≡ left .load
+    → rest .number ≡ left .number + 1 → Tells left settings before after n rest
+unfolding trial-lines
+tells left rest settings before after n written same next =
+    let text = trial-text (load-of (left .load)) (left .number) settings in
+    let line : take n after ≡ text = rw (written .0 .1) (take-at text _ n (sym (written .0 .0))) in
+    let one : rest .number ≡ suc (left .number) = next ∙ add-one (left .number) in
+    record {
+      line = written .0;
+      inside = written .1;
+      whole = λ long k later. rw (line, same, one, take-at settings later 12 long, drop-at settings later 12 long);
+      last = λ short. rw (line, take-all 12 settings short, append-nil);
+      same = same;
+      next = one;
+    }

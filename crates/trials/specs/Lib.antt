@@ -1,2 +1,3 @@
 pub mod Data
 pub mod Playing
+pub mod Telling

@@ -16,6 +16,7 @@ ghost use Rattle.text.specs.Writing.{Writes, Appends};
 ghost use Rattle.io.specs.Counts.{Counts};
 ghost use Rattle.trials.specs.Data.{numbers-of};
 ghost use Rattle.trials.specs.Playing.{Playable, Lent};
+ghost use Rattle.trials.specs.Telling.{TrialsPlayable, Tells};
 
 pub mod judging; // judging.rt: a trial's answer
 pub mod numbers; // numbers.rt: what the calls of a load add up to
@@ -87,7 +88,7 @@ fn append_line(to: &mut [u8], at: usize, number: u64, answer: u32, x: Numbers) -
 }
 
 // The line of a trial at the start of a buffer, and how many bytes it has: the one that the plain ledger gives for the load and the trial's settings.
-pub fn write_trial(
+fn write_trial(
     number: u64,
     load: BenchLoad,
     settings: &[u8],
@@ -115,4 +116,60 @@ pub fn write_trial(
     );
     let numbers = trial.numbers;
     append_line(to, 0, number, trial.answer, numbers)
+}
+
+// The trials of an input that are left: their load, and the number of the next one.
+pub struct Trials {
+    pub load: BenchLoad,
+    pub number: u64,
+}
+
+// "the trial's number from 1"
+pub fn all_trials(load: BenchLoad) -> Trials
+    ensures { λ r. ⌜ (r .load ≡ load) × (r .number ≡ 1) ⌝ }
+{
+    Trials { load, number: 1 }
+}
+
+// How many bytes the line of a trial has, and the trials after it, which play the same load from its own start.
+pub struct Told {
+    pub bytes: usize,
+    pub rest: Trials,
+}
+
+// Runs the next trial; its line at the start of a buffer.
+pub fn tell_next(
+    left: Trials,
+    settings: &[u8],
+    ledger: &mut [u8],
+    true_counts: &mut [u16],
+    clipped: &mut [u8],
+    buckets: &mut [u8],
+    side: &mut [u8],
+    work: &mut [u16],
+    to: &mut [u8],
+) -> Told
+    requires { ⌜ TrialsPlayable left × Lent (now ledger) (now «true_counts») (now clipped) (now buckets) (now side) (now work) × (168 ≤ length (now to)) ⌝ }
+    ensures { λ r. ⌜ Tells left (now (settings .entry)) (now (to .entry)) (now (to .exit)) (r .bytes) (r .rest) ⌝ }
+{
+    let load = left.load;
+    let bytes = write_trial(
+        left.number,
+        load,
+        settings,
+        ledger,
+        true_counts,
+        clipped,
+        buckets,
+        side,
+        work,
+        to,
+    );
+    Told {
+        bytes,
+        rest: Trials {
+            load,
+            number: left.number + 1,
+        },
+    }
 }

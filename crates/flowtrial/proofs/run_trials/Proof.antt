@@ -1,32 +1,47 @@
--- `flowtrial::run_trials` ends: each trial is one of so many; the areas keep their lengths.
-use mathlib.Core.Path.{_≡_, refl}
-use Prim.Native.Nat.{_-_}
+-- `flowtrial::run_trials` ends: each trial is one of so many. The areas keep their lengths, and the load stays.
+use mathlib.Core.Path.{_≡_, refl, sym, subst, _∙_}
+use Prim.Native.Nat.{_-_, suc}
 use native.Mathlib.Omega.{arith}
 use borrow.Author.Needs.{needs}
+use borrow.Author.Tests.{not-false}
 use lib.ListN.{length}
+use Rattle.trials.specs.Playing.{Playable}
 use Rattle.trials.proofs.PlayLaws.{lent-kept}
 use Rattle.flowtrial.proofs.run_trials.Statement.{statement}
 use Rattle.flowtrial.proofs.run_trials.Tie as tie
 
 abbrev Inv-loop : tie.InvT-loop
-Inv-loop load ledger₀ true-counts₀ clipped₀ buckets₀ side₀ work₀ number₀ ledger true-counts clipped buckets side work number =
+Inv-loop ledger₀ true-counts₀ clipped₀ buckets₀ side₀ work₀ left₀ ledger true-counts clipped buckets side work left =
     (length ledger ≡ length ledger₀) × (length true-counts ≡ length true-counts₀) × (length clipped ≡ length clipped₀)
-    × (length buckets ≡ length buckets₀) × (length side ≡ length side₀) × (length work ≡ length work₀)
+    × (length buckets ≡ length buckets₀) × (length side ≡ length side₀) × (length work ≡ length work₀) × (left .load ≡ left₀ .load)
 
 abbrev μ-loop : tie.MeasureT-loop
-μ-loop load ledger₀ true-counts₀ clipped₀ buckets₀ side₀ work₀ number₀ ledger true-counts clipped buckets side work number =
-    1125899906842624 - number
+μ-loop ledger₀ true-counts₀ clipped₀ buckets₀ side₀ work₀ left₀ ledger true-counts clipped buckets side work left =
+    1125899906842624 - left .number
 
 run-next-requires : tie.Need-run-next-requires Inv-loop μ-loop
 run-next-requires c κs =
-    let turn = c .before .before .before .before .before .before .before in
-    let pre = turn .before .before .before .before .before .before .before .pre in
-    let inv = turn .loop .inv in
-    (pre .0, lent-kept (pre .1) _ _ _ _ _ _ (inv .0) (inv .1) (inv .2) (inv .3) (inv .4) (inv .5))
+    let inv = c .before .before .before .before .before .before .before .before .loop .inv in
+    let first = c .before .before .before .before .before .before .before .before .before in
+    let pre = first .before .before .before .before .before .before .before .pre in
+    let same = inv .6 ∙ first .all-trials .ensures .0 in (
+      record { load = subst Playable (sym same) (pre .0); number = omega (arith, c .before .before .before .before .before .before .if1 .taken) },
+      lent-kept (pre .1) _ _ _ _ _ _ (inv .0) (inv .1) (inv .2) (inv .3) (inv .4) (inv .5),
+    )
+
+loop-again : tie.Need-loop-again Inv-loop μ-loop
+loop-again c =
+    let next = c .before .before .before .before .before .before .before .before .before .before .before .before .before .before .before .run-next .ensures (not-false _ (c .before .if2 .left)) in
+    let inv = c .before .before .before .before .before .before .before .before .before .before .before .before .before .before .before .before .before .before .before .before .before .before .before .before .loop .inv in
+    (search needs, search needs, search needs, search needs, search needs, search needs, next .0 ∙ inv .6)
+
+loop-less : tie.Need-loop-less Inv-loop μ-loop
+loop-less c =
+    let next = c .before .before .before .before .before .before .before .before .before .before .before .before .before .before .before .run-next .ensures (not-false _ (c .before .if2 .left)) in
+    omega (arith, next .1, c .before .before .before .before .before .before .before .before .before .before .before .before .before .before .before .before .before .before .before .before .before .before .if1 .taken)
 
 pub run-trials-spec : {M : Type 1} → statement M
 run-trials-spec =
-    tie.close (tie.spec Inv-loop μ-loop (λ c. (refl, refl, refl, refl, refl, refl)) run-next-requires (λ c. search needs) (λ c. search needs)
-    (λ c. search needs) (λ c. search needs) (λ c. search needs) (λ c. search needs) (λ c. tt) (λ c. omega arith) (λ c. omega arith)
-    (λ c. (search needs, search needs, search needs, search needs, search needs, search needs)) (λ c. search needs) (λ c. search needs)
-    (λ c. search needs) (λ c. search needs) (λ c. search needs) (λ c. search needs) (λ c. tt))
+    tie.close (tie.spec Inv-loop μ-loop (λ c κs. search needs) (λ c. (refl, refl, refl, refl, refl, refl, refl)) run-next-requires (λ c. search needs)
+    (λ c. search needs) (λ c. search needs) (λ c. search needs) (λ c. search needs) (λ c. search needs) (λ c. tt) loop-less loop-again (λ c. search needs)
+    (λ c. search needs) (λ c. search needs) (λ c. search needs) (λ c. search needs) (λ c. search needs) (λ c. tt))
