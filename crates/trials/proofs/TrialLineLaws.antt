@@ -1,16 +1,14 @@
--- Laws of a trial's line: the eight fields one after another, a line at the start of a buffer, and the lines of the trials after it.
+-- Laws of a trial's line: the eight fields one after another, and a line at the start of a buffer before those of the trials after it.
 use mathlib.Core.Path.{_≡_, refl, sym, _∙_}
 use mathlib.Core.List.{List, [], _∷_, _++_, append-nil}
-use Prim.Native.Nat.{ℕ, suc, _+_}
+use Prim.Native.Nat.{ℕ, _+_, _≤_}
 use native.Mathlib.Numerals.{add-one}
-use lib.ListN.{take}
-use lib.Seq.{take-at, drop-at, take-all}
+use lib.ListN.{length, take}
+use lib.Seq.{take-at, drop-at, take-all, length-take-le}
 use Rattle.theory.specs.Flowrun.{decimal, then-space, then-line-feed}
-use Rattle.theory.specs.BenchLoad.{BenchLoad}
 use Rattle.theory.specs.Trials.{Numbers, trial-answer, trial-line, trial-numbers, trial-text, trial-lines}
-use Rattle.io.specs.Counts.{Counts}
 use Rattle.bench_load.specs.Loads.{load-of}
-use Rattle.text.specs.Writing.{Writes, Appends}
+use Rattle.text.specs.Writing.{Appends}
 use Rattle.text.proofs.TextLaws.{appends-then}
 use Rattle.trials.specs.declared.Trials.{Trials}
 use Rattle.trials.specs.Telling.{Tells}
@@ -39,24 +37,20 @@ line-after number answer x a₀ a₁ a₂ a₃ a₄ a₅ a₆ a₇ a₈ n₀ n�
     (field-then (x .refused-7) _ a₄ a₅ a₈ n₄ n₅ n₈ f₅
     (field-then (x .refused-8) _ a₅ a₆ a₈ n₅ n₆ n₈ f₆ (field-then (x .refused-9) _ a₆ a₇ a₈ n₆ n₇ n₈ f₇ f₈))))))
 
--- what a trial tells, at the start of a buffer, is its text
-pub text-written : (load : BenchLoad) (number : ℕ) (b : List ℕ) {answer : ℕ} {x : Numbers} {before after : List ℕ} {n : ℕ} → answer ≡ trial-answer b
-    → x ≡ trial-numbers load b → Appends (trial-line number answer x) before 0 after n → Writes (trial-text load number b) before after n
-unfolding trial-text
-text-written load number b e f line = rw (← e, ← f) (line _ [] (refl, refl))
-
--- ---- the line of the next trial, and the lines of the rest after it
-pub tells : (left rest : Trials) (settings before after : List ℕ) (n : ℕ)
-    → Writes (trial-text (load-of (left .load)) (left .number) settings) before after n × Counts n after → rest .load ≡ left .load
-    → rest .number ≡ left .number + 1 → Tells left settings before after n rest
-unfolding trial-lines
-tells left rest settings before after n written same next =
-    let text = trial-text (load-of (left .load)) (left .number) settings in
-    let line : take n after ≡ text = rw (written .0 .1) (take-at text _ n (sym (written .0 .0))) in
-    let one : rest .number ≡ suc (left .number) = next ∙ add-one (left .number) in
+-- ---- what the next trial tells at the start of a buffer, and the lines of the rest after it
+pub tells : (left rest : Trials) (settings : List ℕ) {answer : ℕ} {x : Numbers} {before after : List ℕ} {n : ℕ} → answer ≡ trial-answer settings
+    → x ≡ trial-numbers (load-of (left .load)) settings → Appends (trial-line (left .number) answer x) before 0 after n → n ≤ length after
+    → rest .load ≡ left .load → rest .number ≡ left .number + 1 → Tells left settings before after n rest
+unfolding trial-text trial-lines
+tells left rest settings {after = after} {n = n} e f appended inside same next =
+    let load = load-of (left .load) in
+    let text = trial-text load (left .number) settings in
+    let written = rw (e, f) at (appended _ [] (refl, refl)) in
+    let line : take n after ≡ text = rw (written .1) (take-at text _ n (sym (written .0))) in
+    let one = next ∙ add-one (left .number) in
     record {
-      line = written .0;
-      inside = written .1;
+      line = written;
+      inside = (inside, sym (length-take-le n _ inside));
       whole = λ long k later. rw (line, same, one, take-at settings later 12 long, drop-at settings later 12 long);
       last = λ short. rw (line, take-all 12 settings short, append-nil);
       same = same;

@@ -10,10 +10,9 @@ use text::append_decimal;
 ghost use mathlib.Core.Path.{_≡_};
 ghost use Prim.Native.Nat.{_+_, _≤_};
 ghost use lib.ListN.{length};
-ghost use Rattle.theory.specs.Trials.{trial-answer, trial-numbers, trial-line, trial-text, trial-load};
+ghost use Rattle.theory.specs.Trials.{trial-answer, trial-numbers, trial-line, trial-load};
 ghost use Rattle.bench_load.specs.Loads.{load-of, asked-of};
-ghost use Rattle.text.specs.Writing.{Writes, Appends};
-ghost use Rattle.io.specs.Counts.{Counts};
+ghost use Rattle.text.specs.Writing.{Appends};
 ghost use Rattle.trials.specs.Data.{numbers-of};
 ghost use Rattle.trials.specs.Playing.{Playable, Lent};
 ghost use Rattle.trials.specs.Telling.{TrialsPlayable, Tells};
@@ -87,37 +86,6 @@ fn append_line(to: &mut [u8], at: usize, number: u64, answer: u32, x: Numbers) -
     append_decimal(to, g, x.compared, b'\n')
 }
 
-// The line of a trial at the start of a buffer, and how many bytes it has: the one that the plain ledger gives for the load and the trial's settings.
-fn write_trial(
-    number: u64,
-    load: BenchLoad,
-    settings: &[u8],
-    ledger: &mut [u8],
-    true_counts: &mut [u16],
-    clipped: &mut [u8],
-    buckets: &mut [u8],
-    side: &mut [u8],
-    work: &mut [u16],
-    to: &mut [u8],
-) -> usize
-    requires { ⌜ (Playable load × Lent (now ledger) (now «true_counts») (now clipped) (now buckets) (now side) (now work)) × (168 ≤ length (now to)) ⌝ }
-    ensures { λ r. ⌜ Writes (trial-text (load-of load) number (now (settings .entry))) (now (to .entry)) (now (to .exit)) r
-        × Counts r (now (to .exit)) ⌝ }
-{
-    let trial = run_trial(
-        load,
-        settings,
-        ledger,
-        true_counts,
-        clipped,
-        buckets,
-        side,
-        work,
-    );
-    let numbers = trial.numbers;
-    append_line(to, 0, number, trial.answer, numbers)
-}
-
 // The trials of an input that are left: their load, and the number of the next one.
 pub struct Trials {
     pub load: BenchLoad,
@@ -137,7 +105,7 @@ pub struct Told {
     pub rest: Trials,
 }
 
-// Runs the next trial; its line at the start of a buffer.
+// Runs the next trial. At the start of a buffer stands its line: the one that the plain ledger gives for the load and the trial's settings.
 pub fn tell_next(
     left: Trials,
     settings: &[u8],
@@ -153,8 +121,7 @@ pub fn tell_next(
     ensures { λ r. ⌜ Tells left (now (settings .entry)) (now (to .entry)) (now (to .exit)) (r .bytes) (r .rest) ⌝ }
 {
     let load = left.load;
-    let bytes = write_trial(
-        left.number,
+    let trial = run_trial(
         load,
         settings,
         ledger,
@@ -163,8 +130,9 @@ pub fn tell_next(
         buckets,
         side,
         work,
-        to,
     );
+    let numbers = trial.numbers;
+    let bytes = append_line(to, 0, left.number, trial.answer, numbers);
     Told {
         bytes,
         rest: Trials {
