@@ -1,24 +1,26 @@
 -- Laws of the trials: the run on areas gives the plain ledger's numbers, a load is played call by call, the greatest need fits the side store, and what an
 -- answer of 0 says of the areas.
-use mathlib.Core.Path.{_≡_, refl, sym}
-use mathlib.Core.Bool.{Bool, true, false, cond}
-use mathlib.Core.List.{List, [], _∷_}
-use Prim.Native.Nat.{ℕ, zero, suc, _+_, _*_, _%_, _^_, _≤_, _<_, zero-le}
+use mathlib.Core.Path.{_≡_, refl}
+use mathlib.Core.Bool.{true, false}
+use mathlib.Core.List.{List, [], _∷_, map}
+use Prim.Native.Nat.{ℕ, zero, suc, _*_, _%_, _≤_, zero-le}
 use native.Mathlib.Omega.{arith}
 use lib.Dec.{ltb, eqb}
 use borrow.Author.Tests.{ltb-false}
-use Rattle.theory.specs.Lists.{All, any}
+use lib.ListN.{length}
+use Rattle.theory.specs.Lists.{All}
 use Rattle.theory.specs.Records.{Record, count-of}
-use Rattle.theory.specs.Settings.{Card, ledger-length, true-length, clipped-length, buckets-length, side-length, work-length}
+use Rattle.theory.specs.Settings.{Settings, settings-of, allowed, Card, card-of, record-size, bucket-size, ledger-length, true-length, clipped-length, buckets-length, side-length, work-length}
 use Rattle.theory.specs.Placing.{true-count, side-need, side-records}
 use Rattle.theory.specs.Layout.{Areas, layout, layout-by, side-bytes}
-use Rattle.theory.specs.Ledger.{Call, Reply, Step, side-need-of, plain}
-use Rattle.theory.specs.Calls.{call, shown}
+use Rattle.theory.specs.Ledger.{Call, side-need-of, plain}
+use Rattle.theory.specs.Calls.{call}
 use Rattle.theory.specs.BenchLoad.{Generator, Drawn, draw, after-call, load-class, load-call, draws, load-calls}
-use Rattle.theory.specs.Trials.{Numbers, no-numbers, greater, counted, counted-all, tried, played, area-bytes, area-above}
+use Rattle.theory.specs.Trials.{Numbers, no-numbers, greater, counted, counted-all, tried, played, area-bytes, area-above, trial-settings, trial-answer}
+use Rattle.theory.specs.Trials.{trial-numbers, AsPlayed, GreatestFits}
 use Rattle.theory.specs.Demands.{Small, HasLayout}
 use Rattle.theory.proofs.ListLaws.{by-test, any-none}
-use Rattle.theory.proofs.SettingsLaws.{Sound}
+use Rattle.theory.proofs.SettingsLaws.{Sound, sound}
 use Rattle.theory.proofs.LayoutLaws.{read-count}
 use Rattle.theory.proofs.CallLaws.{has-layout-empty, stays, call-step}
 
@@ -48,8 +50,10 @@ module _ (s : Card) (ok : Sound s) where
       let next = stays s ok c l (m .0) g in
       need-fits cs (plain s c l .state) _ (m .1) next (greater-fits (x .greatest-need) (side-need-of s (plain s c l .state)) (s .side-places) h (next .need))
 
-  pub greatest-fits : (cs : List Call) → All Small cs → tried s cs [] no-numbers .greatest-need ≤ s .side-places
-  greatest-fits cs m = need-fits cs [] no-numbers m (has-layout-empty s ok) zero-le
+-- on a cleared table
+pub as-played : AsPlayed
+unfolding call
+as-played t ok a cs m = played-tried (card-of t) (sound t ok) cs [] no-numbers m (has-layout-empty (card-of t) (sound t ok))
 
 -- the empty list, which a cleared table holds, has no side need
 pub cleared-need : (s : Card) → side-need-of s [] ≡ 0
@@ -67,6 +71,20 @@ pub small-calls : (flows n : ℕ) (g : Generator) → All Small (load-calls flow
 unfolding load-calls draws
 small-calls flows zero g = tt
 small-calls flows (suc n) g = (small-call flows (draw g), small-calls flows n (after-call g))
+
+-- the greatest need of a trial: zero where it is refused
+pub greatest-fits : GreatestFits
+unfolding trial-numbers trial-answer
+greatest-fits load b =
+    let t = trial-settings b in
+    by-test (ltb (length b) 12) (λ e. rw e zero-le)
+    (λ e. by-test (allowed t)
+    (λ f. by-test (area-above (card-of t)) (λ g. rw (e, f, g) zero-le)
+    (λ g. rw (e, f, g) (places-of t f (load-calls (load .flows) (load .count) (load .generator)) (small-calls (load .flows) (load .count) (load .generator)))))
+    (λ f. rw (e, f) zero-le))
+  where
+    places-of : (t : Settings) → allowed t ≡ true → (cs : List Call) → All Small cs → tried (card-of t) cs [] no-numbers .greatest-need ≤ t .side-places
+    places-of t ok cs m = unfold card-of in need-fits (card-of t) (sound t ok) cs [] no-numbers m (has-layout-empty (card-of t) (sound t ok)) zero-le
 
 -- one call of a load is played, and then the rest from the generator after it
 pub played-next : (s : Card) (flows n : ℕ) (g : Generator) (a : Areas) (x : Numbers)
@@ -101,3 +119,11 @@ within-64k s e =
       side-store = ltb-false _ _ (each .1 .1 .1 .1 .0);
       work = ltb-false _ _ (each .1 .1 .1 .1 .1 .0);
     }
+
+-- which settings are at the limit: N 3,854 and 3,855; p 11 with B 1 and 2; p 10 with B 3 and 4; p 12
+pub at-64-kib : map (λ (t : Settings). area-above (card-of t))
+    (settings-of 4 1 1 2 3854 0 ∷ settings-of 4 1 1 2 3855 0 ∷ settings-of 11 1 1 2 1 0 ∷ settings-of 11 1 2 2 1 0 ∷ settings-of 10 1 3 2 1 0
+    ∷ settings-of 10 1 4 2 1 0 ∷ settings-of 12 1 1 2 1 0 ∷ [])
+    ≡ false ∷ true ∷ false ∷ true ∷ false ∷ true ∷ true ∷ []
+unfolding area-above area-bytes card-of ledger-length true-length clipped-length buckets-length side-length work-length record-size bucket-size
+at-64-kib = refl

@@ -13,5 +13,5 @@ pub mod Packet
 pub mod Fragments
 pub mod Flowrun
 pub mod BenchLoad
-pub mod Trials
 pub mod Demands
+pub mod Trials

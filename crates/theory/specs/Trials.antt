@@ -1,20 +1,22 @@
 -- Document 02, U3, 'Choosing settings for a node': the numbers of a trial by the plain ledger, its answer, its line, and all that the simulation prints for
 -- the bytes of its input.
-use mathlib.Core.Bool.{Bool, cond, not, _||_}
+use mathlib.Core.Path.{_≡_}
+use mathlib.Core.Bool.{Bool, true, cond, not, _||_}
 use mathlib.Core.List.{List, [], _∷_, _++_}
 use mathlib.Core.Option.{Option, none, some}
-use Prim.Native.Nat.{ℕ, zero, suc, _+_, _*_, _/_, _^_}
+use Prim.Native.Nat.{ℕ, zero, suc, _+_, _*_, _/_, _^_, _≤_}
 use lib.Dec.{ltb, eqb}
 use lib.ListN.{length, take, drop}
-use Rattle.theory.specs.Lists.{any}
+use Rattle.theory.specs.Lists.{any, All}
 use Rattle.theory.specs.Records.{Record, of-bytes, count-of}
 use Rattle.theory.specs.Settings.{Settings, settings-of, allowed, Card, card-of}
 use Rattle.theory.specs.Settings.{ledger-length, true-length, clipped-length, buckets-length, side-length, work-length}
 use Rattle.theory.specs.Layout.{Areas}
-use Rattle.theory.specs.Ledger.{Call, Reply, answered, handed, totalled, Step, side-need-of, plain}
+use Rattle.theory.specs.Ledger.{Call, clear, Reply, answered, handed, totalled, Step, side-need-of, plain}
 use Rattle.theory.specs.Calls.{reply-number, call}
 use Rattle.theory.specs.Flowrun.{decimal, then-space, then-line-feed}
 use Rattle.theory.specs.BenchLoad.{load-calls, BenchLoad, load-in, load-wrong}
+use Rattle.theory.specs.Demands.{Small}
 
 -- ---- "greatest side need of a list held, refusals 6, 7, 8 and 9, and records compared in all"
 pub record Numbers : Type 0 where
@@ -127,3 +129,14 @@ lines-of (some load) b = trial-lines load 1 (trial-count b) b
 
 unfoldable pub trials-output : List ℕ → List ℕ
 trials-output b = lines-of (trial-load (take 32 b)) (drop 32 b)
+
+-- ---- WHAT IS CLAIMED; the laws are in proofs/TrialLaws.antt
+-- "plays the load on a cleared table": whatever the areas held before, the calls themselves give the plain ledger's numbers: as-played
+abbrev pub AsPlayed : Type 0
+AsPlayed =
+    (t : Settings) → allowed t ≡ true → (a : Areas) (cs : List Call) → All Small cs
+    → played (card-of t) cs (call (card-of t) clear a .state) no-numbers ≡ tried (card-of t) cs [] no-numbers
+
+-- a list that is refused with 9 is never held, so that the greatest side need is at most S, on every input: greatest-fits
+abbrev pub GreatestFits : Type 0
+GreatestFits = (load : BenchLoad) (b : List ℕ) → trial-numbers load b .greatest-need ≤ trial-settings b .side-places

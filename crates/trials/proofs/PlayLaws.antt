@@ -1,13 +1,13 @@
 -- Laws of playing a load: one call of it, what the loop keeps, and a table that was cleared before.
-use mathlib.Core.Path.{_≡_, refl, sym, ap, _∙_}
+use mathlib.Core.Path.{_≡_, sym, ap, _∙_}
 use mathlib.Core.List.{List, []}
-use Prim.Native.Nat.{ℕ, zero, suc, _+_, _-_, _≤_, _<_}
+use Prim.Native.Nat.{ℕ, suc, _+_, _≤_}
 use native.Mathlib.Omega.{arith}
 use lib.ListN.{length}
 use Rattle.theory.specs.Records.{count-of}
-use Rattle.theory.specs.Settings.{Card, work-length}
+use Rattle.theory.specs.Settings.{Card}
 use Rattle.theory.specs.Layout.{Areas, layout}
-use Rattle.theory.specs.Ledger.{Call, Reply, Step}
+use Rattle.theory.specs.Ledger.{Reply, Step}
 use Rattle.theory.specs.Calls.{call}
 use Rattle.theory.specs.BenchLoad.{Generator, draw, after-call, load-class, load-key, load-call, load-calls}
 use Rattle.theory.specs.Trials.{Numbers, no-numbers, counted, tried, played}

@@ -1,6 +1,6 @@
 -- Laws of a trial's line: the eight fields one after another, and a line at the start of a buffer before those of the trials after it.
 use mathlib.Core.Path.{_≡_, refl, sym, _∙_}
-use mathlib.Core.List.{List, [], _∷_, _++_, append-nil}
+use mathlib.Core.List.{List, [], _++_, append-nil}
 use Prim.Native.Nat.{ℕ, _+_, _≤_}
 use native.Mathlib.Numerals.{add-one}
 use lib.ListN.{length, take}

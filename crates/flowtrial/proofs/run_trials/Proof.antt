@@ -1,6 +1,6 @@
 -- `flowtrial::run_trials` ends: each trial is one of so many. The areas keep their lengths, and the load stays.
 use mathlib.Core.Path.{_≡_, refl, sym, subst, _∙_}
-use Prim.Native.Nat.{_-_, suc}
+use Prim.Native.Nat.{_-_}
 use native.Mathlib.Omega.{arith}
 use borrow.Author.Needs.{needs}
 use borrow.Author.Tests.{not-false}

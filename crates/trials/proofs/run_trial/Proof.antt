@@ -1,5 +1,5 @@
 -- `trials::run_trial` meets its contract: refused, zeros follow; else the load is played under the trial's settings.
-use mathlib.Core.Path.{_≡_, sym, ap, _∙_}
+use mathlib.Core.Path.{sym, _∙_}
 use borrow.Author.Needs.{needs}
 use Rattle.bench_load.specs.Loads.{load-of}
 use Rattle.settings.specs.declared.Settings.{Settings}

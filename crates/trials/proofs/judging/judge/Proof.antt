@@ -10,7 +10,7 @@ use Rattle.theory.specs.Settings as plain
 use Rattle.theory.specs.Settings.{allowed, card-of}
 use Rattle.theory.specs.Trials.{trial-settings, area-above}
 use Rattle.settings.specs.declared.Settings.{Settings}
-use Rattle.settings.specs.Checked.{paper, given-of, checked-of}
+use Rattle.settings.specs.Checked.{paper, checked-of}
 use Rattle.settings.proofs.Laws.{allowed-arm, refused-arm}
 use Rattle.trials.proofs.JudgeTrialLaws.{judged-14, judged-1, judged-2, judged-ready}
 use Rattle.trials.proofs.judging.judge.Statement.{statement}

@@ -1,11 +1,8 @@
 -- `trials::playing::play` meets its contract: before each turn, what is played of the calls left is what is played of all.
-use mathlib.Core.Path.{_≡_, refl, sym, _∙_}
-use Prim.Native.Nat.{ℕ, _<_}
+use mathlib.Core.Path.{refl, sym, _∙_}
+use Prim.Native.Nat.{_<_}
 use native.Mathlib.Omega.{arith}
-use lib.ListN.{length}
 use borrow.Author.Needs.{needs}
-use Rattle.theory.specs.CallAreas.{areas-now}
-use Rattle.theory.specs.Layout.{Areas}
 use Rattle.bench_load.specs.Loads.{generator-of}
 use Rattle.trials.specs.Data.{numbers-of}
 use Rattle.trials.proofs.TrialNumberLaws.{bounded-none, growing}

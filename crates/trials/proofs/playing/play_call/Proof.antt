@@ -1,7 +1,5 @@
 -- `trials::playing::play_call` meets its contract: the call is made of the two numbers, the law `played-by`.
-use mathlib.Core.Path.{_≡_}
 use native.Mathlib.Omega.{arith}
-use lib.ListN.{length}
 use borrow.Author.Needs.{needs}
 use Rattle.settings.specs.Checked.{paper, card}
 use Rattle.settings.proofs.Laws.{bounds}
