@@ -3,10 +3,10 @@
 use mathlib.Core.Path.{_≡_, refl}
 use mathlib.Core.Bool.{true, false}
 use mathlib.Core.List.{List, [], _∷_, map}
-use Prim.Native.Nat.{ℕ, zero, suc, _*_, _%_, _≤_, zero-le}
+use Prim.Native.Nat.{ℕ, zero, suc, _*_, _%_, _≤_, _<_, zero-le}
 use native.Mathlib.Omega.{arith}
 use lib.Dec.{ltb, eqb}
-use borrow.Author.Tests.{ltb-false}
+use borrow.Author.Tests.{lt-ltb, le-ltb, ltb-false}
 use lib.ListN.{length}
 use Rattle.theory.specs.Lists.{All}
 use Rattle.theory.specs.Records.{Record, count-of}
@@ -71,6 +71,25 @@ pub small-calls : (flows n : ℕ) (g : Generator) → All Small (load-calls flow
 unfolding load-calls draws
 small-calls flows zero g = tt
 small-calls flows (suc n) g = (small-call flows (draw g), small-calls flows n (after-call g))
+
+-- ---- the answer: 14 first, then 1, then 2
+module _ (b : List ℕ) where
+  pub cut-short : length b < 12 → trial-answer b ≡ 14
+  unfolding trial-answer
+  cut-short short = rw (lt-ltb (length b) 12 short)
+
+  module _ (long : 12 ≤ length b) where
+    pub out-of-range : allowed (trial-settings b) ≡ false → trial-answer b ≡ 1
+    unfolding trial-answer
+    out-of-range e = rw (le-ltb (length b) 12 long, e)
+
+    pub above-64-kib : allowed (trial-settings b) ≡ true → area-above (card-of (trial-settings b)) ≡ true → trial-answer b ≡ 2
+    unfolding trial-answer
+    above-64-kib e f = rw (le-ltb (length b) 12 long, e, f)
+
+    pub taken : allowed (trial-settings b) ≡ true → area-above (card-of (trial-settings b)) ≡ false → trial-answer b ≡ 0
+    unfolding trial-answer
+    taken e f = rw (le-ltb (length b) 12 long, e, f)
 
 -- the greatest need of a trial: zero where it is refused
 pub greatest-fits : GreatestFits
