@@ -7,14 +7,17 @@ use Prim.Native.Nat.{ℕ, zero, suc, _*_, _%_, _≤_, _<_, zero-le}
 use native.Mathlib.Omega.{arith}
 use lib.Dec.{ltb, eqb}
 use borrow.Author.Tests.{lt-ltb, le-ltb, ltb-false}
-use lib.ListN.{length}
+use lib.ListN.{length, drop}
+use lib.Seq.{drop-drop}
 use Rattle.theory.specs.Lists.{All}
 use Rattle.theory.specs.Records.{Record, count-of}
-use Rattle.theory.specs.Settings.{Settings, settings-of, allowed, Card, card-of, record-size, bucket-size, ledger-length, true-length, clipped-length, buckets-length, side-length, work-length}
+use Rattle.theory.specs.Settings.{Settings, settings-of, allowed, Card, card-of, record-size, bucket-size}
+use Rattle.theory.specs.Settings.{ledger-length, true-length, clipped-length, buckets-length, side-length, work-length}
 use Rattle.theory.specs.Placing.{true-count, side-need, side-records}
 use Rattle.theory.specs.Layout.{Areas, layout, layout-by, side-bytes}
 use Rattle.theory.specs.Ledger.{Call, side-need-of, plain}
 use Rattle.theory.specs.Calls.{call}
+use Rattle.theory.specs.Snapshot.{file-settings}
 use Rattle.theory.specs.BenchLoad.{Generator, Drawn, draw, after-call, load-class, load-call, draws, load-calls}
 use Rattle.theory.specs.Trials.{Numbers, no-numbers, greater, counted, counted-all, tried, played, area-bytes, area-above, trial-settings, trial-answer}
 use Rattle.theory.specs.Trials.{trial-numbers, AsPlayed, GreatestFits}
@@ -71,6 +74,11 @@ pub small-calls : (flows n : ℕ) (g : Generator) → All Small (load-calls flow
 unfolding load-calls draws
 small-calls flows zero g = tt
 small-calls flows (suc n) g = (small-call flows (draw g), small-calls flows n (after-call g))
+
+-- ---- settings stand in a trial's bytes as in a snapshot after its first count
+pub as-in-snapshot : (f : List ℕ) → trial-settings (drop 2 f) ≡ file-settings f
+unfolding trial-settings file-settings
+as-in-snapshot f = rw (drop-drop 2 2 f, drop-drop 4 2 f, drop-drop 6 2 f, drop-drop 8 2 f, drop-drop 10 2 f)
 
 -- ---- the answer: 14 first, then 1, then 2
 module _ (b : List ℕ) where

@@ -39,9 +39,9 @@ pub fn read_load(input: &[u8]) -> Asked
 }
 
 // What a trial tells: its answer, and its numbers.
-pub struct Trial {
-    pub answer: u32,
-    pub numbers: Numbers,
+struct Trial {
+    answer: u32,
+    numbers: Numbers,
 }
 
 // "answer 1 .., 2 .. or 14 .. is followed by zeros"; else the load is played. The areas have 64 KiB each and any contents.

@@ -38,9 +38,10 @@ returns c =
     let made = c .before .before .before .before .before .before .before .before .before .before .before .before .before .before .before in
     let with = made .before in
     let asked = start with .args in
-    played-by (card (asked .s)) (asked .flows) (asked .first) (asked .second) (kinded with .kind-of .result) _ _ (kinded with .kind-of .ensures (asked .flows) (asked .second))
-    (keyed with .write-key .ensures (asked .first)) (with .class-of .ensures (asked .second)) _ _ _ _ _ _ (made .call .ensures) (c .before .count-at .ensures .0)
-    (c .counted .ensures)
+    let kind = kinded with .kind-of in
+    played-by (card (asked .s)) (asked .flows) (asked .first) (asked .second) (kind .result) _ _ (kind .ensures (asked .flows) (asked .second))
+    (keyed with .write-key .ensures (asked .first)) (with .class-of .ensures (asked .second)) _ _ _ _ _ _ (made .call .ensures)
+    (c .before .count-at .ensures .0) (c .counted .ensures)
 
 pub play-call-spec : {M : Type 1} → statement M
 play-call-spec =
