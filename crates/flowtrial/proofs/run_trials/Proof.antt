@@ -52,5 +52,6 @@ loop-again c =
 pub run-trials-spec : {M : Type 1} → statement M
 run-trials-spec =
     tie.close (tie.spec Inv-loop μ-loop (λ c κs. search needs) (λ c. (refl, refl, refl, refl, refl, refl, refl)) run-next-requires (λ c. search needs)
-    (λ c. search needs) (λ c. search needs) (λ c. search needs) (λ c. search needs) (λ c. search needs) (λ c. tt) (λ c. omega (arith, next c .1, turn c .if1 .taken)) loop-again
-    (λ c. search needs) (λ c. search needs) (λ c. search needs) (λ c. search needs) (λ c. search needs) (λ c. search needs) (λ c. tt))
+    (λ c. search needs) (λ c. search needs) (λ c. search needs) (λ c. search needs) (λ c. search needs) (λ c. tt)
+    (λ c. omega (arith, next c .1, turn c .if1 .taken)) loop-again (λ c. search needs) (λ c. search needs) (λ c. search needs) (λ c. search needs)
+    (λ c. search needs) (λ c. search needs) (λ c. tt))
