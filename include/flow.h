@@ -147,7 +147,7 @@ uint64_t flow_search_place(uint64_t p, uint64_t k, uint64_t room, uint64_t top, 
 /* Counts what a table holds. Lent: ledger and the lookup areas, of their lengths under the settings, which are only read; totals, of 4
  * numbers.
  * 0: totals holds how many records are in buckets, how many in the side store, how many buckets are marked 255, and the fill: 100 * the
- *    ledger's count / m, to the nearest whole number, a half going up.
+ *    ledger's count / m, to the nearest whole number; a half goes to the even neighbour (with m 16, 2 flows give 12, 6 give 38).
  * 1: a setting is out of range. 2: ledger, clipped, buckets or side is not of its length, or totals not of 4 numbers.
  * 4: the ledger is damaged. 5: a lookup area is, in any counter, any mark or the side count. */
 uint32_t flow_tally(uint64_t p, uint64_t k, uint64_t room, uint64_t top, uint64_t capacity, uint64_t side_places,

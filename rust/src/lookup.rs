@@ -26,7 +26,7 @@ pub struct Tally {
     pub in_side_store: u32,
     /// Buckets marked 255: chosen by more flows than they have room for.
     pub marked_255: u32,
-    /// Flows held for each hundred buckets, to the nearest whole number, a half going up.
+    /// Flows held for each hundred buckets, to the nearest whole number; a half goes to the even neighbour.
     pub fill: u32,
 }
 

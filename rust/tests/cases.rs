@@ -97,7 +97,7 @@ fn clipped_counts_3_and_20() {
 
 #[test]
 fn fill_for_16_buckets() {
-    assert_eq!([0, 2, 6].map(|n| fill(n, 16)), [0, 13, 38]);
+    assert_eq!([0, 2, 6, 10].map(|n| fill(n, 16)), [0, 12, 38, 62]);
 }
 
 #[test]

@@ -170,6 +170,8 @@ fn lists_of_calls() {
     let table = HashTable::new();
     let mut seen = Seen::default();
     let (mut in_side, mut marked, mut clipped, mut most) = (0, 0, 0, 0);
+    // tallies that met a half above an even number, and above an odd one
+    let mut halves = [0, 0];
     for _ in 0..LISTS {
         let card = small_card(&mut random);
         let mix = Mix::new(&mut random, &card);
@@ -183,6 +185,10 @@ fn lists_of_calls() {
                 let key = mix.key(&mut random);
                 ("search lent", beside.search(&table, true, &key))
             } else if way < 28 {
+                let (flows, m) = (beside.ledger.list.len() as u64, beside.card.settings.m());
+                if 200 * flows % (2 * m) == m {
+                    halves[(100 * flows / m % 2) as usize] += 1;
+                }
                 ("tally", beside.tally())
             } else {
                 let call = mix.update(&mut random);
@@ -219,8 +225,13 @@ fn lists_of_calls() {
         "at the lists' ends {in_side} records in side stores, {marked} buckets marked 255, {clipped} counters clipped below the true \
          count, at most {most} flows"
     );
+    println!(
+        "tallies met {} halves above an even number and {} above an odd one",
+        halves[0], halves[1]
+    );
     assert_eq!(seen.total(), LISTS * CALLS_OF_A_LIST);
     assert!(in_side > 0 && marked > 0 && clipped > 0);
+    assert!(halves.iter().all(|&times| times >= 50));
 }
 
 // The card's largest settings, near and at the capacity.

@@ -138,12 +138,20 @@ fn lookup_valid(s: Settings, clipped: &[u8], buckets: &[u8], side: &[u8]) -> boo
     memory::numbers::count_at(side) <= s.side_places
 }
 
-// "100 × ledger count / m to the nearest whole number, a half going up"
+// "100 × ledger count / m to the nearest whole number"; "a half goes to the even neighbour".
 fn fill(n: usize, m: usize) -> u32
     requires { ⌜ Fillable n m ⌝ }
     ensures { λ r. ⌜ r ≡ ledgers.fill-of n m ⌝ }
 {
-    ((200 * n + m) / (2 * m)) as u32
+    let quotient = 100 * n / m;
+    let remainder = 100 * n % m;
+    if 2 * remainder < m {
+        return quotient as u32;
+    }
+    if m < 2 * remainder {
+        return (quotient + 1) as u32;
+    }
+    (quotient + quotient % 2) as u32
 }
 
 // The four numbers of areas within the rules.

@@ -113,8 +113,8 @@ cases =
     ∷ ((need 3 4 (a ∷ a₂ ∷ a₃ ∷ []) ∷ []) gives (0 ∷ []))
     -- counts 3 and 20 in buckets 2 and 3, T 15: byte F3 hexadecimal
     ∷ ((getD (counter-bytes (card-with 1 15 8) (λ i. getD (0 ∷ 0 ∷ 3 ∷ 20 ∷ []) i 0)) 1 0 ∷ []) gives (0xF3 ∷ []))
-    -- fill for m 16: 0 held 0, 2 held 13, 6 held 38
-    ∷ (map (λ n. fill-of n 16) (0 ∷ 2 ∷ 6 ∷ []) gives (0 ∷ 13 ∷ 38 ∷ []))
+    -- fill for m 16, a half to the even neighbour (document 02, U4): 0 held 0, 2 held 12, 6 held 38, 10 held 62
+    ∷ (map (λ n. fill-of n 16) (0 ∷ 2 ∷ 6 ∷ 10 ∷ []) gives (0 ∷ 12 ∷ 38 ∷ 62 ∷ []))
     -- settings 4,1,1,2,1,0, empty
     ∷ (snapshot smallest [] gives (0 ∷ 6 ∷ 0 ∷ 4 ∷ 0 ∷ 1 ∷ 0 ∷ 1 ∷ 0 ∷ 2 ∷ 0 ∷ 1 ∷ 0 ∷ 0 ∷ 0 ∷ 0 ∷ []))
     -- and two that the paper's rows leave open: hashes 5, 1: a tie goes to the lowest bucket and not to the first hash; hashes 5, 5: a counter is raised once

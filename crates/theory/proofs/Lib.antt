@@ -1,5 +1,6 @@
 pub mod ListLaws
 pub mod GrowingLaws
+pub mod FillLaws
 pub mod BucketNumberLaws
 pub mod SettingsLaws
 pub mod RankLaws

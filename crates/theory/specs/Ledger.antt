@@ -3,7 +3,7 @@
 use mathlib.Core.Bool.{Bool, cond, not}
 use mathlib.Core.List.{List, [], _∷_, map}
 use mathlib.Core.Option.{Option}
-use Prim.Native.Nat.{ℕ, _+_, _*_, _/_}
+use Prim.Native.Nat.{ℕ, _+_, _*_, _/_, _%_}
 use lib.Dec.{leb, ltb, eqb}
 use lib.ListN.{length}
 use Rattle.theory.specs.Lists.{filter, any, all, upto, sum}
@@ -58,9 +58,12 @@ replace r l = map (λ x. cond (same-key (r .key) (x .key)) r x) l
 unfoldable pub without : List ℕ → List Record → List Record
 without k l = filter (λ r. not (same-key k (r .key))) l
 
--- 100 n / m to the nearest whole number, a half going up
+-- 100 n / m to the nearest whole number; "a half goes to the even neighbour" (document 02, U4; Fill.antt says what is claimed of it)
 unfoldable pub fill-of : ℕ → ℕ → ℕ
-fill-of n m = (200 * n + m) / (2 * m)
+fill-of n m =
+    let quotient = 100 * n / m in
+    let remainder = 100 * n % m in
+    cond (ltb (2 * remainder) m) quotient (cond (ltb m (2 * remainder)) (quotient + 1) (quotient + quotient % 2))
 
 -- tally's numbers: the sum of the marks other than 255, the side count, how many marks are 255, and the fill of n held over m buckets
 unfoldable pub counted-totals : List ℕ → ℕ → ℕ → ℕ → Totals

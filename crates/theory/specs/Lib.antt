@@ -6,6 +6,7 @@ pub mod Placing
 pub mod Layout
 pub mod Lookup
 pub mod Ledger
+pub mod Fill
 pub mod Calls
 pub mod CallAreas
 pub mod Snapshot

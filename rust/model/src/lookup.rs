@@ -275,14 +275,15 @@ pub struct Totals {
     pub fill: u64,
 }
 
-/// 100 × count / m to the nearest whole number, a half going up.
+/// Of the two whole numbers beside the fraction 100 × count / m, the nearer one; where both are as near, the even one (document 02, U4).
 pub fn fill(count: u64, m: u64) -> u64 {
-    let (whole, rest) = (100 * count / m, 100 * count % m);
-    if 2 * rest >= m {
-        whole + 1
-    } else {
-        whole
-    }
+    let below = 100 * count / m;
+    // as fractions over m
+    let distance = |whole: u64| (whole * m).abs_diff(100 * count);
+    [below, below + 1]
+        .into_iter()
+        .min_by_key(|&whole| (distance(whole), whole % 2))
+        .unwrap()
 }
 
 /// The four numbers, or 1, 2, 4 or 5.
