@@ -13,7 +13,7 @@ use testing::made::{
     spoiled, wrong_length,
 };
 use testing::random::Random;
-use testing::seen::Seen;
+use testing::seen::{Halves, Seen};
 
 // Searches of each test, each through both doors.
 const ON_LAYOUTS: u64 = 400_000;
@@ -541,15 +541,14 @@ fn tallies() {
     assert!(in_side > 0 && marked > 0);
 }
 
-// The fill of every count of a ledger under every p. At a half it is even, and one less than document 01's where that was odd.
+// The fill of every count of a ledger, for every p. The lookup areas are those of an empty table: tally does not compare them with the ledger.
 #[test]
 fn every_fill() {
     const MOST: u64 = 4_096;
     let mut doors = Doors::new();
-    let (mut halves_up, mut halves_down) = (0, 0);
+    let mut halves = Halves::default();
     for p in 4..=12 {
         let card = Card::new(Model::of([p, 1, 1, 2, MOST, 0]));
-        let m = card.settings.m();
         let mut areas = layout(&card, &[]).unwrap();
         for count in 0..=MOST {
             if count > 0 {
@@ -558,23 +557,13 @@ fn every_fill() {
                 set_count(&mut areas.ledger, count);
             }
             let totals = doors.tally(&card, &areas.ledger, areas.lookup()).unwrap();
-            let half = 200 * count % (2 * m) == m;
-            let half_up = (200 * count + m) / (2 * m);
-            if half && totals.fill == half_up {
-                halves_up += 1;
-            } else if half {
-                halves_down += 1;
-                assert_eq!(totals.fill + 1, half_up);
-            } else {
-                assert_eq!(totals.fill, half_up);
-            }
-            assert!(!half || totals.fill % 2 == 0, "{count} flows, {m} buckets");
+            assert_eq!(totals.fill, paper::fill(count, card.settings.m()));
+            halves.note(count, card.settings.m());
         }
     }
     doors.seen.report("fills", &[("tally", &[0])]);
-    println!("{halves_down} halves above an even number and {halves_up} above an odd one");
     assert_eq!(doors.seen.total(), 9 * (MOST + 1));
-    assert!(halves_up >= 50 && halves_down >= 50);
+    halves.report();
 }
 
 // Each single fault of areas that are right otherwise, so that no other can hide it.

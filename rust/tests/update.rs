@@ -17,7 +17,7 @@ use testing::made::{
     resize, small_card, spoiled, wrong_length,
 };
 use testing::random::Random;
-use testing::seen::Seen;
+use testing::seen::{Halves, Seen};
 
 const LISTS: u64 = 4_000;
 const CALLS_OF_A_LIST: u64 = 200;
@@ -170,8 +170,7 @@ fn lists_of_calls() {
     let table = HashTable::new();
     let mut seen = Seen::default();
     let (mut in_side, mut marked, mut clipped, mut most) = (0, 0, 0, 0);
-    // tallies that met a half above an even number, and above an odd one
-    let mut halves = [0, 0];
+    let mut halves = Halves::default();
     for _ in 0..LISTS {
         let card = small_card(&mut random);
         let mix = Mix::new(&mut random, &card);
@@ -185,10 +184,7 @@ fn lists_of_calls() {
                 let key = mix.key(&mut random);
                 ("search lent", beside.search(&table, true, &key))
             } else if way < 28 {
-                let (flows, m) = (beside.ledger.list.len() as u64, beside.card.settings.m());
-                if 200 * flows % (2 * m) == m {
-                    halves[(100 * flows / m % 2) as usize] += 1;
-                }
+                halves.note(beside.ledger.list.len() as u64, beside.card.settings.m());
                 ("tally", beside.tally())
             } else {
                 let call = mix.update(&mut random);
@@ -225,13 +221,9 @@ fn lists_of_calls() {
         "at the lists' ends {in_side} records in side stores, {marked} buckets marked 255, {clipped} counters clipped below the true \
          count, at most {most} flows"
     );
-    println!(
-        "tallies met {} halves above an even number and {} above an odd one",
-        halves[0], halves[1]
-    );
+    halves.report();
     assert_eq!(seen.total(), LISTS * CALLS_OF_A_LIST);
     assert!(in_side > 0 && marked > 0 && clipped > 0);
-    assert!(halves.iter().all(|&times| times >= 50));
 }
 
 // The card's largest settings, near and at the capacity.
