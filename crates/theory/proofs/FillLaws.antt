@@ -7,53 +7,63 @@ use native.Mathlib.Omega.{arith}
 use lib.Dec.{ltb, eqb}
 use borrow.Author.Tests.{ltb-true, ltb-false, eqb-true, eqb-false, lt-ltb, le-ltb, eq-eqb, ne-eqb}
 use Rattle.theory.specs.Ledger.{fill-of}
-use Rattle.theory.specs.Fill.{distance, Nearest, FillNearest, NearestIsFill, fill-half-up, FillBefore}
+use Rattle.theory.specs.Fill.{Nearest, FillNearest, NearestIsFill, fill-half-up, FillBefore}
 use Rattle.theory.proofs.ListLaws.{by-test}
 
-module _ (n m : ℕ) (some : 0 < m) where
+-- ---- the three cases of the definition: below a half, above it, at it
+module _ (n m : ℕ) where
   abbrev quotient : ℕ
   quotient = 100 * n / m
 
   abbrev remainder : ℕ
   remainder = 100 * n % m
 
-  whole : m * quotient + remainder ≡ 100 * n
-  whole = div-add-mod (100 * n) m
-
-  less : remainder < m
-  less = mod-lt (100 * n) some
-
-  -- ---- the cases: below a half, above it, at it; there an even or an odd number is below it
-  by-remainder : {P : Type 0} → (2 * remainder < m → P) → (m < 2 * remainder → P) → (2 * remainder ≡ m → P) → P
-  by-remainder below above at =
-      by-test (ltb (2 * remainder) m) (λ e. below (ltb-true (2 * remainder) m e))
-      (λ e. by-test (ltb m (2 * remainder)) (λ f. above (ltb-true m (2 * remainder) f))
-      (λ f. at (omega (arith, ltb-false (2 * remainder) m e, ltb-false m (2 * remainder) f))))
-
-  by-parity : {P : Type 0} → (quotient % 2 ≡ 0 → P) → (quotient % 2 ≡ 1 → P) → P
-  by-parity even odd = by-test (eqb (quotient % 2) 0) (λ e. even (eqb-true (quotient % 2) 0 e)) (λ e. odd (omega (arith, eqb-false (quotient % 2) 0 e)))
-
-  fill-below : 2 * remainder < m → fill-of n m ≡ quotient
+  pub fill-below : 2 * remainder < m → fill-of n m ≡ quotient
   unfolding fill-of
   fill-below h = rw (lt-ltb (2 * remainder) m h)
 
-  fill-above : m < 2 * remainder → fill-of n m ≡ quotient + 1
+  pub fill-above : m < 2 * remainder → fill-of n m ≡ quotient + 1
   unfolding fill-of
   fill-above h = rw (le-ltb (2 * remainder) m (omega arith), lt-ltb m (2 * remainder) h)
 
-  fill-half : 2 * remainder ≡ m → fill-of n m ≡ quotient + quotient % 2
+  pub fill-half : m ≤ 2 * remainder → 2 * remainder ≤ m → fill-of n m ≡ quotient + quotient % 2
   unfolding fill-of
-  fill-half h = rw (le-ltb (2 * remainder) m (omega arith), le-ltb m (2 * remainder) (omega arith))
+  fill-half h k = rw (le-ltb (2 * remainder) m h, le-ltb m (2 * remainder) k)
+
+-- ---- over some buckets: q the quotient, r the remainder
+module _ (n m : ℕ) (some : 0 < m) where
+  abbrev q : ℕ
+  q = quotient n m
+
+  abbrev r : ℕ
+  r = remainder n m
+
+  whole : m * q + r ≡ 100 * n
+  whole = div-add-mod (100 * n) m
+
+  less : r < m
+  less = mod-lt (100 * n) some
+
+  by-remainder : {P : Type 0} → (2 * r < m → P) → (m < 2 * r → P) → (2 * r ≡ m → P) → P
+  by-remainder below above half =
+      by-test (ltb (2 * r) m) (λ e. below (ltb-true (2 * r) m e))
+      (λ e. by-test (ltb m (2 * r)) (λ f. above (ltb-true m (2 * r) f)) (λ f. half (omega (arith, ltb-false (2 * r) m e, ltb-false m (2 * r) f))))
+
+  by-parity : {P : Type 0} → (q % 2 ≡ 0 → P) → (q % 2 ≡ 1 → P) → P
+  by-parity even odd = by-test (eqb (q % 2) 0) (λ e. even (eqb-true (q % 2) 0 e)) (λ e. odd (omega (arith, eqb-false (q % 2) 0 e)))
+
+  at-half : 2 * r ≡ m → fill-of n m ≡ q + q % 2
+  at-half h = fill-half n m (omega arith) (omega arith)
 
   -- ---- nearest
   nearest : Nearest n m (fill-of n m)
   nearest =
       by-remainder
-      (λ h. rw (fill-below h) (record { near = omega (arith, whole); half-even = omega (arith, whole) }))
-      (λ h. rw (fill-above h) (record { near = omega (arith, whole, less); half-even = omega (arith, whole, less) }))
+      (λ h. rw (fill-below n m h) (record { near = omega (arith, whole); half-even = omega (arith, whole) }))
+      (λ h. rw (fill-above n m h) (record { near = omega (arith, whole, less); half-even = omega (arith, whole, less) }))
       (λ h. by-parity
-      (λ even. rw (fill-half h, even) (record { near = omega (arith, whole); half-even = λ x. omega arith }))
-      (λ odd. rw (fill-half h, odd) (record { near = omega (arith, whole); half-even = λ x. omega arith })))
+      (λ even. rw (at-half h, even) (record { near = omega (arith, whole); half-even = λ x. omega arith }))
+      (λ odd. rw (at-half h, odd) (record { near = omega (arith, whole); half-even = λ x. omega arith })))
 
   -- of two numbers the lower one would be half below and the higher one half above, and both would be even
   not-above : (f g : ℕ) → Nearest n m f → Nearest n m g → f ≤ g
@@ -78,25 +88,25 @@ module _ (n m : ℕ) (some : 0 < m) where
   alone f x = omega (arith, not-above f (fill-of n m) x nearest, not-above (fill-of n m) f nearest x)
 
   -- ---- document 01's fill
-  down : 2 * remainder < m → fill-half-up n m ≡ quotient
+  down : 2 * r < m → fill-half-up n m ≡ q
   down h = div-eq-of-lt-le (2 * m) (omega (arith, whole)) (omega (arith, whole))
 
-  up : m ≤ 2 * remainder → fill-half-up n m ≡ quotient + 1
+  up : m ≤ 2 * r → fill-half-up n m ≡ q + 1
   up h = div-eq-of-lt-le (2 * m) (omega (arith, whole)) (omega (arith, whole, less))
 
-  before : fill-half-up n m ≡ fill-of n m + cond (eqb (2 * remainder) m && eqb (quotient % 2) 0) 1 0
+  before : fill-half-up n m ≡ fill-of n m + cond (eqb (2 * r) m && eqb (q % 2) 0) 1 0
   before =
       by-remainder
-      (λ h. down h ∙ rw (fill-below h, ne-eqb (2 * remainder) m (omega arith)) (omega arith))
-      (λ h. up (omega arith) ∙ rw (fill-above h, ne-eqb (2 * remainder) m (omega arith)) (omega arith))
-      (λ h. up (omega arith) ∙ rw (fill-half h, eq-eqb (2 * remainder) m h)
-      (by-parity (λ even. rw (eq-eqb (quotient % 2) 0 even, even) (omega arith)) (λ odd. rw (ne-eqb (quotient % 2) 0 (omega arith), odd) (omega arith))))
+      (λ h. down h ∙ rw (fill-below n m h, ne-eqb (2 * r) m (omega arith)) (omega arith))
+      (λ h. up (omega arith) ∙ rw (fill-above n m h, ne-eqb (2 * r) m (omega arith)) (omega arith))
+      (λ h. up (omega arith) ∙ rw (at-half h, eq-eqb (2 * r) m h)
+      (by-parity (λ even. rw (eq-eqb (q % 2) 0 even, even) (omega arith)) (λ odd. rw (ne-eqb (q % 2) 0 (omega arith), odd) (omega arith))))
 
 pub fill-nearest : FillNearest
 fill-nearest = nearest
 
 pub nearest-is-fill : NearestIsFill
-nearest-is-fill n m f some = alone n m some f
+nearest-is-fill = alone
 
 pub fill-before : FillBefore
 fill-before = before

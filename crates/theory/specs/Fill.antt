@@ -20,7 +20,7 @@ FillNearest = (n m : ℕ) → 0 < m → Nearest n m (fill-of n m)
 
 -- and no other number is: nearest-is-fill
 abbrev pub NearestIsFill : Type 0
-NearestIsFill = (n m f : ℕ) → 0 < m → Nearest n m f → f ≡ fill-of n m
+NearestIsFill = (n m : ℕ) → 0 < m → (f : ℕ) → Nearest n m f → f ≡ fill-of n m
 
 -- document 01's fill, whose half goes up
 abbrev pub fill-half-up : ℕ → ℕ → ℕ

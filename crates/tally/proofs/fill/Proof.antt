@@ -1,41 +1,35 @@
--- `tally::fill` meets its contract: its tests are those of the definition, and no number leaves its width.
+-- `tally::fill` meets its contract: its cases are those of the definition, and no number leaves its width.
+use mathlib.Core.Path.{sym}
 use Prim.Native.Nat.{ℕ, _*_, _/_, _%_, _≤_}
 use native.Mathlib.Nat.{div-le-self, mod-lt}
 use native.Mathlib.Omega.{arith}
 use borrow.Author.Needs.{needs}
-use borrow.Author.Tests.{lt-ltb, le-ltb}
-use Rattle.theory.specs.Ledger.{fill-of}
+use Rattle.theory.proofs.FillLaws.{fill-below, fill-above, fill-half}
 use Rattle.tally.proofs.fill.Statement.{statement}
 use Rattle.tally.proofs.fill.Tie as tie
 
 -- ---- what the width has to hold
 module _ (c : tie.Start) where
+  abbrev n : ℕ
+  n = c .args .n
+
   abbrev m : ℕ
   m = c .args .m
 
-  abbrev quotient : ℕ
-  quotient = 100 * c .args .n / m
+  quotient-most : 100 * n / m ≤ 6553500
+  quotient-most = omega (arith, div-le-self (100 * n) m, c .pre .few)
 
-  abbrev remainder : ℕ
-  remainder = 100 * c .args .n % m
-
-  quotient-most : quotient ≤ 6553500
-  quotient-most = omega (arith, div-le-self (100 * c .args .n) m, c .pre .few)
-
-  remainder-most : remainder ≤ 4096
-  remainder-most = omega (arith, mod-lt (100 * c .args .n) {m = m} (omega (arith, c .pre .least)), c .pre .most)
+  remainder-most : 100 * n % m ≤ 4096
+  remainder-most = omega (arith, mod-lt (100 * n) {m = m} (omega (arith, c .pre .least)), c .pre .most)
 
 returns : tie.Need-returns
-unfolding fill-of
-returns c = let e = c .before in rw (lt-ltb (2 * remainder e) (m e) (c .if1 .taken))
+returns c = let e = c .before in sym (fill-below (n e) (m e) (c .if1 .taken))
 
 returns-2 : tie.Need-returns-2
-unfolding fill-of
-returns-2 c = let e = c .before .before in rw (le-ltb (2 * remainder e) (m e) (c .before .if1 .left), lt-ltb (m e) (2 * remainder e) (c .if2 .taken))
+returns-2 c = let e = c .before .before in sym (fill-above (n e) (m e) (c .if2 .taken))
 
 returns-3 : tie.Need-returns-3
-unfolding fill-of
-returns-3 c = let e = c .before .before in rw (le-ltb (2 * remainder e) (m e) (c .before .if1 .left), le-ltb (m e) (2 * remainder e) (c .if2 .left))
+returns-3 c = let e = c .before .before in sym (fill-half (n e) (m e) (c .before .if1 .left) (c .if2 .left))
 
 pub fill-spec : {M : Type 1} → statement M
 fill-spec =
