@@ -27,6 +27,17 @@ void shuffle(int *contestants, int count)
     }
 }
 
+void print_times(const struct column *of, int contestant)
+{
+    printf(" %.1f / %.1f / %.1f |", time_of(&of[0], contestant), time_of(&of[1], contestant), time_of(&of[2], contestant));
+}
+
+void print_ratios(const struct column *of, int contestant, int other)
+{
+    printf(" %.2f / %.2f / %.2f |", ratio_of(&of[0], contestant, other), ratio_of(&of[1], contestant, other),
+           ratio_of(&of[2], contestant, other));
+}
+
 FILE *open_aims(int words, char **word) { return fopen(words > 1 ? word[1] : "/dev/null", "a"); }
 
 void print_aim(FILE *to, const struct aim *aim, int measured)

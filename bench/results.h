@@ -27,6 +27,10 @@ double ratio_of(const struct column *column, int contestant, int other);
 /* Another order for each round, so that no contestant always follows the same one. */
 void shuffle(int *contestants, int count);
 
+/* A cell of a table, of three columns: hits / half / misses. Times, and the ratios of two contestants. */
+void print_times(const struct column *of, int contestant);
+void print_ratios(const struct column *of, int contestant, int other);
+
 /* Where the table of aims gets its rows from: the file that bin/bench names, or nowhere. */
 FILE *open_aims(int words, char **word);
 

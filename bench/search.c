@@ -1,7 +1,7 @@
 /* Time of a search by the doors, by C of the same algorithm and by the tables of others, in one run: rounds that alternate, over the same
  * keys in an order that is random in each round, and the median round. Beside the times, how many buckets or slots a lookup reads. */
 #include "flow.h"
-#include "layout.h"
+#include "lookups.h"
 #include "others.h"
 #include "plain.h"
 #include "results.h"
@@ -10,8 +10,7 @@
 #include <stdio.h>
 #include <string.h>
 
-enum { LOOKUPS = 8192, ROUNDS = 401, MOST_FLOWS = 4096 };
-static const uint64_t ABSENT = (uint64_t)100 << 32;
+enum { ROUNDS = 401 };
 
 /* One flow for each bucket, or nearly so; then fewer flows in as many buckets as the largest has. */
 static const struct settings shapes[] = {
@@ -23,19 +22,6 @@ static const struct settings shapes[] = {
 };
 enum { LARGEST = 2, SPARSE_256, SPARSE_1000, SHAPES };
 
-/* What is looked up: held keys, held and absent ones in random order, absent ones. */
-enum mix { HITS, HALF, MISSES, MIXES };
-
-static struct settings set;
-static struct lookup at;
-static uint64_t table[FLOW_HASH_TABLE_NUMBERS];
-static uint8_t held[MOST_FLOWS][FLOW_KEY_BYTES], absent[MOST_FLOWS][FLOW_KEY_BYTES];
-static uint32_t classes[MOST_FLOWS];
-
-/* The keys of a round, and what each contestant has to answer. */
-static uint8_t order[LOOKUPS][FLOW_KEY_BYTES];
-static uint64_t wanted[LOOKUPS];
-
 /* The C by each compiler that is there: bin/bench adds the compiler's name. The doors of the library that bin/bench --before names. */
 search_lent plain_search_lent_by_gcc WHERE_LINKED, plain_search_lent_by_clang WHERE_LINKED;
 search_lent tuned_search_lent_by_gcc WHERE_LINKED, tuned_search_lent_by_clang WHERE_LINKED;
@@ -45,9 +31,6 @@ search_lent before_flow_search_lent WHERE_LINKED;
 __typeof__(flow_search) before_flow_search WHERE_LINKED;
 
 /* Every way to look a key up: answer x 2^32 + class. */
-#define AREAS                                                                                                                            \
-    set.p, set.k, set.room, set.top, set.capacity, set.side_places, at.clipped, at.clipped_length, at.buckets, at.buckets_length,        \
-        at.side, at.side_length
 static uint64_t lent(const uint8_t *key) { return flow_search_lent(table, FLOW_HASH_TABLE_NUMBERS, AREAS, key, FLOW_KEY_BYTES); }
 static uint64_t no_table(const uint8_t *key) { return flow_search(AREAS, key, FLOW_KEY_BYTES); }
 static uint64_t before_lent(const uint8_t *key) { return before_flow_search_lent(table, FLOW_HASH_TABLE_NUMBERS, AREAS, key, FLOW_KEY_BYTES); }
@@ -246,26 +229,6 @@ static void count_reads(int shape, enum mix mix, uint8_t keys[][FLOW_KEY_BYTES])
     }
 }
 
-static void random_key(uint8_t *key)
-{
-    for (int a = 0; a < FLOW_KEY_BYTES; a++) {
-        key[a] = (uint8_t)random_number();
-    }
-}
-
-/* The keys of a round. The sum of what they have to answer. */
-static uint64_t draw(enum mix mix)
-{
-    uint64_t sum = 0;
-    for (int i = 0; i < LOOKUPS; i++) {
-        uint64_t x = random_number(), flow = x % set.flows;
-        int hit = mix == HITS || (mix == HALF && x >> 63);
-        memcpy(order[i], hit ? held[flow] : absent[flow], FLOW_KEY_BYTES);
-        sum += wanted[i] = hit ? classes[flow] : ABSENT;
-    }
-    return sum;
-}
-
 /* Every contestant gives these answers, in its bursts where it has some. */
 static int check(uint8_t keys[][FLOW_KEY_BYTES], size_t n, const uint64_t *right)
 {
@@ -323,13 +286,7 @@ static int measure(struct column *of, int branch, int most)
 static int build(void)
 {
     static uint64_t found[MOST_FLOWS], not_found[MOST_FLOWS];
-    for (uint64_t i = 0; i < set.flows; i++) {
-        random_key(held[i]);
-        random_key(absent[i]);
-        classes[i] = (uint32_t)random_number();
-    }
-    if (lay_out(&set, table, held, classes, &at) != 0) {
-        printf("%" PRIu64 " flows: no layout\n", set.flows);
+    if (fill_table() != 0) {
         return 1;
     }
     for (uint64_t i = 0; i < set.flows; i++) {
@@ -343,17 +300,6 @@ static int build(void)
         return 1;
     }
     return check(held, set.flows, found) != 0 || check(absent, set.flows, not_found) != 0;
-}
-
-/* A cell: hits / half / misses. */
-static void print_times(const struct column *of, int contestant)
-{
-    printf(" %.1f / %.1f / %.1f |", time_of(&of[HITS], contestant), time_of(&of[HALF], contestant), time_of(&of[MISSES], contestant));
-}
-static void print_ratios(const struct column *of, int contestant, int other)
-{
-    printf(" %.2f / %.2f / %.2f |", ratio_of(&of[HITS], contestant, other), ratio_of(&of[HALF], contestant, other),
-           ratio_of(&of[MISSES], contestant, other));
 }
 
 static void print_shapes(const char *what)

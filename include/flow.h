@@ -75,7 +75,7 @@ uint32_t flow_settings_check(uint64_t p, uint64_t k, uint64_t room, uint64_t top
 uint32_t flow_area_lengths(uint64_t p, uint64_t k, uint64_t room, uint64_t top, uint64_t capacity, uint64_t side_places,
                            uint64_t *lengths, size_t lengths_length);
 
-/* Fills a table that flow_hash_lent, flow_search_lent and flow_search_burst read. Lent: table, of 3328 numbers.
+/* Fills a table that flow_hash_lent, flow_search_lent, flow_search_counts_lent and flow_search_burst read. Lent: table, of 3328 numbers.
  * 0: number 256 * a + v of the table is what byte value v at key byte a adds to H.
  * 2: table is not of 3328 numbers. */
 uint32_t flow_hash_table(uint64_t *table, size_t table_length);
@@ -144,6 +144,23 @@ uint64_t flow_search_place(uint64_t p, uint64_t k, uint64_t room, uint64_t top, 
                            const uint8_t *side, size_t side_length, const uint8_t *key, size_t key_length, uint64_t *place,
                            size_t place_length);
 
+/* flow_search that also gives the search's counts. Lent: counts, of 3 numbers, with any contents; the rest as for flow_search. It returns
+ * what flow_search does.
+ *   0, 100: counts holds how many buckets were read (0 or 1), how many records were compared (at most 64), and 1 where the side store was the
+ *      place compared, also where it holds no record, else 0.
+ *   2 also: counts is not of 3 numbers. Refused (1, 2, 3, 5), counts is as it was. */
+uint64_t flow_search_counts(uint64_t p, uint64_t k, uint64_t room, uint64_t top, uint64_t capacity, uint64_t side_places,
+                            const uint8_t *clipped, size_t clipped_length, const uint8_t *buckets, size_t buckets_length,
+                            const uint8_t *side, size_t side_length, const uint8_t *key, size_t key_length, uint32_t *counts,
+                            size_t counts_length);
+
+/* flow_search_counts with a lent table, as flow_search_lent is flow_search with one, on any table of 3328 numbers. */
+uint64_t flow_search_counts_lent(const uint64_t *table, size_t table_length, uint64_t p, uint64_t k, uint64_t room,
+                                 uint64_t top, uint64_t capacity, uint64_t side_places, const uint8_t *clipped,
+                                 size_t clipped_length, const uint8_t *buckets, size_t buckets_length, const uint8_t *side,
+                                 size_t side_length, const uint8_t *key, size_t key_length, uint32_t *counts,
+                                 size_t counts_length);
+
 /* Counts what a table holds. Lent: ledger and the lookup areas, of their lengths under the settings, which are only read; totals, of 4
  * numbers.
  * 0: totals holds how many records are in buckets, how many in the side store, how many buckets are marked 255, and the fill: 100 * the
@@ -189,6 +206,37 @@ uint32_t flow_remove(uint64_t p, uint64_t k, uint64_t room, uint64_t top, uint64
                      uint8_t *ledger, size_t ledger_length, uint16_t *true_counts, size_t true_counts_length, uint8_t *clipped,
                      size_t clipped_length, uint8_t *buckets, size_t buckets_length, uint8_t *side, size_t side_length,
                      uint16_t *work, size_t work_length, const uint8_t *key, size_t key_length);
+
+/* A window over the latest 1024 accepted searches, for an operator who watches a node. It is an area of 1093 16-bit numbers that belongs to
+ * no table: no other door reads or writes it, and searches of several tables may enter one window. Its numbers:
+ *   0            the place in the ring of the oldest entry
+ *   1            how many entries there are, at most 1024
+ *   2            how many of them are held answers
+ *   3            how many compared the side store
+ *   4 to 68      how many compared 0, 1, .. 64 records
+ *   69 to 1092   the ring: an entry is 1 for a held answer, and 2 where it compared the side store, and 4 times the records compared
+ * After flow_window_clear, whatever the area held before, and any list of these calls, flow_window_counts gives a fresh count over the entries
+ * that the window then holds. On any other contents each call ends and answers as it does on these: the ring's places are taken modulo 1024,
+ * counts run modulo 2^16, and an entry with more than 64 records compared is one with 64. Each of the four doors answers
+ * 0, or 2 where an area is not of its length, and then alters nothing (examples/watch.c). */
+#define FLOW_WINDOW_NUMBERS 1093
+#define FLOW_WINDOW_SEARCHES 1024
+
+/* Empties a window. Lent: window, of 1093 numbers, with any contents: all are zero after it. */
+uint32_t flow_window_clear(uint16_t *window, size_t window_length);
+
+/* Enters a search: found is the number that a search door returned, counts the 3 numbers that it gave. The oldest entry of a full window is
+ * dropped for good. A refused search (found / 2^32 neither 0 nor 100) enters nothing, and is answered with 0. No search compares more than 64
+ * records: a greater number enters as 64, and a third count that is not 0 as 1. Lent: window; counts, of 3 numbers, which is only read. */
+uint32_t flow_window_enter(uint16_t *window, size_t window_length, uint64_t found, const uint32_t *counts,
+                           size_t counts_length);
+
+/* Removes the oldest entry; an empty window stays as it is. Lent: window. */
+uint32_t flow_window_remove(uint16_t *window, size_t window_length);
+
+/* Counts a window. Lent: window, which is only read; counts, of 3 numbers, with any contents: held answers, searches that compared the side
+ * store, and the greatest records compared, zero for an empty window. */
+uint32_t flow_window_counts(const uint16_t *window, size_t window_length, uint32_t *counts, size_t counts_length);
 
 /* The key of an IPv4 packet (RFC 791). Lent: packet, of any length, which is only read; key, of 13 bytes.
  * 0: key holds source address, destination address, source port, destination port and protocol. The ports are the first four bytes after the

@@ -19,6 +19,7 @@ pub mod packets; // packets.rt: the door that reads a packet
 pub mod reading; // reading.rt: the doors of search and tally
 pub mod snapshots; // snapshots.rt: the doors that save and load
 pub mod updating; // updating.rt: the doors that clear, add, change and remove
+pub mod windows; // windows.rt: the doors of the window over the latest searches
 
 // The settings' verdict: 0, or 1 when one is out of range.
 #[no_mangle]

@@ -1,5 +1,6 @@
 // The doors that only read: search and tally.
 use lookup::locating::Located;
+use lookup::searching::Answer;
 use lookup::searching::bare;
 use lookup::searching::driver_number;
 use settings::Given;
@@ -13,7 +14,7 @@ ghost use Rattle.lookup.specs.Answers.{search-of, search-with, answer-of};
 ghost use Rattle.lookup.specs.Bursts.{Burst, burst-of};
 ghost use Rattle.lookup.specs.Locating.{lies-at};
 ghost use Rattle.card.specs.Doors.{Filled};
-ghost use Rattle.card.specs.Reading.{place-given, search-place-of, tally-of};
+ghost use Rattle.card.specs.Reading.{place-given, search-place-of, counts-given, search-counts-of, search-counts-with, tally-of};
 
 // The forwarding driver's search, whole by itself.
 #[no_mangle]
@@ -156,6 +157,91 @@ pub extern "C" fn flow_search_place(
     };
     let found = lookup::locating::locate(given, clipped, buckets, side, key);
     give_place(found, place)
+}
+
+// The number of an answer, and its counts in a lent area of 3 numbers.
+fn give_counts(answer: Answer, counts: &mut [u32]) -> u64
+    ensures { λ r. ⌜ _≡_ {A = Filled} (record { number = r; area = now (counts .exit) })
+        (counts-given (answer-of answer) (now (counts .entry))) ⌝ }
+{
+    let number = answer.number;
+    if number == 1 {
+        return driver_number(answer);
+    }
+    if counts.len() != 3 {
+        return driver_number(bare(2));
+    }
+    if (number != 0) & (number != 100) {
+        return driver_number(answer);
+    }
+    counts[0] = answer.buckets_read;
+    counts[1] = answer.records_compared;
+    counts[2] = answer.side_compared;
+    driver_number(answer)
+}
+
+// Search, with its counts: 1; 2, also if `counts` is not of 3 numbers; 3; 5; else `counts` holds buckets read, records compared, and 1 where the side store
+// was compared.
+#[no_mangle]
+pub extern "C" fn flow_search_counts(
+    p: u64,
+    k: u64,
+    room: u64,
+    top: u64,
+    capacity: u64,
+    side_places: u64,
+    clipped: &[u8],
+    buckets: &[u8],
+    side: &[u8],
+    key: &[u8],
+    counts: &mut [u32],
+) -> u64
+    ensures { λ r. ⌜ _≡_ {A = Filled} (record { number = r; area = now (counts .exit) })
+        (search-counts-of (settings-of p k room top capacity «side_places»)
+        (now (clipped .entry)) (now (buckets .entry)) (now (side .entry)) (now (key .entry)) (now (counts .entry))) ⌝ }
+{
+    let given = Given {
+        p,
+        k,
+        room,
+        top,
+        capacity,
+        side_places,
+    };
+    let found = lookup::locating::locate(given, clipped, buckets, side, key);
+    give_counts(found.answer, counts)
+}
+
+// The same with a table that the driver keeps.
+#[no_mangle]
+pub extern "C" fn flow_search_counts_lent(
+    table: &[u64],
+    p: u64,
+    k: u64,
+    room: u64,
+    top: u64,
+    capacity: u64,
+    side_places: u64,
+    clipped: &[u8],
+    buckets: &[u8],
+    side: &[u8],
+    key: &[u8],
+    counts: &mut [u32],
+) -> u64
+    ensures { λ r. ⌜ _≡_ {A = Filled} (record { number = r; area = now (counts .exit) })
+        (search-counts-with (now (table .entry)) (settings-of p k room top capacity «side_places»)
+        (now (clipped .entry)) (now (buckets .entry)) (now (side .entry)) (now (key .entry)) (now (counts .entry))) ⌝ }
+{
+    let given = Given {
+        p,
+        k,
+        room,
+        top,
+        capacity,
+        side_places,
+    };
+    let found = lookup::locating::locate_with_table(table, given, clipped, buckets, side, key);
+    give_counts(found.answer, counts)
 }
 
 // Records in buckets, records in the side store, buckets marked 255, fill.

@@ -37,25 +37,22 @@ unfolding letter-call
 no-call x a b c d e key class = rw (ne-eqb x 73 a, ne-eqb x 67 b, ne-eqb x 68 c, ne-eqb x 83 d, ne-eqb x 88 e)
 
 -- the six fields of a line, each after the text before it
-abbrev answer-with : ℕ → ℕ → ℕ → ℕ → plain-lookup.Answer
-answer-with number class read compared = record { number = number; class = class; buckets-read = read; records-compared = compared }
-
-module _ (call letter number class read compared : ℕ) where
+module _ (call letter : ℕ) (x : plain-lookup.Answer) where
   pub line-after : (a₀ a₁ a₂ a₃ a₄ a₅ a₆ : List ℕ) (n₀ n₁ n₂ n₃ n₄ n₅ n₆ : ℕ)
       → Appends (decimal call ++ (32 ∷ [])) a₀ n₀ a₁ n₁
       → Appends (letter ∷ 32 ∷ []) a₁ n₁ a₂ n₂
-      → Appends (decimal number ++ (32 ∷ [])) a₂ n₂ a₃ n₃
-      → Appends (decimal class ++ (32 ∷ [])) a₃ n₃ a₄ n₄
-      → Appends (decimal read ++ (32 ∷ [])) a₄ n₄ a₅ n₅
-      → Appends (decimal compared ++ (10 ∷ [])) a₅ n₅ a₆ n₆
-      → Appends (line-text (record { call = call; letter = letter; answer = answer-with number class read compared })) a₀ n₀ a₆ n₆
+      → Appends (decimal (x .number) ++ (32 ∷ [])) a₂ n₂ a₃ n₃
+      → Appends (decimal (x .class) ++ (32 ∷ [])) a₃ n₃ a₄ n₄
+      → Appends (decimal (x .buckets-read) ++ (32 ∷ [])) a₄ n₄ a₅ n₅
+      → Appends (decimal (x .records-compared) ++ (10 ∷ [])) a₅ n₅ a₆ n₆
+      → Appends (line-text (record { call = call; letter = letter; answer = x })) a₀ n₀ a₆ n₆
   unfolding line-text
   line-after a₀ a₁ a₂ a₃ a₄ a₅ a₆ n₀ n₁ n₂ n₃ n₄ n₅ n₆ f₁ f₂ f₃ f₄ f₅ f₆ =
       appends-then (decimal call ++ (32 ∷ [])) _ a₀ a₁ a₆ n₀ n₁ n₆ f₁
       (appends-then (letter ∷ 32 ∷ []) _ a₁ a₂ a₆ n₁ n₂ n₆ f₂
-      (appends-then (decimal number ++ (32 ∷ [])) _ a₂ a₃ a₆ n₂ n₃ n₆ f₃
-      (appends-then (decimal class ++ (32 ∷ [])) _ a₃ a₄ a₆ n₃ n₄ n₆ f₄
-      (appends-then (decimal read ++ (32 ∷ [])) (decimal compared ++ (10 ∷ [])) a₄ a₅ a₆ n₄ n₅ n₆ f₅ f₆))))
+      (appends-then (decimal (x .number) ++ (32 ∷ [])) _ a₂ a₃ a₆ n₂ n₃ n₆ f₃
+      (appends-then (decimal (x .class) ++ (32 ∷ [])) _ a₃ a₄ a₆ n₃ n₄ n₆ f₄
+      (appends-then (decimal (x .buckets-read) ++ (32 ∷ [])) (decimal (x .records-compared) ++ (10 ∷ [])) a₄ a₅ a₆ n₄ n₅ n₆ f₅ f₆))))
 
 -- what is printed of a reply: of one that is no answer nothing; of an add or a change the class that was written; else the answer
 pub printed-other : (kind : Kind) (class : ℕ) (key : List ℕ) (r : Reply) (x : Totals) (y : Answer) → r ≡ Totalled x → answer-of y ≡ bare 0

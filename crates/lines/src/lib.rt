@@ -65,6 +65,7 @@ fn written(class: u32, x: Answer) -> Answer
         class: if x.number == 0 { class } else { 0 },
         buckets_read: x.buckets_read,
         records_compared: x.records_compared,
+        side_compared: x.side_compared,
     }
 }
 

@@ -16,8 +16,9 @@ use Rattle.theory.specs.Lookup.{Answer, bare, search-areas, fetch-areas, driver
 use Rattle.theory.specs.Ledger.{search, fetch, Step, answered, handed, key-wrong}
 use Rattle.theory.specs.Calls.{call, lookup-lengths, lent-lengths, perform}
 use Rattle.theory.proofs.ListLaws.{and-left, and-right, by-test, all-each}
+use Rattle.hash.specs.Digits.{table-length}
 use Rattle.hash.specs.Table.{table-lengths}
-use Rattle.hash.proofs.TableLaws.{length-allowed}
+use Rattle.hash.proofs.TableLaws.{length-allowed, lent-length}
 use Rattle.settings.specs.declared.Settings.{Settings}
 use Rattle.settings.specs.Checked.{paper, code, card}
 use Rattle.lookup.specs.declared.judging.Judged.{Judged}
@@ -149,6 +150,12 @@ module _ (table : List ℕ) (t : plain.Settings) (clipped buckets side key : Lis
       (λ a. by-test long (λ l. (l, unrefused t clipped buckets side key c (rw (a, l) at e)))
       (λ l. let e′ = rw (a, l) at e in let z : _≡_ {A = ℕ} 0 1 = cc in absurd (omega arith)))
       (λ a. let e′ = rw a at e in let z : _≡_ {A = ℕ} 0 1 = cc in absurd (omega arith))
+
+  -- and the table is long enough to hash the key with
+  pub lent-long : (c : Settings) → judged-with-table table t clipped buckets side key ≡ Ready c → table-length 8 (length key) ≤ length table
+  lent-long c e =
+      let fine = lent-unrefused c e in
+      omega (arith, lent-length _ _ (fine .0), fine .1 .wide, ap (λ (u : plain.Settings). card-of u .width) (fine .1 .same))
 
 -- ---- a burst of n keys
 pub record UnrefusedBurst (table : List ℕ) (t : plain.Settings) (clipped buckets side keys : List ℕ) (n : ℕ) (c : Settings) : Type 0 where

@@ -23,12 +23,18 @@ use Rattle.lookup.specs.declared.judging.Judged.the-variants.{Ready, Ref
 -- the paper's number and values
 abbrev pub answer-of : Answer → plain-lookup.Answer
 answer-of r =
-    record { number = r .number; class = r .class; buckets-read = r .«buckets_read»; records-compared = r .«records_compared» }
+    record {
+      number = r .number;
+      class = r .class;
+      buckets-read = r .«buckets_read»;
+      records-compared = r .«records_compared»;
+      side-compared = r .«side_compared»;
+    }
 
--- the answer of comparing n records, which stand at the start of a place, with so many buckets read
-abbrev pub compared : List ℕ → ℕ → List ℕ → ℕ → plain-lookup.Answer
-compared place n key read =
-    plain-lookup.answer (find key (records (length key) n place)) read (comparisons key (records (length key) n place))
+-- the answer of comparing n records, which stand at the start of a place, with so many buckets read, and with 1 where they are the side store's
+abbrev pub compared : List ℕ → ℕ → List ℕ → ℕ → ℕ → plain-lookup.Answer
+compared place n key read side =
+    plain-lookup.answer (find key (records (length key) n place)) read (comparisons key (records (length key) n place)) side
 
 -- the three lookup areas as the areas of a call that is lent no others
 abbrev pub lookup-areas : List ℕ → List ℕ → List ℕ → Areas

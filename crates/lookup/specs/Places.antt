@@ -28,8 +28,8 @@ pub record CheckedPlaces (t : Settings) (buckets side : List ℕ) : Type 0 where
 abbrev pub place-of : Card → List ℕ → List ℕ → Place → plain.Place
 place-of s buckets side Invalid = plain.invalid
 place-of s buckets side Nowhere = plain.nowhere
-place-of s buckets side (Bucket from records) = plain.among (take (bucket-size s - 1) (drop from buckets)) records 1
-place-of s buckets side (Side records read) = plain.among (drop 2 side) records read
+place-of s buckets side (Bucket from records) = plain.among (take (bucket-size s - 1) (drop from buckets)) records 1 0
+place-of s buckets side (Side records read) = plain.among (drop 2 side) records read 1
 
 -- the records lie inside the areas, and at most one bucket was read
 abbrev pub Inside : Settings → Place → Type 0

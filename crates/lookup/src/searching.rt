@@ -24,12 +24,13 @@ ghost use Rattle.lookup.specs.Places.{CheckedLookup, InBucket, InSide};
 ghost use Rattle.lookup.specs.Scanning.{Scannable, AllScannable};
 ghost use Rattle.lookup.specs.Answers.{answer-of, compared, entry-lookup, at-entry, search-with};
 
-// The answer's number (0 held, 100 absent, else the refusal), class, buckets read, records compared.
+// The answer's number (0 held, 100 absent, else the refusal), class, buckets read, records compared, and 1 where the side store was the place compared.
 pub struct Answer {
     pub number: u32,
     pub class: u32,
     pub buckets_read: u32,
     pub records_compared: u32,
+    pub side_compared: u32,
 }
 
 // The number, with class and counts zero.
@@ -41,6 +42,7 @@ pub fn bare(number: u32) -> Answer
         class: 0,
         buckets_read: 0,
         records_compared: 0,
+        side_compared: 0,
     }
 }
 
@@ -52,9 +54,9 @@ pub fn driver_number(a: Answer) -> u64
 }
 
 // The answer of a scan of some records.
-fn compare(place: &[u8], n: usize, key: &[u8], read: u32) -> Answer
+fn compare(place: &[u8], n: usize, key: &[u8], read: u32, side: u32) -> Answer
     requires { ⌜ Scannable (now place) n (now key) × (n ≤ 4096) ⌝ }
-    ensures { λ r. ⌜ answer-of r ≡ compared (now (place .entry)) n (now (key .entry)) read ⌝ }
+    ensures { λ r. ⌜ answer-of r ≡ compared (now (place .entry)) n (now (key .entry)) read side ⌝ }
 {
     let hit = scan(place, n, key);
     let compared = hit.compared as u32;
@@ -65,6 +67,7 @@ fn compare(place: &[u8], n: usize, key: &[u8], read: u32) -> Answer
             class: memory::records::class_at(place, at),
             buckets_read: read,
             records_compared: compared,
+            side_compared: side,
         };
     }
     Answer {
@@ -72,13 +75,14 @@ fn compare(place: &[u8], n: usize, key: &[u8], read: u32) -> Answer
         class: 0,
         buckets_read: read,
         records_compared: compared,
+        side_compared: side,
     }
 }
 
 // The answer of a scan of all places of a bucket, with no branch on what was found: the class is read anyway, and kept or not.
-fn compare_all(place: &[u8], n: usize, room: usize, key: &[u8], read: u32) -> Answer
+fn compare_all(place: &[u8], n: usize, room: usize, key: &[u8], read: u32, side: u32) -> Answer
     requires { ⌜ AllScannable (now place) n room (now key) ⌝ }
-    ensures { λ r. ⌜ answer-of r ≡ compared (now (place .entry)) n (now (key .entry)) read ⌝ }
+    ensures { λ r. ⌜ answer-of r ≡ compared (now (place .entry)) n (now (key .entry)) read side ⌝ }
 {
     let hit = scan_all(place, n, room, key);
     let at = hit.at + key.len();
@@ -88,6 +92,7 @@ fn compare_all(place: &[u8], n: usize, room: usize, key: &[u8], read: u32) -> An
         class: pick32(hit.found, class, 0),
         buckets_read: read,
         records_compared: hit.compared as u32,
+        side_compared: side,
     }
 }
 
@@ -95,20 +100,20 @@ fn compare_all(place: &[u8], n: usize, room: usize, key: &[u8], read: u32) -> An
 pub fn compare_bucket(s: Settings, buckets: &[u8], from: usize, n: usize, key: &[u8]) -> Answer
     requires { ⌜ InBucket (paper s) (now buckets) (now key) from n ⌝ }
     ensures { λ r. ⌜ answer-of r ≡ plain.answer-at (card s) (now (key .entry))
-        (plain.among (take (bucket-size (card s) - 1) (drop from (now (buckets .entry)))) n 1) ⌝ }
+        (plain.among (take (bucket-size (card s) - 1) (drop from (now (buckets .entry)))) n 1 0) ⌝ }
 {
     let end = from + (s.bucket_size() - 1);
     // the width as the settings have it, which the compiler knows
     let width = s.width();
-    compare_all(&buckets[from..end], n, s.room, &key[..width], 1)
+    compare_all(&buckets[from..end], n, s.room, &key[..width], 1, 0)
 }
 
 // The records of the side store, which start after its count.
 pub fn compare_side(s: Settings, side: &[u8], n: usize, read: u32, key: &[u8]) -> Answer
     requires { ⌜ InSide (paper s) (now side) (now key) n ⌝ }
-    ensures { λ r. ⌜ answer-of r ≡ plain.answer-at (card s) (now (key .entry)) (plain.among (drop 2 (now (side .entry))) n read) ⌝ }
+    ensures { λ r. ⌜ answer-of r ≡ plain.answer-at (card s) (now (key .entry)) (plain.among (drop 2 (now (side .entry))) n read 1) ⌝ }
 {
-    compare(&side[2..], n, key, read)
+    compare(&side[2..], n, key, read, 1)
 }
 
 // Search for a key whose H is h, whichever way it was hashed. The static library has one caller of it, so that the compiler makes one piece of both

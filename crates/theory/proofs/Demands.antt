@@ -4,7 +4,9 @@ use mathlib.Core.Logic.{_≢_}
 use mathlib.Core.Bool.{Bool, true, false, cond, not, false≢true}
 use mathlib.Core.List.{List, [], _∷_}
 use mathlib.Core.Option.{none, some}
-use Prim.Native.Nat.{ℕ, _+_, _*_, zero-le}
+use Prim.Native.Nat.{ℕ, _+_, _*_, _≤_, zero-le, max}
+use native.Mathlib.Nat.{le-trans, max-le}
+use native.Mathlib.Omega.{arith}
 use lib.Dec.{ltb, eqb}
 use borrow.Author.Tests.{eq-eqb}
 use lib.ListN.{length}
@@ -13,7 +15,7 @@ use Rattle.theory.specs.Records.{Record, rising}
 use Rattle.theory.specs.Settings.{Settings, allowed, Card, key-width, card-of, record-size, ledger-length, work-length}
 use Rattle.theory.specs.Placing.{true-count}
 use Rattle.theory.specs.Layout.{Areas, layout}
-use Rattle.theory.specs.Lookup.{bare, place, search-areas, fetch-areas}
+use Rattle.theory.specs.Lookup.{Answer, bare, place, search-areas, fetch-areas}
 use Rattle.theory.specs.Ledger.{Call, clear, add, change, remove, search, fetch, tally, answered, handed, Seen, unseen, seen, answer-seen, key-wrong}
 use Rattle.theory.specs.Ledger.{side-short, refusal, search-by, seen-by, plain}
 use Rattle.theory.specs.Calls.{reply-number, ledger-records, ledger-invalid, update, call, lookup-lengths, all-lengths, lent-lengths, only-reads, perform}
@@ -21,21 +23,22 @@ use Rattle.theory.specs.Calls.{run, areas-after, run-plain, list-after}
 use Rattle.theory.specs.Snapshot.{save, file-settings, file-count, file-records, head-wrong, load}
 use Rattle.theory.specs.Packet.{header-wrong, ports-cut, read-packet}
 use Rattle.theory.specs.Demands.{Small, HasLayout, Sized, RefusedUnchanged, ReadsKeep, RefusedLoad, RefusedSave, RefusedPacket, HeldFound, AbsentNotFound}
-use Rattle.theory.specs.Demands.{Demand3, SameFlowsSameBytes, AreasAfterRun, ListAfterRun, ReadsAtMostOne, OneBucket}
+use Rattle.theory.specs.Demands.{Demand3, SameFlowsSameBytes, AreasAfterRun, ListAfterRun, ReadsAtMostOne, ComparesAtMost, ComparesFew, OneBucket}
 use Rattle.theory.proofs.ListLaws.{by-test}
-use Rattle.theory.proofs.SettingsLaws.{sound}
+use Rattle.theory.proofs.SettingsLaws.{ranges, sound}
 use Rattle.theory.proofs.LookupLaws.{local-place, search-reads}
+use Rattle.theory.proofs.RecordPlaceLaws.{search-compares}
 use Rattle.theory.proofs.OrderLaws.{rising-answers}
 use Rattle.theory.proofs.CallLaws.{found-width, sized, has-layout-empty, stays, call-step}
 
 -- ---- what a found record, and none, make of an answer
 held-answer : (r : Record) (k : List ℕ) (v : Seen) → (answer-seen (some r) k v .number ≡ 0) × (answer-seen (some r) k v .class ≡ r .class)
 held-answer r k unseen = (refl, refl)
-held-answer r k (seen l read) = (refl, refl)
+held-answer r k (seen l read side) = (refl, refl)
 
 absent-answer : (k : List ℕ) (v : Seen) → (answer-seen none k v .number ≡ 100) × (answer-seen none k v .class ≡ 0)
 absent-answer k unseen = (refl, refl)
-absent-answer k (seen l read) = (refl, refl)
+absent-answer k (seen l read side) = (refl, refl)
 
 right-width : (s : Card) (k : List ℕ) → length k ≡ s .width → key-wrong s k ≡ false
 unfolding key-wrong
@@ -172,16 +175,38 @@ module _ (t : Settings) (w : ℕ) where
   fetch-reply k a =
       by-test (allowed t) (λ e. rw e (by-test (all (λ x. x) (lookup-lengths (card-of t) a)) (λ f. rw f) (λ f. rw f))) (λ e. rw e)
 
--- ---- a search reads at most one bucket
+-- ---- a number of a search's answer: at most n where no refusal has more, and none by the areas
+judged-most : (f : Answer → ℕ) (n : ℕ) → ((m : ℕ) → f (bare m) ≤ n) → (t : Settings) (a : Areas) (k : List ℕ)
+    → (allowed t ≡ true → f (search-areas (card-of t) (a .clipped-counts) (a .buckets) (a .side-store) k) ≤ n)
+    → f (cond (not (allowed t)) (bare 1)
+    (cond (not (all (λ x. x) (lookup-lengths (card-of t) a))) (bare 2)
+    (cond (key-wrong (card-of t) k) (bare 3) (search-areas (card-of t) (a .clipped-counts) (a .buckets) (a .side-store) k)))) ≤ n
+judged-most f n refused t a k by-areas =
+    by-test (allowed t)
+    (λ e. rw e (by-test (all (λ x. x) (lookup-lengths (card-of t) a))
+    (λ l. rw l (by-test (key-wrong (card-of t) k) (λ q. rw q (refused 3)) (λ q. rw q (by-areas e))))
+    (λ l. rw l (refused 2))))
+    (λ e. rw e (refused 1))
+
+-- a search reads at most one bucket
 pub reads-at-most-one : ReadsAtMostOne
 reads-at-most-one t w k a =
-    rw (search-reply t w k a)
-    (by-test (allowed t)
-    (λ e. rw e (by-test (all (λ x. x) (lookup-lengths (card-of t) a))
-    (λ f. rw f (by-test (key-wrong (card-of t) k) (λ q. rw q zero-le)
-    (λ q. rw q (search-reads (card-of t) (a .clipped-counts) (a .buckets) (a .side-store) k))))
-    (λ f. rw f zero-le)))
-    (λ e. rw e zero-le))
+    rw (search-reply t w k a) (judged-most (λ x. x .buckets-read) 1 (λ n. zero-le) t a k
+    (λ ok. search-reads (card-of t) (a .clipped-counts) (a .buckets) (a .side-store) k))
+
+-- and compares no more records than a bucket or the side store has places
+pub compares-at-most : ComparesAtMost
+unfolding card-of
+compares-at-most t w k a =
+    rw (search-reply t w k a) (judged-most (λ x. x .records-compared) (max (t .room) (t .side-places)) (λ n. zero-le) t a k
+    (λ ok. search-compares (card-of t) (a .clipped-counts) (a .buckets) (a .side-store) k))
+
+pub compares-few : ComparesFew
+unfolding card-of
+compares-few t w k a =
+    rw (search-reply t w k a) (judged-most (λ x. x .records-compared) 64 (λ n. zero-le) t a k
+    (λ ok. let r = ranges t ok in
+    le-trans (search-compares (card-of t) (a .clipped-counts) (a .buckets) (a .side-store) k) (max-le (omega (arith, r)) (omega (arith, r)))))
 
 -- 1, 2 and 3 first: two searches that agree where none of them applies agree
 judged-alike : {X : Type 0} (refused : ℕ → X) (x y z : Bool) (p q : X) → (x ≡ true → y ≡ true → z ≡ false → p ≡ q)

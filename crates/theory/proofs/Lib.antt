@@ -1,6 +1,7 @@
 pub mod ListLaws
 pub mod GrowingLaws
 pub mod FillLaws
+pub mod WindowLaws
 pub mod BucketNumberLaws
 pub mod SettingsLaws
 pub mod RankLaws

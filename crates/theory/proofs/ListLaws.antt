@@ -2,14 +2,14 @@
 use mathlib.Core.Path.{_≡_, refl, sym, ap, _∙_, subst}
 use mathlib.Core.Logic.{_≢_}
 use mathlib.Core.Bool.{Bool, true, false, cond, not, _&&_, _||_, true≢false, false≢true}
-use mathlib.Core.List.{List, [], _∷_, _++_, map}
+use mathlib.Core.List.{List, [], _∷_, _++_, map, append-nil}
 use Prim.Native.Nat.{ℕ, zero, suc, _+_, _*_, _≤_, _<_, min, zero-le}
 use native.Mathlib.Nat.{le-of-suc-le-suc, not-suc-le-zero, add-zero, suc-add, add-suc, suc-mul, zero-mul, add-comm, le-refl}
 use native.Mathlib.Omega.{arith}
 use lib.Dec.{leb, eqb}
 use borrow.Author.Tests.{eqb-true, eqb-false, eq-eqb, ne-eqb, leb-true, leb-false}
-use lib.ListN.{length, take, drop, getD, replicate, length-append}
-use lib.Seq.{take-at, drop-append-add}
+use lib.ListN.{length, take, drop, getD, replicate, length-append, drop-of-length-le}
+use lib.Seq.{sets, sets-eq, take-at, drop-append-add}
 use Rattle.theory.specs.Lists.{filter, any, all, flat, upto, has, least}
 pub use Rattle.theory.specs.Lists.{All}
 
@@ -154,6 +154,11 @@ module _ {A : Type 0} where
 
   pub length-drop-past : (p q : List A) (n k : ℕ) → length p ≡ n → drop (n + k) (p ++ q) ≡ drop k q
   length-drop-past p q n k e = subst (λ (m : ℕ). drop (m + k) (p ++ q) ≡ drop k q) e (drop-append-add p q k)
+
+  -- an area whose every number was stored is the list of what was stored
+  pub all-stored : (vs l : List A) → length l ≡ length vs → sets l 0 vs ≡ vs
+  all-stored vs l e =
+      sets-eq vs l 0 (omega arith) ∙ ap (λ (r : List A). vs ++ r) (drop-of-length-le l {i = 0 + length vs} (omega arith)) ∙ append-nil vs
 
 -- numbers from a up
 pub length-upto : (a n : ℕ) → length (upto a n) ≡ n

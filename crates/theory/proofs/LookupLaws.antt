@@ -47,7 +47,7 @@ module _ (s : Card) where
 
   module _ (ok : Sound s) (c : ℕ → ℕ) (l : List Record) (fit : All (Fit (s .width)) l) (need : side-need s c l ≤ s .side-places) where
     -- ---- where a search of the layout ends up
-    read-side : (n : ℕ) → side-place s (side-bytes s c l) n ≡ among (places s (s .side-places) (side-records s c l)) (length (side-records s c l)) n
+    read-side : (n : ℕ) → side-place s (side-bytes s c l) n ≡ among (places s (s .side-places) (side-records s c l)) (length (side-records s c l)) n 1
     unfolding side-place side-bytes side-need
     read-side n =
         rw (read-count s (s .side-places) (side-records s c l) (omega (arith, ok .side-small)))
@@ -58,7 +58,7 @@ module _ (s : Card) where
     read-crowded b e = rw (mark-crowded s ok c l b, e)
 
     read-one : (side : List ℕ) (b : ℕ) → crowded s c l b ≡ false
-        → bucket-place s (bucket-bytes s c l b) side ≡ among (places s (s .room) (bucket-records s c l b)) (length (bucket-records s c l b)) 1
+        → bucket-place s (bucket-bytes s c l b) side ≡ among (places s (s .room) (bucket-records s c l b)) (length (bucket-records s c l b)) 1 0
     unfolding bucket-place bucket-bytes
     read-one side b e =
         let m : mark s c l b ≡ length (bucket-records s c l b) = unfold mark in rw (e, lying s ok c l b e) in
@@ -66,20 +66,20 @@ module _ (s : Card) where
 
     -- ---- either search call, F of a place, is H of the records that the placing says are comparisons
     module _ {X : Type 0} (F : Place → X) (H : Seen → X) (away : F nowhere ≡ H unseen)
-        (here : (n : ℕ) (rs : List Record) (b : ℕ) → All (Fit (s .width)) rs → F (among (places s n rs) (length rs) b) ≡ H (seen rs b)) (k : List ℕ) where
+        (here : (n : ℕ) (rs : List Record) (b z : ℕ) → All (Fit (s .width)) rs → F (among (places s n rs) (length rs) b z) ≡ H (seen rs b z)) (k : List ℕ) where
       agree : All (λ b. counter (counter-bytes s c) b ≡ clip s (c b)) (s .numbers k)
       agree = all-map (λ b h. read-counter s ok c b h) (s .numbers k) (ok .numbers-below k)
 
-      at-side : (n : ℕ) → F (side-place s (side-bytes s c l) n) ≡ H (seen (side-records s c l) n)
-      at-side n = rw (read-side n) (here (s .side-places) (side-records s c l) n (side-fit s ok c l fit))
+      at-side : (n : ℕ) → F (side-place s (side-bytes s c l) n) ≡ H (seen (side-records s c l) n 1)
+      at-side n = rw (read-side n) (here (s .side-places) (side-records s c l) n 1 (side-fit s ok c l fit))
 
       at-one : all-top s c k ≡ false → F (bucket-place s (bucket-part s (buckets-bytes s c l) (chosen s c k)) (side-bytes s c l))
-          ≡ H (cond (eqb (mark s c l (chosen s c k)) 255) (seen (side-records s c l) 1) (seen (bucket-records s c l (chosen s c k)) 1))
+          ≡ H (cond (eqb (mark s c l (chosen s c k)) 255) (seen (side-records s c l) 1 1) (seen (bucket-records s c l (chosen s c k)) 1 0))
       at-one f =
           rw (read-bucket s ok c l fit (chosen s c k) (chosen-below s ok c k f), mark-crowded s ok c l (chosen s c k))
           (by-test (crowded s c l (chosen s c k)) (λ e. rw (e, read-crowded (chosen s c k) e) (at-side 1))
           (λ e. rw (e, read-one (side-bytes s c l) (chosen s c k) e)
-          (here (s .room) (bucket-records s c l (chosen s c k)) 1 (bucket-fit s ok c l fit (chosen s c k)))))
+          (here (s .room) (bucket-records s c l (chosen s c k)) 1 0 (bucket-fit s ok c l fit (chosen s c k)))))
 
       pub looked : F (place s (counter-bytes s c) (buckets-bytes s c l) (side-bytes s c l) k) ≡ H (seen-by s c l k)
       unfolding place seen-by
@@ -94,13 +94,13 @@ module _ (s : Card) where
       pub central : search-areas s (counter-bytes s c) (buckets-bytes s c l) (side-bytes s c l) k ≡ search-by s c l k
       unfolding search-areas search-by answer-at
       central =
-          looked (answer-at s k) (λ v. answer-seen (found-in k v) k v) refl (λ n rs b h. rw (read-places s n rs h)) k
+          looked (answer-at s k) (λ v. answer-seen (found-in k v) k v) refl (λ n rs b z h. rw (read-places s n rs h)) k
           ∙ rw (found-where-looked s ok c l up k)
 
       pub central-bytes : fetch-areas s (counter-bytes s c) (buckets-bytes s c l) (side-bytes s c l) k ≡ part (find k l)
       unfolding fetch-areas part-at
       central-bytes =
-          looked (part-at s k) (λ v. part (found-in k v)) refl (λ n rs b h. read-place-bytes s k n rs h) k
+          looked (part-at s k) (λ v. part (found-in k v)) refl (λ n rs b z h. read-place-bytes s k n rs h) k
           ∙ rw (found-where-looked s ok c l up k)
 
   -- ---- locality: on other areas with the same clipped counts and side store, and alike in the chosen bucket if one is read, a search comes to the same place
@@ -117,7 +117,7 @@ module _ (s : Card) where
   abbrev reads : Place → ℕ
   reads invalid = 0
   reads nowhere = 0
-  reads (among a n read) = read
+  reads (among a n read z) = read
 
   side-reads : (side : List ℕ) (n : ℕ) → reads (side-place s side n) ≤ n
   unfolding side-place
@@ -137,9 +137,9 @@ module _ (s : Card) where
       (λ z. rw z (by-test (all (λ b. eqb (counter clipped b) (s .top)) (s .numbers k)) (λ f. rw f (le-trans (side-reads side 0) zero-le))
       (λ f. rw f (bucket-reads (bucket-part s buckets (chosen s (counter clipped) k)) side))))))
 
-  answer-reads : (o : Option Record) (read compared : ℕ) → answer o read compared .buckets-read ≡ read
-  answer-reads none read compared = refl
-  answer-reads (some r) read compared = refl
+  answer-reads : (o : Option Record) (read compared z : ℕ) → answer o read compared z .buckets-read ≡ read
+  answer-reads none read compared z = refl
+  answer-reads (some r) read compared z = refl
 
   pub search-reads : (clipped buckets side k : List ℕ) → search-areas s clipped buckets side k .buckets-read ≤ 1
   unfolding search-areas answer-at
@@ -148,4 +148,4 @@ module _ (s : Card) where
       go : (x : Place) → reads x ≤ 1 → answer-at s k x .buckets-read ≤ 1
       go invalid h = zero-le
       go nowhere h = zero-le
-      go (among a n read) h = rw (answer-reads (find k (records (s .width) n a)) read (comparisons k (records (s .width) n a))) h
+      go (among a n read z) h = rw (answer-reads (find k (records (s .width) n a)) read (comparisons k (records (s .width) n a)) z) h

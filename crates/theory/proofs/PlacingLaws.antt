@@ -60,7 +60,7 @@ find-filter p k e (r ∷ rs) = go (same-key k (r .key)) refl (p (r .key)) refl (
 -- the key's record among those that a search compares
 abbrev pub found-in : List ℕ → Seen → Option Record
 found-in k unseen = none
-found-in k (seen l read) = find k l
+found-in k (seen l read side) = find k l
 
 module _ (s : Card) where
   -- ---- a held key has no zero counter

@@ -3,8 +3,8 @@ use mathlib.Core.Path.{_≡_, refl, sym, ap, _∙_}
 use mathlib.Core.Bool.{Bool, true, false, cond, false≢true}
 use mathlib.Core.List.{List, [], _∷_}
 use mathlib.Core.Option.{Option, none, some}
-use Prim.Native.Nat.{ℕ, zero, suc, _+_, _-_, _*_, _≤_, _<_}
-use native.Mathlib.Nat.{mul-comm, suc-mul, mul-le-mul-right}
+use Prim.Native.Nat.{ℕ, zero, suc, _+_, _-_, _*_, _≤_, _<_, zero-le, max}
+use native.Mathlib.Nat.{mul-comm, suc-mul, mul-le-mul-right, le-max-left, le-max-right}
 use native.Mathlib.Omega.{arith}
 use lib.Dec.{eqb, ltb, leb}
 use borrow.Author.Tests.{eq-eqb, ne-eqb, ltb-false, leb-true, leb-false}
@@ -41,9 +41,9 @@ not-above top n e =
 
 -- ---- the key's record among records: as many are compared as stand up to it
 module _ (k : List ℕ) where
-  compared-some : (l : List Record) (read n : ℕ) → answer (find k l) read n .number ≡ 0 → 1 ≤ comparisons k l
-  compared-some [] read n e = absurd (omega arith)
-  compared-some (r ∷ l) read n e = by-test (same-key k (r .key)) (λ q. rw q (omega arith)) (λ q. rw q (omega arith))
+  compared-some : (l : List Record) (read n z : ℕ) → answer (find k l) read n z .number ≡ 0 → 1 ≤ comparisons k l
+  compared-some [] read n z e = absurd (omega arith)
+  compared-some (r ∷ l) read n z e = by-test (same-key k (r .key)) (λ q. rw q (omega arith)) (λ q. rw q (omega arith))
 
   compared-few : (l : List Record) → comparisons k l ≤ length l
   compared-few [] = omega arith
@@ -53,36 +53,36 @@ module _ (k : List ℕ) where
     next : (c : ℕ) → 1 ≤ c → w + 4 + (c - 1) * (w + 4) ≡ (suc c - 1) * (w + 4)
     next c h = let e : suc c - 1 ≡ c = omega arith in rw e (omega (arith, one-back c (w + 4) h))
 
-    bytes-found : (n : ℕ) (a : List ℕ) (read m : ℕ) → answer (find k (records w n a)) read m .number ≡ 0
+    bytes-found : (n : ℕ) (a : List ℕ) (read m z : ℕ) → answer (find k (records w n a)) read m z .number ≡ 0
         → find-bytes w n a k ≡ take (w + 4) (drop ((comparisons k (records w n a) - 1) * (w + 4)) a)
     unfolding find-bytes records entries record-at
-    bytes-found zero a read m e = absurd (omega arith)
-    bytes-found (suc n) a read m e =
-        by-test (same-key k (take w a)) (λ q. let z : (1 - 1) * (w + 4) ≡ 0 = omega arith in rw (q, z))
+    bytes-found zero a read m z e = absurd (omega arith)
+    bytes-found (suc n) a read m z e =
+        by-test (same-key k (take w a)) (λ q. let none-before : (1 - 1) * (w + 4) ≡ 0 = omega arith in rw (q, none-before))
         (λ q. let e′ = rw q at e in
         let c = comparisons k (records w n (drop (w + 4) a)) in
-        rw q (bytes-found n (drop (w + 4) a) read m e′
+        rw q (bytes-found n (drop (w + 4) a) read m z e′
         ∙ ap (take (w + 4)) (drop-drop ((c - 1) * (w + 4)) (w + 4) a
-        ∙ ap (λ (x : ℕ). drop x a) (next c (compared-some (records w n (drop (w + 4) a)) read m e′)))))
+        ∙ ap (λ (x : ℕ). drop x a) (next c (compared-some (records w n (drop (w + 4) a)) read m z e′)))))
 
-    bytes-none : (n : ℕ) (a : List ℕ) (read m : ℕ) → (answer (find k (records w n a)) read m .number ≡ 0 → ⊥) → find-bytes w n a k ≡ []
+    bytes-none : (n : ℕ) (a : List ℕ) (read m z : ℕ) → (answer (find k (records w n a)) read m z .number ≡ 0 → ⊥) → find-bytes w n a k ≡ []
     unfolding find-bytes records entries record-at
-    bytes-none zero a read m e = refl
-    bytes-none (suc n) a read m e =
-        by-test (same-key k (take w a)) (λ q. absurd ((rw q at e) refl)) (λ q. rw q (bytes-none n (drop (w + 4) a) read m (rw q at e)))
+    bytes-none zero a read m z e = refl
+    bytes-none (suc n) a read m z e =
+        by-test (same-key k (take w a)) (λ q. absurd ((rw q at e) refl)) (λ q. rw q (bytes-none n (drop (w + 4) a) read m z (rw q at e)))
 
-answer-compared : (o : Option Record) (read compared : ℕ) → answer o read compared .records-compared ≡ compared
-answer-compared none read compared = refl
-answer-compared (some r) read compared = refl
+answer-compared : (o : Option Record) (read compared z : ℕ) → answer o read compared z .records-compared ≡ compared
+answer-compared none read compared z = refl
+answer-compared (some r) read compared z = refl
 
 -- a search that finds the key has compared a record
 pub compared-one : (s : Card) (k : List ℕ) (x : Place) → answer-at s k x .number ≡ 0 → 1 ≤ answer-at s k x .records-compared
 unfolding answer-at
 compared-one s k invalid e = absurd (omega arith)
 compared-one s k nowhere e = absurd (omega arith)
-compared-one s k (among a n read) e =
+compared-one s k (among a n read z) e =
     let l = records (s .width) n a in
-    rw (answer-compared (find k l) read (comparisons k l)) (compared-some k l read (comparisons k l) e)
+    rw (answer-compared (find k l) read (comparisons k l) z) (compared-some k l read (comparisons k l) z e)
 
 module _ (s : Card) (clipped buckets side k : List ℕ) where
   abbrev b : ℕ
@@ -98,7 +98,7 @@ module _ (s : Card) (clipped buckets side k : List ℕ) where
   abbrev From : Bool → Place → Type 0
   From g invalid = Unit {0}
   From g nowhere = Unit {0}
-  From g (among a n read) = (a ≡ cond g (drop 1 (bucket-part s buckets b)) (drop 2 side)) × (n ≤ cond g (s .room) (s .side-places))
+  From g (among a n read z) = (a ≡ cond g (drop 1 (bucket-part s buckets b)) (drop 2 side)) × (n ≤ cond g (s .room) (s .side-places))
 
   side-from : (n : ℕ) → From false (side-place s side n)
   unfolding side-place
@@ -113,6 +113,23 @@ module _ (s : Card) (clipped buckets side k : List ℕ) where
       (λ f. rw f (by-test (eqb (getD (bucket-part s buckets b) 0 0) 255) (λ m. rw m (side-from 1))
       (λ m. rw m (by-test (ltb (s .room) (getD (bucket-part s buckets b) 0 0)) (λ q. rw q tt) (λ q. rw q (refl, ltb-false _ _ q))))))))))
 
+  -- ---- so no search compares more records than a bucket or the side store has places
+  pub search-compares : found .records-compared ≤ max (s .room) (s .side-places)
+  unfolding search-areas answer-at
+  search-compares = go in-bucket (place s clipped buckets side k) from
+    where
+      either-place : (g : Bool) → cond g (s .room) (s .side-places) ≤ max (s .room) (s .side-places)
+      either-place true = le-max-left (s .room) (s .side-places)
+      either-place false = le-max-right (s .room) (s .side-places)
+
+      go : (g : Bool) (x : Place) → From g x → answer-at s k x .records-compared ≤ max (s .room) (s .side-places)
+      go g invalid f = zero-le
+      go g nowhere f = zero-le
+      go g (among a n read z) f =
+          let l = records (s .width) n a in
+          rw (answer-compared (find k l) read (comparisons k l) z)
+          (omega (arith, compared-few k l, length-records (s .width) n a, f .1, either-place g))
+
   -- ---- the record found, so many bytes after the first
   abbrev after : Place → ℕ
   after x = (answer-at s k x .records-compared - 1) * record-size s
@@ -121,22 +138,22 @@ module _ (s : Card) (clipped buckets side k : List ℕ) where
   unfolding answer-at record-size
   after-inside g invalid f e = absurd (omega arith)
   after-inside g nowhere f e = absurd (omega arith)
-  after-inside g (among a n read) f e =
+  after-inside g (among a n read z) f e =
       let l = records (s .width) n a in
       let c = comparisons k l in
       let most = cond g (s .room) (s .side-places) in
       let few : c ≤ most = omega (arith, compared-few k l, length-records (s .width) n a, f .1) in
-      rw (answer-compared (find k l) read c)
-      (omega (arith, one-back c (s .width + 4) (compared-some k l read c e), mul-le-mul-right (s .width + 4) few, mul-comm most (s .width + 4)))
+      rw (answer-compared (find k l) read c z)
+      (omega (arith, one-back c (s .width + 4) (compared-some k l read c z e), mul-le-mul-right (s .width + 4) few, mul-comm most (s .width + 4)))
 
   bytes-at : (g : Bool) (x : Place) → From g x → answer-at s k x .number ≡ 0
       → part-at s k x ≡ take (record-size s) (drop (after x) (cond g (drop 1 (bucket-part s buckets b)) (drop 2 side)))
   unfolding answer-at part-at record-size
   bytes-at g invalid f e = absurd (omega arith)
   bytes-at g nowhere f e = absurd (omega arith)
-  bytes-at g (among a n read) f e =
+  bytes-at g (among a n read z) f e =
       let l = records (s .width) n a in
-      rw (answer-compared (find k l) read (comparisons k l), ← f .0) (bytes-found k (s .width) n a read (comparisons k l) e)
+      rw (answer-compared (find k l) read (comparisons k l) z, ← f .0) (bytes-found k (s .width) n a read (comparisons k l) z e)
 
   -- the same from the start of the area
   in-area : (g : Bool) (at : ℕ) → at + record-size s ≤ record-size s * cond g (s .room) (s .side-places)
@@ -177,7 +194,7 @@ module _ (s : Card) (clipped buckets side k : List ℕ) where
   unfolding answer-at part-at
   no-part invalid n = refl
   no-part nowhere n = refl
-  no-part (among a m read) n = bytes-none k (s .width) m a read (comparisons k (records (s .width) m a)) n
+  no-part (among a m read z) n = bytes-none k (s .width) m a read (comparisons k (records (s .width) m a)) z n
 
   pub not-held : (found .number ≡ 0 → ⊥) → (record-place s clipped buckets side k ≡ no-place) × (fetch-areas s clipped buckets side k ≡ [])
   unfolding record-place search-areas fetch-areas

@@ -13,7 +13,7 @@ use Rattle.theory.specs.Lookup.{bare, counter, bucket-part, search-areas
 use Rattle.theory.specs.Ledger.{Call, clear, add, change, remove, search, fetch, tally, Totals, no-totals, Reply, answered, handed, totalled, Step}
 use Rattle.theory.specs.Ledger.{key-wrong, next, refusal, counted-totals, plain}
 
--- the number, class and buckets read of what comes back; fetch hands back a part alone
+-- the number, class, buckets read and records compared of what comes back; fetch hands back a part alone
 abbrev pub reply-number : Reply → ℕ
 reply-number (answered x) = x .number
 reply-number (handed p) = 0
@@ -28,6 +28,11 @@ abbrev pub reply-buckets-read : Reply → ℕ
 reply-buckets-read (answered x) = x .buckets-read
 reply-buckets-read (handed p) = 0
 reply-buckets-read (totalled x) = 0
+
+abbrev pub reply-compared : Reply → ℕ
+reply-compared (answered x) = x .records-compared
+reply-compared (handed p) = 0
+reply-compared (totalled x) = 0
 
 -- a refused call: the number with class and counts zero, of fetch only the empty part
 abbrev pub refused-reply : Call → ℕ → Reply

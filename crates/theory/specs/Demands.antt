@@ -6,7 +6,7 @@ use mathlib.Core.Logic.{_≢_}
 use mathlib.Core.Bool.{Bool, true, not, _&&_}
 use mathlib.Core.List.{List, [], _∷_}
 use mathlib.Core.Option.{none, some}
-use Prim.Native.Nat.{ℕ, _≤_, _<_, _^_}
+use Prim.Native.Nat.{ℕ, _≤_, _<_, _^_, max}
 use lib.ListN.{length}
 use Rattle.theory.specs.Lists.{all, All}
 use Rattle.theory.specs.Records.{Record, record-bytes, rising, find}
@@ -15,7 +15,7 @@ use Rattle.theory.specs.Placing.{chosen}
 use Rattle.theory.specs.Layout.{Areas, layout}
 use Rattle.theory.specs.Lookup.{counter, bucket-part, reads-bucket}
 use Rattle.theory.specs.Ledger.{Call, clear, add, change, remove, search, fetch, tally, handed, key-wrong, side-need-of}
-use Rattle.theory.specs.Calls.{reply-number, reply-class, reply-buckets-read, ledger-records, lookup-lengths, only-reads, lent-areas, lent-work, perform}
+use Rattle.theory.specs.Calls.{reply-number, reply-class, reply-buckets-read, reply-compared, ledger-records, lookup-lengths, only-reads, lent-areas, lent-work, perform}
 use Rattle.theory.specs.Calls.{run, areas-after, last-state, run-plain, list-after}
 use Rattle.theory.specs.Snapshot.{save, load}
 use Rattle.theory.specs.Packet.{read-packet}
@@ -141,6 +141,13 @@ AsLent =
 -- "Each search reads at most one bucket": reads-at-most-one, one-bucket. On every input
 abbrev pub ReadsAtMostOne : Type 0
 ReadsAtMostOne = (t : Settings) (w : ℕ) (k : List ℕ) (a : Areas) → reply-buckets-read (perform t w (search k) a .reply) ≤ 1
+
+-- and it compares at most as many records as a bucket or the side store has places, so at most 64: compares-at-most, compares-few. On every input
+abbrev pub ComparesAtMost : Type 0
+ComparesAtMost = (t : Settings) (w : ℕ) (k : List ℕ) (a : Areas) → reply-compared (perform t w (search k) a .reply) ≤ max (t .room) (t .side-places)
+
+abbrev pub ComparesFew : Type 0
+ComparesFew = (t : Settings) (w : ℕ) (k : List ℕ) (a : Areas) → reply-compared (perform t w (search k) a .reply) ≤ 64
 
 -- a bucket is read: the call ends neither in 1 nor in 2 nor in 3, and the counters send the key to a bucket
 abbrev pub bucket-read : Settings → List ℕ → Areas → Bool

@@ -71,7 +71,13 @@ call-in b =
 -- the answer with the class that was written: of an accepted add or change
 unfoldable pub written : ℕ → Answer → Answer
 written class x =
-    record { number = x .number; class = cond (eqb (x .number) 0) class 0; buckets-read = x .buckets-read; records-compared = x .records-compared }
+    record {
+      number = x .number;
+      class = cond (eqb (x .number) 0) class 0;
+      buckets-read = x .buckets-read;
+      records-compared = x .records-compared;
+      side-compared = x .side-compared;
+    }
 
 -- what is printed of a call's reply; flowrun has no fetch and no tally
 abbrev pub printed : Call → Reply → Answer

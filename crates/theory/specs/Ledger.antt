@@ -76,14 +76,14 @@ counted-totals marks side n m =
       fill = fill-of n m;
     }
 
--- the records that a search compares, with the buckets that it reads; none where a clipped count is zero
+-- the records that a search compares, with the buckets that it reads, and 1 where they are the side store's; none where a clipped count is zero
 pub data Seen : Type 0 where
   unseen : Seen
-  seen : List Record → ℕ → Seen
+  seen : List Record → ℕ → ℕ → Seen
 
 abbrev pub answer-seen : Option Record → List ℕ → Seen → Answer
-answer-seen o k unseen = answer o 0 0
-answer-seen o k (seen l read) = answer o read (comparisons k l)
+answer-seen o k unseen = answer o 0 0 0
+answer-seen o k (seen l read side) = answer o read (comparisons k l) side
 
 module _ (s : Card) where
   -- refusal 3: a key not of the card's width
@@ -125,8 +125,8 @@ module _ (s : Card) where
       let clipped : ℕ → ℕ = λ b. clip s (c b) in
       let b = chosen s clipped k in
       cond (any (λ b. eqb (clipped b) 0) (s .numbers k)) unseen
-      (cond (all (λ b. eqb (clipped b) (s .top)) (s .numbers k)) (seen (side-records s c l) 0)
-      (cond (eqb (mark s c l b) 255) (seen (side-records s c l) 1) (seen (bucket-records s c l b) 1)))
+      (cond (all (λ b. eqb (clipped b) (s .top)) (s .numbers k)) (seen (side-records s c l) 0 1)
+      (cond (eqb (mark s c l b) 255) (seen (side-records s c l) 1 1) (seen (bucket-records s c l b) 1 0)))
 
   unfoldable pub search-by : (ℕ → ℕ) → List Record → List ℕ → Answer
   search-by c l k = answer-seen (find k l) k (seen-by c l k)

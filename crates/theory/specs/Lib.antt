@@ -7,6 +7,7 @@ pub mod Layout
 pub mod Lookup
 pub mod Ledger
 pub mod Fill
+pub mod Window
 pub mod Calls
 pub mod CallAreas
 pub mod Snapshot

@@ -12,8 +12,8 @@ use Rattle.theory.specs.Records.{Record, of-bytes, count-of}
 use Rattle.theory.specs.Settings.{Settings, settings-of, allowed, Card, card-of}
 use Rattle.theory.specs.Settings.{ledger-length, true-length, clipped-length, buckets-length, side-length, work-length}
 use Rattle.theory.specs.Layout.{Areas}
-use Rattle.theory.specs.Ledger.{Call, clear, Reply, answered, handed, totalled, Step, side-need-of, plain}
-use Rattle.theory.specs.Calls.{reply-number, call}
+use Rattle.theory.specs.Ledger.{Call, clear, Reply, Step, side-need-of, plain}
+use Rattle.theory.specs.Calls.{reply-number, reply-compared, call}
 use Rattle.theory.specs.Flowrun.{decimal, then-space, then-line-feed}
 use Rattle.theory.specs.BenchLoad.{load-calls, BenchLoad, load-in, load-wrong}
 use Rattle.theory.specs.Demands.{Small}
@@ -30,12 +30,6 @@ pub record Numbers : Type 0 where
 -- before the first call, on a cleared table: the empty list has no side need
 abbrev pub no-numbers : Numbers
 no-numbers = record { greatest-need = 0; refused-6 = 0; refused-7 = 0; refused-8 = 0; refused-9 = 0; compared = 0 }
-
--- records compared, of an answer: a search's; an update's are zero
-abbrev pub reply-compared : Reply → ℕ
-reply-compared (answered x) = x .records-compared
-reply-compared (handed p) = 0
-reply-compared (totalled x) = 0
 
 abbrev pub greater : ℕ → ℕ → ℕ
 greater a b = cond (ltb a b) b a

@@ -5,8 +5,8 @@ use Prim.Native.Nat.{ℕ, _+_, _*_, _≤_, _<_}
 use native.Mathlib.Omega.{arith}
 use lib.Dec.{eqb}
 use Rattle.theory.specs.Ledger.{Reply}
-use Rattle.theory.specs.Calls.{reply-number}
-use Rattle.theory.specs.Trials.{Numbers, no-numbers, reply-compared, greater, counted}
+use Rattle.theory.specs.Calls.{reply-number, reply-compared}
+use Rattle.theory.specs.Trials.{Numbers, no-numbers, greater, counted}
 use Rattle.trials.specs.Data.{Growing, Grown}
 
 -- the six fields by the reply's number and its records compared

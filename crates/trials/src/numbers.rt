@@ -4,7 +4,7 @@ ghost use mathlib.Core.Path.{_≡_};
 ghost use mathlib.Core.Bool.{cond};
 ghost use Prim.Native.Nat.{_+_, _≤_, _<_};
 ghost use lib.Dec.{eqb};
-ghost use Rattle.theory.specs.Calls.{reply-number};
+ghost use Rattle.theory.specs.Calls.{reply-number, reply-compared};
 ghost use Rattle.theory.specs.Trials as plain;
 ghost use Rattle.calls.specs.Data.{reply-of};
 ghost use Rattle.trials.specs.Data.{numbers-of, Growing, Grown};
@@ -44,7 +44,7 @@ fn number_of(reply: Reply) -> u32
 
 // Its records compared: a search's.
 fn compared_of(reply: Reply) -> u32
-    ensures { λ r. ⌜ r ≡ plain.reply-compared (reply-of reply) ⌝ }
+    ensures { λ r. ⌜ r ≡ reply-compared (reply-of reply) ⌝ }
 {
     match reply {
         Reply::Answered(answer) => answer.records_compared,

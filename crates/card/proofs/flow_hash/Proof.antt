@@ -1,5 +1,6 @@
 -- `flow_hash` meets its contract: the one number of the area is stored.
-use Rattle.card.proofs.AreaLaws.{one-stored}
+use mathlib.Core.List.{[], _∷_}
+use Rattle.theory.proofs.ListLaws.{all-stored}
 use Rattle.card.proofs.DoorLaws.{hash-2, hash-3, hash-0}
 use borrow.Author.Needs.{needs}
 use Rattle.card.proofs.flow_hash.Statement.{statement}
@@ -19,7 +20,7 @@ returns-3 c =
     let before = c .before .before .before .before .before in
     let if1 = c .before .before .if1 in
     let start = before in
-    rw (one-stored (start .args .h .now) (c .h-rows .result) (if1 .left), c .h-rows .ensures)
+    rw (all-stored (c .h-rows .result ∷ []) (start .args .h .now) (if1 .left), c .h-rows .ensures)
     (hash-0 _ (start .args .key .now) (start .args .h .now) (if1 .left) (c .before .if2 .left))
 
 pub flow-hash-spec : {M : Type 1} → statement M

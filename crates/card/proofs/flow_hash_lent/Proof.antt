@@ -1,7 +1,8 @@
 -- `flow_hash_lent` meets its contract: the one number of the area is stored, and it is what the table gives.
 use mathlib.Core.Path.{_∙_}
+use mathlib.Core.List.{[], _∷_}
 use borrow.Author.Needs.{needs}
-use Rattle.card.proofs.AreaLaws.{one-stored}
+use Rattle.theory.proofs.ListLaws.{all-stored}
 use Rattle.card.proofs.DoorLaws.{hash-2, hash-3, hash-0, lent-wrong, lent-long}
 use Rattle.card.proofs.flow_hash_lent.Statement.{statement}
 use Rattle.card.proofs.flow_hash_lent.Tie as tie
@@ -25,7 +26,7 @@ returns-4 : tie.Need-returns-4
 returns-4 c =
     let args = c .before .before .before .before .before .before .before .args in
     let one = c .before .before .if2 .left in
-    rw (one-stored (args .h .now) (c .h-with-table .result) one, c .h-with-table .ensures .0)
+    rw (all-stored (c .h-with-table .result ∷ []) (args .h .now) one, c .h-with-table .ensures .0)
     (hash-0 _ (args .key .now) (args .h .now) one (c .before .if3 .left) ∙ lent-long (args .lent .now) _ _ (c .before .before .before .if1 .left))
 
 pub flow-hash-lent-spec : {M : Type 1} → statement M

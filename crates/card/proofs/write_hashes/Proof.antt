@@ -1,6 +1,7 @@
 -- `write_hashes` meets its contract: all four numbers are stored.
+use mathlib.Core.List.{[], _∷_}
+use Rattle.theory.proofs.ListLaws.{all-stored}
 use Rattle.card.specs.Doors.{first-hashes}
-use Rattle.card.proofs.AreaLaws.{four-stored}
 use borrow.Author.Needs.{needs}
 use Rattle.card.proofs.write_hashes.Statement.{statement}
 use Rattle.card.proofs.write_hashes.Tie as tie
@@ -13,7 +14,7 @@ returns c =
     let hash-at2 = c .before .before .hash-at2 in
     let hash-at3 = c .before .hash-at3 in
     rw (← hash-at .ensures, ← hash-at2 .ensures, ← hash-at3 .ensures, ← c .hash-at4 .ensures)
-    (four-stored (start .args .hashes .now) (hash-at .result) (hash-at2 .result) (hash-at3 .result) (c .hash-at4 .result) (start .pre .1))
+    (all-stored (hash-at .result ∷ hash-at2 .result ∷ hash-at3 .result ∷ c .hash-at4 .result ∷ []) (start .args .hashes .now) (start .pre .1))
 
 pub write-hashes-spec : {M : Type 1} → statement M
 write-hashes-spec =

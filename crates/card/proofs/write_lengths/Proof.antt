@@ -1,8 +1,9 @@
 -- `write_lengths` meets its contract: all six numbers are stored.
+use mathlib.Core.List.{[], _∷_}
 use native.Mathlib.Omega.{arith}
 use lib.ListN.{length-set}
+use Rattle.theory.proofs.ListLaws.{all-stored}
 use Rattle.card.specs.Doors.{lengths-of}
-use Rattle.card.proofs.AreaLaws.{six-stored}
 use borrow.Author.Needs.{needs}
 use Rattle.card.proofs.write_lengths.Statement.{statement}
 use Rattle.card.proofs.write_lengths.Tie as tie
@@ -18,8 +19,8 @@ returns c =
     let start = ledger .before .before in
     rw (← ledger .ledger-length .ensures, ← counts .true-length .ensures, ← clipped .clipped-length .ensures)
     (rw (← buckets .buckets-length .ensures, ← side .side-length .ensures, ← c .work-length .ensures)
-    (six-stored (start .args .lengths .now) (ledger .ledger-length .result) (counts .true-length .result) (clipped .clipped-length .result)
-    (buckets .buckets-length .result) (side .side-length .result) (c .work-length .result) (start .pre .1)))
+    (all-stored (ledger .ledger-length .result ∷ counts .true-length .result ∷ clipped .clipped-length .result ∷ buckets .buckets-length .result
+    ∷ side .side-length .result ∷ c .work-length .result ∷ []) (start .args .lengths .now) (start .pre .1)))
 
 pub write-lengths-spec : {M : Type 1} → statement M
 write-lengths-spec =

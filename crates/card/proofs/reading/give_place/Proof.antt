@@ -1,34 +1,33 @@
 -- `card::reading::give_place` meets its contract: each refusal in its order, then both numbers are stored.
 use mathlib.Core.Path.{ap, _∙_}
-use mathlib.Core.List.{List}
+use mathlib.Core.List.{List, [], _∷_}
 use Prim.Native.Nat.{ℕ}
 use borrow.Author.Needs.{needs}
 use lib.Dec.{eqb}
 use Rattle.theory.specs.Lookup.{driver-number}
+use Rattle.theory.proofs.ListLaws.{all-stored}
 use Rattle.lookup.specs.Answers.{answer-of}
-use Rattle.lookup.specs.Locating.{lies-at}
-use Rattle.card.proofs.AreaLaws.{two-stored}
-use Rattle.card.proofs.ReadingLaws.{either-holds, neither-holds, place-1, place-2, place-refused, place-there}
+use Rattle.card.proofs.ReadingLaws.{either-holds, neither-holds, given-1, given-2, given-refused, given-there}
 use Rattle.card.proofs.reading.give_place.Statement.{statement}
 use Rattle.card.proofs.reading.give_place.Tie as tie
 
 returns : tie.Need-returns
 returns c =
     let args = c .before .before .before .before .args in
-    rw (c .driver-number .ensures) (place-1 _ (lies-at (args .found)) (args .place .now) (c .before .if1 .taken))
+    rw (c .driver-number .ensures) (given-1 _ _ (args .place .now) (c .before .if1 .taken))
 
 returns-2 : tie.Need-returns-2
 returns-2 c =
     let args = c .before .before .before .before .before .before .args in
     rw (c .driver-number2 .ensures, c .before .bare .ensures)
-    (place-2 _ (lies-at (args .found)) (args .place .now) (c .before .before .before .if1 .left) (c .before .before .if2 .taken))
+    (given-2 _ _ (args .place .now) (c .before .before .before .if1 .left) (c .before .before .if2 .taken))
 
 returns-3 : tie.Need-returns-3
 returns-3 c =
     let args = c .before .before .before .before .before .before .args in
     let n = args .found .answer .number in
     rw (c .driver-number3 .ensures)
-    (place-refused _ (lies-at (args .found)) (args .place .now) (c .before .before .before .if1 .left) (c .before .before .if2 .left)
+    (given-refused _ _ (args .place .now) (c .before .before .before .if1 .left) (c .before .before .if2 .left)
     (neither-holds (eqb n 0) (eqb n 100) (c .before .if3 .taken)))
 
 returns-4 : tie.Need-returns-4
@@ -38,8 +37,8 @@ returns-4 c =
     let two = c .before .before .if2 .left in
     rw (c .driver-number4 .ensures)
     (ap (λ (l : List ℕ). record { number = driver-number (answer-of (args .found .answer)); area = l })
-    (two-stored (args .place .now) (args .found .area) (args .found .start) two)
-    ∙ place-there _ (lies-at (args .found)) (args .place .now) (c .before .before .before .if1 .left) two
+    (all-stored (args .found .area ∷ args .found .start ∷ []) (args .place .now) two)
+    ∙ given-there _ _ (args .place .now) (c .before .before .before .if1 .left) two
     (either-holds (eqb n 0) (eqb n 100) (c .before .if3 .left)))
 
 pub give-place-spec : {M : Type 1} → statement M

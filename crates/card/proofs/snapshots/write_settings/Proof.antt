@@ -1,15 +1,16 @@
 -- `card::snapshots::write_settings` meets its contract: all six numbers are stored.
+use mathlib.Core.List.{[], _∷_}
 use native.Mathlib.Omega.{arith}
 use lib.ListN.{length-set}
-use Rattle.card.proofs.AreaLaws.{six-stored}
 use borrow.Author.Needs.{needs}
+use Rattle.theory.proofs.ListLaws.{all-stored}
 use Rattle.card.proofs.snapshots.write_settings.Statement.{statement}
 use Rattle.card.proofs.snapshots.write_settings.Tie as tie
 
 returns : tie.Need-returns
 returns c =
     let given = c .args .given in
-    six-stored (c .args .to .now) (given .p) (given .k) (given .room) (given .top) (given .capacity) (given .«side_places») (c .pre)
+    all-stored (given .p ∷ given .k ∷ given .room ∷ given .top ∷ given .capacity ∷ given .«side_places» ∷ []) (c .args .to .now) (c .pre)
 
 pub write-settings-spec : {M : Type 1} → statement M
 write-settings-spec =

@@ -13,7 +13,7 @@ use Rattle.settings.specs.declared.Settings.{Settings}
 use Rattle.settings.specs.Checked.{given-of}
 use Rattle.lookup.specs.declared.judging.Judged.the-variants.{Ready}
 use Rattle.lookup.specs.Answers.{judged-with-table}
-use Rattle.lookup.proofs.JudgeLaws.{Unrefused, lent-unrefused}
+use Rattle.lookup.proofs.JudgeLaws.{Unrefused, lent-unrefused, lent-long}
 use Rattle.lookup.proofs.WithTableLaws.{with-refused, with-ready}
 use Rattle.lookup.proofs.searching.search_with_table.Statement.{statement}
 use Rattle.lookup.proofs.searching.search_with_table.Tie as tie
@@ -33,14 +33,8 @@ module _ (c : tie.After-judged2) where
       ≡ Ready s
   ready = sym (c .before .before .judge-with-table .ensures) ∙ c .judged2 .given .1
 
-  right : (has (length (start .args .table .now)) (table-lengths (card-of t .width)) ≡ true)
-      × Unrefused t (start .args .clipped .now) (start .args .buckets .now) (start .args .side .now) (start .args .key .now) s
-  right = lent-unrefused _ t _ _ _ _ s ready
-
-h-with-table-requires : tie.Need-h-with-table-requires
-h-with-table-requires c κs =
-    let fine = right (c .before) in
-    omega (arith, lent-length _ _ (fine .0), fine .1 .wide, ap (λ (u : plain.Settings). card-of u .width) (fine .1 .same))
+  right : Unrefused t (start .args .clipped .now) (start .args .buckets .now) (start .args .side .now) (start .args .key .now) s
+  right = lent-unrefused _ t _ _ _ _ s ready .1
 
 returns : tie.Need-returns
 returns c =
@@ -50,9 +44,10 @@ returns c =
 returns-2 : tie.Need-returns-2
 returns-2 c =
     let at = c .before .before .before in
-    c .search-at .ensures ∙ with-ready _ _ _ _ _ _ (s at) (ready at) _ (right at .1 .same) _ (c .before .h-with-table .ensures .0)
+    c .search-at .ensures ∙ with-ready _ _ _ _ _ _ (s at) (ready at) _ (right at .same) _ (c .before .h-with-table .ensures .0)
 
 pub search-with-table-spec : {M : Type 1} → statement M
 search-with-table-spec =
-    tie.close (tie.spec (λ c κs. search needs) (λ c. search needs) (λ c κs. search needs) (λ c. search needs) h-with-table-requires
-    (λ c κs. let fine = right (c .before .before) in (fine .1 .checked, fine .1 .wide)) returns returns-2)
+    tie.close (tie.spec (λ c κs. search needs) (λ c. search needs) (λ c κs. search needs) (λ c. search needs)
+    (λ c κs. lent-long _ _ _ _ _ _ (s (c .before)) (ready (c .before))) (λ c κs. let fine = right (c .before .before) in (fine .checked, fine .wide))
+    returns returns-2)

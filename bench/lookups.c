@@ -1,0 +1,46 @@
+#include "lookups.h"
+#include "timing.h"
+#include <inttypes.h>
+#include <stdio.h>
+#include <string.h>
+
+struct settings set;
+struct lookup at;
+uint64_t table[FLOW_HASH_TABLE_NUMBERS];
+uint8_t held[MOST_FLOWS][FLOW_KEY_BYTES], absent[MOST_FLOWS][FLOW_KEY_BYTES];
+uint32_t classes[MOST_FLOWS];
+uint8_t order[LOOKUPS][FLOW_KEY_BYTES];
+uint64_t wanted[LOOKUPS];
+
+static void random_key(uint8_t *key)
+{
+    for (int a = 0; a < FLOW_KEY_BYTES; a++) {
+        key[a] = (uint8_t)random_number();
+    }
+}
+
+int fill_table(void)
+{
+    for (uint64_t i = 0; i < set.flows; i++) {
+        random_key(held[i]);
+        random_key(absent[i]);
+        classes[i] = (uint32_t)random_number();
+    }
+    if (lay_out(&set, table, held, classes, &at) != 0) {
+        printf("%" PRIu64 " flows: no layout\n", set.flows);
+        return 1;
+    }
+    return 0;
+}
+
+uint64_t draw(enum mix mix)
+{
+    uint64_t sum = 0;
+    for (int i = 0; i < LOOKUPS; i++) {
+        uint64_t x = random_number(), flow = x % set.flows;
+        int hit = mix == HITS || (mix == HALF && x >> 63);
+        memcpy(order[i], hit ? held[flow] : absent[flow], FLOW_KEY_BYTES);
+        sum += wanted[i] = hit ? classes[flow] : ABSENT;
+    }
+    return sum;
+}

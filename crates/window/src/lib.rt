@@ -1,0 +1,189 @@
+// The window over the latest 1,024 accepted searches (document 02, U5): a ring of entries with running counts, in a lent area of 16-bit words.
+// Entering and removing touch a fixed number of words; reading looks at the counts alone. Theory's Window.antt says what each word is.
+use memory::numbers::wide_count;
+use memory::parts::zero_counts;
+use memory::picks::pick32;
+ghost use mathlib.Core.Path.{_≡_};
+ghost use mathlib.Core.Bool.{cond};
+ghost use Prim.Native.Nat.{_≤_, _<_, min};
+ghost use lib.ListN.{length};
+ghost use Rattle.theory.specs.Lookup as lookups;
+ghost use Rattle.theory.specs.Window as plain;
+ghost use Rattle.theory.specs.Window.{window-length, most-compared, raised, lowered, oldest-out, put-in, told-answer, entry-word, word-entry, counts-told};
+ghost use Rattle.window.specs.Windows.{entry-in, EntryFits, Written, clear-of, enter-of, remove-of, counts-of};
+
+// The words of a window's area.
+pub const LENGTH: usize = 1093;
+
+// An accepted search: 1 where it was held, 1 where it compared the side store, records compared.
+struct Entry {
+    held: u16,
+    side_compared: u16,
+    records_compared: u16,
+}
+
+// 1 where a test holds, else 0.
+fn one_where(test: bool) -> u16
+    ensures { λ r. ⌜ (r ≡ cond test 1 0) × (r ≤ 1) ⌝ }
+{
+    if test { 1 } else { 0 }
+}
+
+// The answer of an accepted search: held or absent. A sum, since the compiler makes two branches of `|`, and a driver that meets held and absent flows in
+// turn would wait for the first.
+fn accepted(number: u64) -> bool
+    ensures { λ r. ⌜ r ≡ lookups.accepted number ⌝ }
+{
+    one_where(number == 0) + one_where(number == 100) != 0
+}
+
+// No search compares more than 64 records.
+fn at_most_64(compared: u32) -> u16
+    ensures { λ r. ⌜ (r ≡ min compared most-compared) × (r ≤ most-compared) ⌝ }
+{
+    if compared < 64 { compared as u16 } else { 64 }
+}
+
+// The entry of a search, of which a door gave the driver's number and three counts.
+fn entry_of(found: u64, counts: &[u32]) -> Entry
+    requires { ⌜ length (now counts) ≡ 3 ⌝ }
+    ensures { λ r. ⌜ (entry-in r ≡ plain.entry-of (told-answer found (now (counts .entry)))) × EntryFits r ⌝ }
+{
+    Entry {
+        held: one_where(found / 4294967296 == 0),
+        side_compared: one_where(counts[2] != 0),
+        records_compared: at_most_64(counts[1]),
+    }
+}
+
+// An entry as a word of the ring, and any word as an entry.
+fn word_of(e: Entry) -> u16
+    requires { ⌜ EntryFits e ⌝ }
+    ensures { λ r. ⌜ r ≡ entry-word (entry-in e) ⌝ }
+{
+    e.held + 2 * e.side_compared + 4 * e.records_compared
+}
+
+fn entry_at(word: u16) -> Entry
+    ensures { λ r. ⌜ (entry-in r ≡ word-entry word) × EntryFits r ⌝ }
+{
+    Entry {
+        held: word % 2,
+        side_compared: word / 2 % 2,
+        records_compared: at_most_64((word / 4) as u32),
+    }
+}
+
+// A count with so much added, modulo 2^16.
+fn raise(words: &mut [u16], at: usize, n: u16)
+    requires { ⌜ at < length (now words) ⌝ }
+    ensures { λ _. ⌜ now (words .exit) ≡ raised at n (now (words .entry)) ⌝ }
+{
+    words[at] = (((words[at] as u32) + (n as u32)) % 65536) as u16;
+}
+
+// A count with so much taken off, modulo 2^16.
+fn lower(words: &mut [u16], at: usize, n: u16)
+    requires { ⌜ at < length (now words) ⌝ }
+    ensures { λ _. ⌜ now (words .exit) ≡ lowered at n (now (words .entry)) ⌝ }
+{
+    words[at] = (((words[at] as u32) + (65536 - (n as u32))) % 65536) as u16;
+}
+
+// The oldest entry leaves.
+fn take_oldest_out(words: &mut [u16])
+    requires { ⌜ length (now words) ≡ window-length ⌝ }
+    ensures { λ _. ⌜ now (words .exit) ≡ oldest-out (now (words .entry)) ⌝ }
+{
+    let place = wide_count(words[0]) % 1024;
+    let e = entry_at(words[69 + place]);
+    words[0] = ((place + 1) % 1024) as u16;
+    lower(words, 1, 1);
+    lower(words, 2, e.held);
+    lower(words, 3, e.side_compared);
+    lower(words, 4 + (e.records_compared as usize), 1);
+}
+
+// An entry comes in at the end.
+fn put_in(words: &mut [u16], e: Entry)
+    requires { ⌜ (length (now words) ≡ window-length) × EntryFits e ⌝ }
+    ensures { λ _. ⌜ now (words .exit) ≡ put-in (entry-in e) (now (words .entry)) ⌝ }
+{
+    let place = (wide_count(words[0]) + wide_count(words[1])) % 1024;
+    words[69 + place] = word_of(e);
+    raise(words, 1, 1);
+    raise(words, 2, e.held);
+    raise(words, 3, e.side_compared);
+    raise(words, 4 + (e.records_compared as usize), 1);
+}
+
+// Empty: 2 for a wrong length.
+pub fn clear(words: &mut [u16]) -> u32
+    ensures { λ r. ⌜ _≡_ {A = Written} (record { number = r; area = now (words .exit) }) (clear-of (now (words .entry))) ⌝ }
+{
+    if words.len() != LENGTH {
+        return 2;
+    }
+    zero_counts(words);
+    0
+}
+
+// A search enters by the driver's number and the three counts that its door gave; a refused one alters nothing. 2 for a wrong length.
+pub fn enter(words: &mut [u16], found: u64, counts: &[u32]) -> u32
+    ensures { λ r. ⌜ _≡_ {A = Written} (record { number = r; area = now (words .exit) })
+        (enter-of (now (words .entry)) found (now (counts .entry))) ⌝ }
+{
+    if !((words.len() == LENGTH) & (counts.len() == 3)) {
+        return 2;
+    }
+    let number = found / 4294967296;
+    if !accepted(number) {
+        return 0;
+    }
+    if 1024 <= words[1] {
+        take_oldest_out(words);
+    }
+    put_in(words, entry_of(found, counts));
+    0
+}
+
+// The oldest entry is removed; an empty window stays as it is. 2 for a wrong length.
+pub fn remove(words: &mut [u16]) -> u32
+    ensures { λ r. ⌜ _≡_ {A = Written} (record { number = r; area = now (words .exit) }) (remove-of (now (words .entry))) ⌝ }
+{
+    if words.len() != LENGTH {
+        return 2;
+    }
+    if words[1] != 0 {
+        take_oldest_out(words);
+    }
+    0
+}
+
+// The highest number of records compared whose count is not zero.
+fn greatest_compared(words: &[u16]) -> u32
+    requires { ⌜ length (now words) ≡ window-length ⌝ }
+    ensures { λ r. ⌜ r ≡ counts-told (now (words .entry)) .greatest-compared ⌝ }
+{
+    let mut greatest: u32 = 0;
+    let mut c: usize = 0;
+    while c < 65 {
+        greatest = pick32(words[4 + c] != 0, c as u32, greatest);
+        c += 1;
+    }
+    greatest
+}
+
+// Held answers, searches that compared the side store, greatest records compared: 2 for a wrong length.
+pub fn counts(words: &[u16], counts: &mut [u32]) -> u32
+    ensures { λ r. ⌜ _≡_ {A = Written} (record { number = r; area = now (counts .exit) })
+        (counts-of (now (words .entry)) (now (counts .entry))) ⌝ }
+{
+    if !((words.len() == LENGTH) & (counts.len() == 3)) {
+        return 2;
+    }
+    counts[0] = words[2] as u32;
+    counts[1] = words[3] as u32;
+    counts[2] = greatest_compared(words);
+    0
+}
