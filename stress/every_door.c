@@ -209,6 +209,92 @@ static void search_place(void)
     free(place.at);
 }
 
+/* A window: cleared where malloc left it, or random numbers. */
+static struct area window;
+
+static int is_accepted(uint64_t found) { return found >> 32 == 0 || found >> 32 == 100; }
+
+/* Three numbers for a search's counts, as malloc leaves them, or another number of them. What the search gives enters the window: if it was
+ * refused, its counts are still as malloc left them. */
+static void search_counts(void)
+{
+    size_t length = between(0, 9) == 0 ? between(0, 5) : 3;
+    struct area key = some_key(), lent = tables[between(0, 9) == 0], counts = lend(length, 4), counts_lent = lend(length, 4);
+    uint64_t found = flow_search_counts(SETTINGS, LOOKUP, LENT(key), LENT(counts));
+    uint64_t found_lent = flow_search_counts_lent(LENT(lent), SETTINGS, LOOKUP, LENT(key), LENT(counts_lent));
+    note((uint32_t)(found >> 32));
+    note((uint32_t)(found_lent >> 32));
+    if (length == 3 && (flow_search(SETTINGS, LOOKUP, LENT(key)) != found ||
+                        flow_search_lent(LENT(lent), SETTINGS, LOOKUP, LENT(key)) != found_lent)) {
+        fail("the search with counts differs");
+    }
+    if (is_accepted(found)) {
+        look_at(counts.at, 12);
+    }
+    if (is_accepted(found_lent)) {
+        look_at(counts_lent.at, 12);
+    }
+    if (is_accepted(found) && lent.at == tables[0].at && memcmp(counts.at, counts_lent.at, 12) != 0) {
+        fail("the counts of the two searches differ");
+    }
+    if (note(flow_window_enter(LENT(window), found, LENT(counts))) != (length == 3 ? 0 : 2)) {
+        fail("a window does not take a search");
+    }
+    look_at(window.at, window.length * window.size);
+    free(key.at);
+    free(counts.at);
+    free(counts_lent.at);
+}
+
+/* Each door with another number of a window's numbers, as malloc leaves them. */
+static void wrong_window(void)
+{
+    struct area other = lend(FLOW_WINDOW_NUMBERS, 2), counts = lend(3, 4);
+    wrong_length(&other);
+    if (note(flow_window_clear(LENT(other))) != 2 || note(flow_window_enter(LENT(other), 0, LENT(counts))) != 2 ||
+        note(flow_window_remove(LENT(other))) != 2 || note(flow_window_counts(LENT(other), LENT(counts))) != 2) {
+        fail("a window of a wrong length is taken");
+    }
+    free(other.at);
+    free(counts.at);
+}
+
+/* The window is cleared where malloc left it, its oldest are removed, or searches enter it, also such as no search gives. It is counted in
+ * three numbers as malloc leaves them, or in another number of them. */
+static void window_calls(void)
+{
+    uint64_t times = between(0, 3) == 0 ? between(0, 1100) : between(0, 3), found = next();
+    struct area counts = random_area(between(0, 9) == 0 ? between(0, 5) : 3, 4), told = lend(between(0, 9) == 0 ? between(0, 5) : 3, 4);
+    if (between(0, 9) > 0) {
+        found = (uint64_t[]){0, (uint64_t)100 << 32, (uint64_t)5 << 32}[between(0, 2)] + between(0, 9);
+    }
+    switch (between(0, 5)) {
+    case 0:
+        free(window.at);
+        window = lend(FLOW_WINDOW_NUMBERS, 2);
+        note(flow_window_clear(LENT(window)));
+        break;
+    case 1:
+        wrong_window();
+        break;
+    case 2:
+        for (; times > 0; times--) {
+            note(flow_window_remove(LENT(window)));
+        }
+        break;
+    default:
+        for (; times > 0; times--) {
+            note(flow_window_enter(LENT(window), found, LENT(counts)));
+        }
+    }
+    look_at(window.at, window.length * window.size);
+    if (note(flow_window_counts(LENT(window), LENT(told))) == 0) {
+        look_at(told.at, 12);
+    }
+    free(counts.at);
+    free(told.at);
+}
+
 /* So many keys, one after the other, or some other number of bytes. */
 static struct area some_keys(size_t n)
 {
@@ -348,8 +434,12 @@ static void calls_on_a_table(void)
         fail("clear is refused");
     }
     look_at_areas();
+    window = lend(FLOW_WINDOW_NUMBERS, 2);
+    if (note(flow_window_clear(LENT(window))) != 0) {
+        fail("a window is not cleared");
+    }
     for (int i = 0; i < CALLS; i++) {
-        switch (between(0, 11)) {
+        switch (between(0, 14)) {
         case 0:
             search();
             break;
@@ -368,6 +458,12 @@ static void calls_on_a_table(void)
         case 5:
             search_place();
             break;
+        case 6:
+            search_counts();
+            break;
+        case 7:
+            window_calls();
+            break;
         default:
             if (update() == 0) {
                 look_at_areas();
@@ -379,6 +475,7 @@ static void calls_on_a_table(void)
     if (update() == 0) {
         look_at_areas();
     }
+    free(window.at);
     free_areas();
 }
 
@@ -420,10 +517,13 @@ static void calls_on_any_areas(void)
     if (between(0, 4) == 0) {
         settings[between(0, 5)] = between(0, 1) == 0 ? 100000 : UINT64_MAX;
     }
+    window = random_area(FLOW_WINDOW_NUMBERS, 2);
     for (int i = 0; i < CALLS / 4; i++) {
         update();
         search();
         search_place();
+        search_counts();
+        window_calls();
         burst();
         tally();
         key_buckets();
@@ -433,6 +533,7 @@ static void calls_on_any_areas(void)
         free(target.at);
     }
     note(flow_clear(SETTINGS, AREAS));
+    free(window.at);
     free_areas();
 }
 

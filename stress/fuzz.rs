@@ -1,5 +1,5 @@
-//! The fuzzer's target: bytes are taken as settings, areas and a list of calls of every door. Each answer and every area is compared with
-//! the model's. A difference aborts, which the fuzzer reports with the bytes that led there.
+//! The fuzzer's target: bytes are taken as settings, areas and a list of calls of every door. Each answer and every area, a window's too, is
+//! compared with the model's. A difference aborts, which the fuzzer reports with the bytes that led there.
 
 use flow::{doors, Generator, HashTable};
 use model::bench_load;
@@ -13,9 +13,11 @@ use model::packet::packet_key_into;
 use model::records::{Key, RECORD_BYTES};
 use model::settings::{Settings as Model, LIMITS};
 use model::snapshot::{self, snapshot, HEAD_BYTES};
+use model::window_area;
 use std::sync::Mutex;
 use testing::lending::{assert_areas, door, kind, lend};
 use testing::seen::Seen;
+use testing::windows::BesideModel;
 
 // A longer list would only make a run slow.
 const MOST_CALLS: usize = 48;
@@ -122,6 +124,22 @@ impl Bytes<'_> {
         }
     }
 
+    // How many numbers are lent: mostly as many as they should be.
+    fn lent(&mut self, right: usize) -> usize {
+        match self.next() {
+            255 => self.number(2 * right + 1),
+            _ => right,
+        }
+    }
+
+    // How often a window is called: now and then so often that it gets full.
+    fn times(&mut self) -> usize {
+        match self.next() {
+            255 => self.number(1100),
+            byte => usize::from(byte % 8),
+        }
+    }
+
     fn class(&mut self) -> u32 {
         u32::from(self.next()) * 0x0101_0001
     }
@@ -131,10 +149,11 @@ struct Trial {
     card: Card,
     areas: Areas,
     hash_table: HashTable,
+    window: BesideModel,
 }
 
 impl Trial {
-    // Areas of their lengths with a byte everywhere, or cleared.
+    // Areas of their lengths with a byte everywhere, or cleared; a window with that byte everywhere.
     fn start(bytes: &mut Bytes) -> Trial {
         let settings = bytes.settings();
         let lengths = match settings.allowed() {
@@ -152,6 +171,7 @@ impl Trial {
                 side: vec![byte; lengths[4]],
             },
             hash_table: HashTable::new(),
+            window: BesideModel::of(vec![u16::from(byte) * 257; window_area::NUMBERS]),
         };
         if byte % 8 != 1 {
             trial.update(bytes, &Call::Clear);
@@ -160,7 +180,7 @@ impl Trial {
     }
 
     fn call(&mut self, bytes: &mut Bytes) {
-        match bytes.next() % 32 {
+        match bytes.next() % 40 {
             0 => self.update(bytes, &Call::Clear),
             1..=8 => {
                 let call = Call::Add(bytes.key(), bytes.class());
@@ -185,6 +205,8 @@ impl Trial {
             27 => self.hash(bytes),
             28 => self.other_length(bytes),
             29 => generator(bytes),
+            30..=32 => self.search_counts(bytes),
+            33..=36 => self.window(bytes),
             _ => self.other_byte(bytes),
         }
     }
@@ -253,17 +275,8 @@ impl Trial {
         note("search with the place", (found >> 32) as u32);
     }
 
-    // Keys for as many answers, or for some other number of them, with the right hash table, one with another entry, or one of another length.
-    fn burst(&mut self, bytes: &mut Bytes) {
-        let count = match bytes.next() {
-            255 => bytes.number(70),
-            byte => usize::from(byte % 9),
-        };
-        let keys: Vec<u8> = (0..count).flat_map(|_| bytes.key()).collect();
-        let count = match bytes.next() {
-            255 => bytes.number(70),
-            _ => count,
-        };
+    // The right hash table, one with another entry, or one of another length; and a card that goes by it.
+    fn table(&self, bytes: &mut Bytes) -> (Vec<u64>, Card) {
         let settings = self.card.settings;
         let mut table = self.hash_table.entries().to_vec();
         let card = match bytes.next() {
@@ -278,7 +291,107 @@ impl Trial {
             }
             _ => Card::new(settings),
         };
-        let numbers = settings.numbers();
+        (table, card)
+    }
+
+    // The search with three numbers for its counts, or with some other number of them, without and with a lent table. What it gives enters the
+    // window.
+    fn search_counts(&mut self, bytes: &mut Bytes) {
+        let key = bytes.key();
+        let (table, card) = self.table(bytes);
+        let lookup = self.areas.lookup();
+        let numbers = self.card.settings.numbers();
+        let paper::Lookup {
+            clipped,
+            buckets,
+            side,
+        } = lookup;
+        let mut counts = vec![7; bytes.lent(3)];
+        let mut expected = counts.clone();
+        let (mut counts_lent, mut expected_lent) = (counts.clone(), counts.clone());
+        let by_paper = paper::search_counts(&self.card, lookup, &key, &mut expected).door();
+        let found = doors::search_counts(numbers, clipped, buckets, side, &key, &mut counts);
+        assert_eq!(
+            (found, &counts),
+            (by_paper, &expected),
+            "{numbers:?}, {key:?}"
+        );
+        note("search with counts", (found >> 32) as u32);
+        let n = table.len();
+        let by_paper = paper::search_counts_lent(&card, n, lookup, &key, &mut expected_lent);
+        let lent = &mut counts_lent;
+        let found_lent =
+            doors::search_counts_lent(&table, numbers, clipped, buckets, side, &key, lent);
+        assert_eq!(
+            (found_lent, counts_lent),
+            (by_paper.door(), expected_lent),
+            "{numbers:?}, {key:?}"
+        );
+        note("search with counts lent", (found_lent >> 32) as u32);
+        note("window enter", self.window.enter(found, &counts));
+    }
+
+    // A window is cleared, its oldest entries removed, a search entered some times, also such as no search gives, or one of its numbers or its
+    // length altered. Then it is counted.
+    fn window(&mut self, bytes: &mut Bytes) {
+        let window = &mut self.window;
+        match bytes.next() % 8 {
+            0 => note("window clear", window.clear()),
+            1 | 2 => {
+                for _ in 0..bytes.times() {
+                    let answer = window.remove();
+                    note("window remove", answer);
+                    if answer != 0 {
+                        break;
+                    }
+                }
+            }
+            3 => {
+                window.area.resize(bytes.lent(window_area::NUMBERS), 0);
+                if let Some(most) = window.area.len().checked_sub(1) {
+                    let most = [most, most.min(window_area::RING)][bytes.number(1)];
+                    window.area[bytes.number(most)] = bytes.number(65535) as u16;
+                }
+                window.plain = None;
+            }
+            _ => {
+                let number = match bytes.next() {
+                    255 => bytes.number(65535) as u64,
+                    byte => [0, 100, 5][usize::from(byte % 3)],
+                };
+                let found = number << 32 | u64::from(bytes.class());
+                let counts: Vec<u32> = (0..bytes.lent(3))
+                    .map(|_| match bytes.next() {
+                        255 => u32::MAX,
+                        byte => u32::from(byte % 128),
+                    })
+                    .collect();
+                for _ in 0..bytes.times() {
+                    let answer = window.enter(found, &counts);
+                    note("window enter", answer);
+                    if answer != 0 {
+                        break;
+                    }
+                }
+            }
+        }
+        let mut counts = vec![7; bytes.lent(3)];
+        note("window counts", self.window.counts(&mut counts));
+    }
+
+    // Keys for as many answers, or for some other number of them, with the right hash table, one with another entry, or one of another length.
+    fn burst(&mut self, bytes: &mut Bytes) {
+        let count = match bytes.next() {
+            255 => bytes.number(70),
+            byte => usize::from(byte % 9),
+        };
+        let keys: Vec<u8> = (0..count).flat_map(|_| bytes.key()).collect();
+        let count = match bytes.next() {
+            255 => bytes.number(70),
+            _ => count,
+        };
+        let (table, card) = self.table(bytes);
+        let numbers = card.settings.numbers();
         let paper::Lookup {
             clipped,
             buckets,

@@ -62,8 +62,8 @@ macro_rules! doors {
     (@ $head:tt ($($takes:tt)*) ($($c:tt)*) ($($passed:tt)*) $x:ident: &mut $held:ident, $($rest:tt)*) => {
         doors! { @ $head ($($takes)* $x: &mut $held,) ($($c)* _: *mut $held,) ($($passed)* $x,) $($rest)* }
     };
-    (@ $head:tt ($($takes:tt)*) ($($c:tt)*) ($($passed:tt)*) $x:ident: u32, $($rest:tt)*) => {
-        doors! { @ $head ($($takes)* $x: u32,) ($($c)* _: u32,) ($($passed)* $x,) $($rest)* }
+    (@ $head:tt ($($takes:tt)*) ($($c:tt)*) ($($passed:tt)*) $x:ident: $number:ident, $($rest:tt)*) => {
+        doors! { @ $head ($($takes)* $x: $number,) ($($c)* _: $number,) ($($passed)* $x,) $($rest)* }
     };
     // No argument left.
     (@ [$(#[$doc:meta])* $name:ident $door:ident $answer:ty] ($($takes:tt)*) ($($c:tt)*) ($($passed:tt)*)) => {
@@ -85,7 +85,7 @@ doors! {
     /// The lengths of ledger, true counts, clipped counts, buckets, side store and work; 1; 2 if `lengths` is not of 6 numbers.
     fn area_lengths = flow_area_lengths(settings: [u64; 6], lengths: &mut [u64]) -> u32;
 
-    /// The table that [`hash_lent`], [`search_lent`] and [`search_burst`] read; 2 if it is not of 3,328 numbers.
+    /// The table that [`hash_lent`], [`search_lent`], [`search_counts_lent`] and [`search_burst`] read; 2 if it is not of 3,328 numbers.
     fn hash_table = flow_hash_table(table: &mut [u64]) -> u32;
 
     /// H of a key in `h[0]`, with no table; 2 if `h` is not of 1 number; 3 if the key is not of 13 bytes.
@@ -114,6 +114,14 @@ doors! {
     /// starts; 0, 0 if the flow is absent. 2 also if `place` is not of 2 numbers. It stays as it was if the search is refused.
     fn search_place = flow_search_place(settings: [u64; 6], clipped: &[u8], buckets: &[u8], side: &[u8], key: &[u8], place: &mut [u64]) -> u64;
 
+    /// [`search`], and in `counts` the buckets read (0 or 1), the records compared (at most 64), and 1 where the side store was the place
+    /// compared, else 0. 2 also if `counts` is not of 3 numbers. It stays as it was if the search is refused.
+    fn search_counts = flow_search_counts(settings: [u64; 6], clipped: &[u8], buckets: &[u8], side: &[u8], key: &[u8], counts: &mut [u32]) -> u64;
+
+    /// [`search_counts`] with the table of [`hash_table`]; 2 also if that is not of 3,328 numbers.
+    fn search_counts_lent = flow_search_counts_lent(table: &[u64], settings: [u64; 6], clipped: &[u8], buckets: &[u8], side: &[u8], key: &[u8],
+        counts: &mut [u32]) -> u64;
+
     /// Records in buckets, records in the side store, buckets marked 255, and fill; 1; 2 if an area is not of its length, or `totals` not of
     /// 4 numbers; 4 if the ledger is damaged; 5 if a lookup area is.
     fn tally = flow_tally(settings: [u64; 6], ledger: &[u8], clipped: &[u8], buckets: &[u8], side: &[u8], totals: &mut [u32]) -> u32;
@@ -132,6 +140,20 @@ doors! {
     /// The layout of the ledger's list without a held flow; 1, 2, 3 and 4 as for [`add`]; 7 if the key is not held; 9 if the side store
     /// would not suffice.
     fn remove = flow_remove(settings: [u64; 6], areas: LentAreas, work: &mut [u16], key: &[u8]) -> u32;
+
+    /// Zeros in a window, which is then empty, on any contents; 2 if it is not of 1,093 numbers.
+    fn window_clear = flow_window_clear(window: &mut [u16]) -> u32;
+
+    /// A search in a window, by the number that a search door gave and its three counts: the oldest of 1,024 entries is dropped for it. A
+    /// refused search enters nothing. 2 if the window is not of 1,093 numbers, or `counts` not of 3.
+    fn window_enter = flow_window_enter(window: &mut [u16], found: u64, counts: &[u32]) -> u32;
+
+    /// A window without its oldest entry, or as it is if it is empty; 2 if it is not of 1,093 numbers.
+    fn window_remove = flow_window_remove(window: &mut [u16]) -> u32;
+
+    /// Held answers, searches that compared the side store, and the greatest records compared of a window; 2 if that is not of 1,093 numbers,
+    /// or `counts` not of 3.
+    fn window_counts = flow_window_counts(window: &[u16], counts: &mut [u32]) -> u32;
 
     /// The snapshot of a ledger's list in `target`; 1; 2 if the ledger or `work` is not of its length; 4 if the ledger is damaged; 9 if the
     /// side store does not suffice; 12 if `target` is not of 16 + 17 n bytes for n records.

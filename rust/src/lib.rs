@@ -2,8 +2,8 @@
 //!
 //! [`doors`] has each door as it stands: numbers and slices in, the answer's number out. The rest of the crate is what a Rust user
 //! takes: [`Settings`] that are in range, a [`Table`] that owns its areas, a [`HashTable`] that is filled, [`LookupAreas`] to [`search`],
-//! by one key or by a burst of keys ([`search_burst`]), and to [`tally`] where others own them, the key of a packet by [`packet_key`], the
-//! [`Generator`] of a load for the bench, and a [`Refusal`] in place of a number.
+//! by one key or by a burst of keys ([`search_burst`]), and to [`tally`] where others own them, a [`Window`] over the latest searches, the key
+//! of a packet by [`packet_key`], the [`Generator`] of a load for the bench, and a [`Refusal`] in place of a number.
 
 #![deny(missing_docs)]
 
@@ -12,17 +12,19 @@ mod lookup;
 mod packet;
 mod refusal;
 mod table;
+mod window;
 
 pub mod doors;
 
 pub use generator::Generator;
 pub use lookup::{
-    search, search_burst, search_lent, search_place, tally, Answers, LookupAreas, RecordPlace,
-    Store, Tally,
+    search, search_burst, search_counts, search_counts_lent, search_lent, search_place, tally,
+    Answers, LookupAreas, RecordPlace, SearchAnswer, SearchCounts, Store, Tally,
 };
 pub use packet::{packet_key, packet_key_into};
 pub use refusal::Refusal;
 pub use table::{Table, TableAreas};
+pub use window::{Window, WindowCounts};
 
 /// A table has this many settings.
 pub const SETTINGS_COUNT: usize = 6;
@@ -38,6 +40,12 @@ pub const RECORD_BYTES: usize = KEY_BYTES + CLASS_BYTES;
 
 /// The hash table has an entry for each of 13 byte positions and 256 byte values.
 pub const HASH_TABLE_ENTRIES: usize = KEY_BYTES * 256;
+
+/// A window over the latest searches has this many 16-bit numbers.
+pub const WINDOW_NUMBERS: usize = 1093;
+
+/// A window holds this many searches at most.
+pub const WINDOW_SEARCHES: usize = 1024;
 
 /// Six settings, each in its range.
 #[derive(Clone, Copy, Debug, PartialEq, Eq)]

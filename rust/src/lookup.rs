@@ -182,6 +182,113 @@ pub fn search_place(
     }))
 }
 
+/// What a search read and compared.
+#[derive(Clone, Copy, Debug, PartialEq, Eq)]
+pub struct SearchCounts {
+    /// Buckets read, 0 or 1.
+    pub buckets_read: u32,
+    /// Records compared, at most 64.
+    pub records_compared: u32,
+    /// 1 where the side store was the place compared, also where it holds no record, else 0.
+    pub side_compared: u32,
+}
+
+/// What an accepted search found, with its counts.
+#[derive(Clone, Copy, Debug, PartialEq, Eq)]
+pub struct SearchAnswer {
+    /// The class of a held flow, or None for an absent one.
+    pub class: Option<u32>,
+    /// The counts.
+    pub counts: SearchCounts,
+}
+
+/// [`search`] that also gives the search's counts, for a [`Window`](crate::Window) over the latest searches.
+///
+/// ```
+/// use flow::{search_counts, LookupAreas, Refusal, SearchCounts, Settings};
+///
+/// // One flow of class 7, by hand. The zero key has bucket 0 alone: counter 1, mark 1 and the record.
+/// let settings = Settings::new(4, 1, 1, 2, 1, 0)?;
+/// let mut clipped_counts = [0; 8];
+/// clipped_counts[0] = 1;
+/// let mut buckets = [0; 16 * 18];
+/// buckets[0] = 1;
+/// buckets[17] = 7;
+/// let areas = LookupAreas {
+///     clipped_counts: &clipped_counts,
+///     buckets: &buckets,
+///     side_store: &[0; 2],
+/// };
+/// let answer = search_counts(&settings, &areas, &[0; 13])?;
+/// assert_eq!(answer.class, Some(7));
+/// assert_eq!(
+///     answer.counts,
+///     SearchCounts { buckets_read: 1, records_compared: 1, side_compared: 0 }
+/// );
+///
+/// // with the counter at its top the side store is the place compared, which here holds no record
+/// let areas = LookupAreas { clipped_counts: &[2, 0, 0, 0, 0, 0, 0, 0], ..areas };
+/// let answer = search_counts(&settings, &areas, &[0; 13])?;
+/// assert_eq!(answer.class, None);
+/// assert_eq!(
+///     answer.counts,
+///     SearchCounts { buckets_read: 0, records_compared: 0, side_compared: 1 }
+/// );
+/// # Ok::<(), Refusal>(())
+/// ```
+pub fn search_counts(
+    settings: &Settings,
+    areas: &LookupAreas,
+    key: &[u8],
+) -> Result<SearchAnswer, Refusal> {
+    let mut counts = [0; 3];
+    let number = doors::search_counts(
+        settings.numbers(),
+        areas.clipped_counts,
+        areas.buckets,
+        areas.side_store,
+        key,
+        &mut counts,
+    );
+    counted(number, counts)
+}
+
+/// [`search_counts`] with a table that is kept from call to call.
+///
+/// ```
+/// use flow::{search_counts_lent, HashTable, LookupAreas, Refusal, Settings};
+///
+/// // the areas of an empty table are all zeros, and a zero counter ends a search
+/// let settings = Settings::new(4, 1, 1, 2, 1, 0)?;
+/// let areas = LookupAreas {
+///     clipped_counts: &[0; 8],
+///     buckets: &[0; 16 * 18],
+///     side_store: &[0; 2],
+/// };
+/// let table = HashTable::new();
+/// let answer = search_counts_lent(&table, &settings, &areas, &[1; 13])?;
+/// assert_eq!((answer.class, answer.counts.buckets_read), (None, 0));
+/// # Ok::<(), Refusal>(())
+/// ```
+pub fn search_counts_lent(
+    table: &HashTable,
+    settings: &Settings,
+    areas: &LookupAreas,
+    key: &[u8],
+) -> Result<SearchAnswer, Refusal> {
+    let mut counts = [0; 3];
+    let number = doors::search_counts_lent(
+        table.entries(),
+        settings.numbers(),
+        areas.clipped_counts,
+        areas.buckets,
+        areas.side_store,
+        key,
+        &mut counts,
+    );
+    counted(number, counts)
+}
+
 /// The answers of a burst, in the order of its keys: for each the class of a held flow, None for an absent one, or
 /// [`Refusal::DamagedLookup`] where a counter, mark or side count that its search read is too high.
 #[derive(Clone, Debug)]
@@ -294,6 +401,36 @@ pub fn tally(settings: &Settings, ledger: &[u8], areas: &LookupAreas) -> Result<
         marked_255,
         fill,
     })
+}
+
+// What a search door gives for a key, and the counts that it gives beside it.
+fn counted(door: u64, counts: [u32; 3]) -> Result<SearchAnswer, Refusal> {
+    let class = found(door)?;
+    let [buckets_read, records_compared, side_compared] = counts;
+    Ok(SearchAnswer {
+        class,
+        counts: SearchCounts {
+            buckets_read,
+            records_compared,
+            side_compared,
+        },
+    })
+}
+
+// What a search door gave for an answer, as a window takes it: the number, and the counts, which are zeros where it was refused.
+pub(crate) fn as_given(search: Result<SearchAnswer, Refusal>) -> (u64, [u32; 3]) {
+    match search {
+        Err(refusal) => (u64::from(refusal.number()) << 32, [0; 3]),
+        Ok(SearchAnswer { class, counts }) => {
+            let number = class.map_or(u64::from(ABSENT) << 32, u64::from);
+            let SearchCounts {
+                buckets_read,
+                records_compared,
+                side_compared,
+            } = counts;
+            (number, [buckets_read, records_compared, side_compared])
+        }
+    }
 }
 
 // What a search door gives for a key: answer x 2^32 + class.

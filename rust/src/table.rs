@@ -2,8 +2,8 @@
 
 use crate::doors::{self, LentAreas};
 use crate::{
-    accepted, lookup, Answers, HashTable, LookupAreas, RecordPlace, Refusal, Settings, Tally,
-    RECORD_BYTES, SETTINGS_COUNT,
+    accepted, lookup, Answers, HashTable, LookupAreas, RecordPlace, Refusal, SearchAnswer,
+    Settings, Tally, RECORD_BYTES, SETTINGS_COUNT,
 };
 
 // A snapshot: a two-byte count of settings, these in two bytes each, a two-byte count of records, and these.
@@ -162,6 +162,21 @@ impl Table {
     /// [`Table::search`] with a hash table that is kept from call to call.
     pub fn search_lent(&self, table: &HashTable, key: &[u8]) -> Result<Option<u32>, Refusal> {
         lookup::search_lent(table, &self.settings, &self.areas().lookup(), key)
+    }
+
+    /// [`Table::search`] that also gives the search's counts: as [`search_counts`](crate::search_counts). A [`Window`](crate::Window) takes what
+    /// it gives.
+    pub fn search_counts(&self, key: &[u8]) -> Result<SearchAnswer, Refusal> {
+        lookup::search_counts(&self.settings, &self.areas().lookup(), key)
+    }
+
+    /// [`Table::search_counts`] with a hash table that is kept from call to call.
+    pub fn search_counts_lent(
+        &self,
+        table: &HashTable,
+        key: &[u8],
+    ) -> Result<SearchAnswer, Refusal> {
+        lookup::search_counts_lent(table, &self.settings, &self.areas().lookup(), key)
     }
 
     /// [`Table::search_lent`] for many keys at once, one after the other in `keys`, with a number lent for each answer: as

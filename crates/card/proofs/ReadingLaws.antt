@@ -16,8 +16,8 @@ use Rattle.theory.specs.Window.{three-counts, told-answer, enter, words-after}
 use Rattle.theory.proofs.ListLaws.{by-test}
 use Rattle.theory.proofs.WindowLaws.{answer-told}
 use Rattle.lookup.specs.declared.locating.Located.{Located}
-use Rattle.lookup.specs.Answers.{answer-of, lookup-areas}
-use Rattle.lookup.specs.Locating.{lies-at, LocatedCall, LocatedWithTable}
+use Rattle.lookup.specs.Answers.{answer-of, lookup-areas, search-with}
+use Rattle.lookup.specs.Locating.{lies-at, LocatedCall}
 use Rattle.tally.specs.Tallies.{read-areas}
 use Rattle.lookup.proofs.LocateLaws.{place-accepted}
 use Rattle.lookup.proofs.WithTableLaws.{with-performs}
@@ -42,10 +42,10 @@ module _ (t : Settings) (clipped buckets side key area : List ℕ) (r : Located)
   unfolding search-counts-of
   counted = rw performed
 
-pub counted-with : (table : List ℕ) (t : Settings) (clipped buckets side key counts : List ℕ) (r : Located) → LocatedWithTable table t clipped buckets side key r
-    → counts-given (answer-of (r .answer)) counts ≡ search-counts-with table t clipped buckets side key counts
+pub counted-with : (table : List ℕ) (t : Settings) (clipped buckets side key counts : List ℕ) {x : Answer} → x ≡ search-with table t clipped buckets side key
+    → counts-given x counts ≡ search-counts-with table t clipped buckets side key counts
 unfolding search-counts-with
-counted-with table t clipped buckets side key counts r call = ap (λ (x : Answer). counts-given x counts) (call .answers)
+counted-with table t clipped buckets side key counts e = ap (λ (x : Answer). counts-given x counts) e
 
 -- one of two tests holds, by the opposites of both
 pub either-holds : (a b : Bool) → (not a && not b) ≡ false → (a || b) ≡ true

@@ -240,8 +240,8 @@ pub extern "C" fn flow_search_counts_lent(
         capacity,
         side_places,
     };
-    let found = lookup::locating::locate_with_table(table, given, clipped, buckets, side, key);
-    give_counts(found.answer, counts)
+    let found = lookup::counting::search_counted(table, given, clipped, buckets, side, key);
+    give_counts(found, counts)
 }
 
 // Records in buckets, records in the side store, buckets marked 255, fill.

@@ -16,7 +16,6 @@ use Rattle.theory.specs.Ledger.{Step}
 use Rattle.theory.specs.Calls.{reply-number}
 use Rattle.theory.proofs.ListLaws.{by-test}
 use Rattle.theory.proofs.RecordPlaceLaws.{compared-one, not-held}
-use Rattle.hash.specs.Table.{H-by}
 use Rattle.settings.specs.declared.Settings as code
 use Rattle.settings.specs.Checked.{paper}
 use Rattle.lookup.specs.declared.searching.Answer.{Answer}
@@ -25,11 +24,10 @@ use Rattle.lookup.specs.declared.locating.Located.{Located}
 use Rattle.lookup.specs.declared.judging.Judged.{Judged}
 use Rattle.lookup.specs.declared.judging.Judged.the-variants.{Ready, Refused}
 use Rattle.lookup.specs.Choosing.{card-at}
-use Rattle.lookup.specs.Answers.{answer-of, judged-of, judged-with-table}
-use Rattle.lookup.specs.Locating.{lies-at, nowhere-of, located-from, LocatedAt, judged-place, LocatedCall, judged-place-with, LocatedWithTable}
+use Rattle.lookup.specs.Answers.{answer-of, judged-of}
+use Rattle.lookup.specs.Locating.{lies-at, nowhere-of, located-from, LocatedAt, judged-place, LocatedCall}
 use Rattle.lookup.proofs.PlaceLaws.{LookingAt, place-hashed}
-use Rattle.lookup.proofs.JudgeLaws.{Unrefused, refused-is, search-refused, search-answered, lent-unrefused}
-use Rattle.lookup.proofs.WithTableLaws.{with-refused, with-ready}
+use Rattle.lookup.proofs.JudgeLaws.{Unrefused, refused-is, search-refused, search-answered}
 
 -- a search that finds the key has compared a record
 pub one-compared : (s : Card) (k : List ℕ) (x : plain.Place) (a : Answer) → answer-of a ≡ answer-at s k x → a .number ≡ 0 → 1 ≤ a .«records_compared»
@@ -107,20 +105,3 @@ call-located {t} {clipped} {buckets} {side} {key} {c} u h is-H at =
           ∙ ap (λ (v : Settings). record-place (card-of v) clipped buckets side key) (u .same)
           ∙ sym (place-ready t clipped buckets side key c (u .judged));
     }
-
--- ---- by the call with a lent table
-module _ (table : List ℕ) (t : Settings) (clipped buckets side key : List ℕ) where
-  pub with-nowhere : (n : ℕ) → judged-with-table table t clipped buckets side key ≡ Refused n → {a : Answer} → answer-of a ≡ bare n
-      → {r : Located} → r ≡ nowhere-of a → LocatedWithTable table t clipped buckets side key r
-  unfolding judged-place-with
-  with-nowhere n e is f = rw f (record { answers = is ∙ with-refused table t clipped buckets side key n e; lies = rw e })
-
-  pub with-located : (c : code.Settings) → judged-with-table table t clipped buckets side key ≡ Ready c → (h : ℕ) → h ≡ H-by table key
-      → {r : Located} → LocatedAt (card-at (paper c) h) clipped buckets side key r → LocatedWithTable table t clipped buckets side key r
-  unfolding judged-place-with
-  with-located c e h by-table at =
-      let same = lent-unrefused table t clipped buckets side key c e .1 .same in
-      record {
-        answers = at .answers ∙ with-ready table t clipped buckets side key c e (paper c) same h by-table;
-        lies = at .lies ∙ rw (e, same, by-table);
-      }

@@ -9,13 +9,11 @@ use Rattle.theory.specs.Lookup.{RecordPlace, no-place, search-areas, record-pla
 use Rattle.theory.specs.Layout.{Areas}
 use Rattle.theory.specs.Ledger.{search, Step, answered}
 use Rattle.theory.specs.Calls.{perform}
-use Rattle.hash.specs.Table.{H-by}
 use Rattle.lookup.specs.declared.searching.Answer.{Answer}
 use Rattle.lookup.specs.declared.locating.Located.{Located}
 use Rattle.lookup.specs.declared.judging.Judged.{Judged}
 use Rattle.lookup.specs.declared.judging.Judged.the-variants.{Ready, Refused}
-use Rattle.lookup.specs.Choosing.{card-at}
-use Rattle.lookup.specs.Answers.{answer-of, lookup-areas, judged-of, judged-with-table, search-with}
+use Rattle.lookup.specs.Answers.{answer-of, lookup-areas, judged-of}
 
 -- the place as the definition has it
 abbrev pub lies-at : Located → RecordPlace
@@ -49,21 +47,8 @@ judged-place t clipped buckets side key = by (judged-of t clipped buckets side k
     by (Refused n) = no-place
     by (Ready s) = record-place (card-of t) clipped buckets side key
 
--- the same with a lent table of the hash, by the H that it gives for the key
-unfoldable pub judged-place-with : List ℕ → Settings → List ℕ → List ℕ → List ℕ → List ℕ → RecordPlace
-judged-place-with table t clipped buckets side key = by (judged-with-table table t clipped buckets side key)
-  where
-    by : Judged → RecordPlace
-    by (Refused n) = no-place
-    by (Ready s) = record-place (card-at t (H-by table key)) clipped buckets side key
-
 -- the call on every input: `perform`'s search, and where the record lies
 pub record LocatedCall (t : Settings) (clipped buckets side key : List ℕ) (r : Located) : Type 0 where
   pub answers : _≡_ {A = Step Areas} (record { reply = answered (answer-of (r .answer)); state = lookup-areas clipped buckets side })
       (perform t 0 (search key) (lookup-areas clipped buckets side))
   pub lies : lies-at r ≡ judged-place t clipped buckets side key
-
--- the call with a lent table on every input, whatever the table holds: `search-with`'s answer, and where the record lies
-pub record LocatedWithTable (table : List ℕ) (t : Settings) (clipped buckets side key : List ℕ) (r : Located) : Type 0 where
-  pub answers : answer-of (r .answer) ≡ search-with table t clipped buckets side key
-  pub lies : lies-at r ≡ judged-place-with table t clipped buckets side key

@@ -1,9 +1,9 @@
 // Where the record of a key lies, with the search's answer. The key is looked for by `place_by`, as a burst does: `searching::search_at` and
-// `places::find_place` keep one caller in the static library (bursts.rt says why). The doors that give a search's counts take the answer from here.
+// `places::find_place` keep one caller in the static library (bursts.rt says why). The door that gives a search's counts without a table takes the answer from
+// here.
 use crate::counters::read_counters;
 use crate::judging::Judged;
 use crate::judging::judge;
-use crate::judging::judge_with_table;
 use crate::places::Place;
 use crate::places::place_by;
 use crate::searching::Answer;
@@ -18,7 +18,7 @@ ghost use Rattle.settings.specs.Checked.{paper, given-of, card};
 ghost use Rattle.lookup.specs.Choosing.{card-at};
 ghost use Rattle.lookup.specs.Places.{CheckedLookup};
 ghost use Rattle.lookup.specs.Answers.{at-entry};
-ghost use Rattle.lookup.specs.Locating.{nowhere-of, Placeable, located-from, LocatedAt, LocatedCall, LocatedWithTable};
+ghost use Rattle.lookup.specs.Locating.{nowhere-of, Placeable, located-from, LocatedAt, LocatedCall};
 
 // The answer, and where the record lies: area 1 is the buckets, area 2 the side store, and start the byte of it where the record starts; nowhere is 0
 // and 0.
@@ -95,27 +95,6 @@ pub fn locate(given: Given, clipped: &[u8], buckets: &[u8], side: &[u8], key: &[
         Judged::Refused(number) => nowhere(bare(number)),
         Judged::Ready(s) => {
             let h = hash::h_rows(key);
-            locate_at(s, h, clipped, buckets, side, key)
-        }
-    }
-}
-
-// The same with a lent table of the hash: by the H that the table gives for the key, whatever it holds.
-pub fn locate_with_table(
-    table: &[u64],
-    given: Given,
-    clipped: &[u8],
-    buckets: &[u8],
-    side: &[u8],
-    key: &[u8],
-) -> Located
-    ensures { λ r. ⌜ at-entry (LocatedWithTable (now (table .entry)) (given-of given)) clipped buckets side key r ⌝ }
-{
-    let judged = judge_with_table(table, given, clipped, buckets, side, key);
-    match judged {
-        Judged::Refused(number) => nowhere(bare(number)),
-        Judged::Ready(s) => {
-            let h = hash::h_with_table(table, key);
             locate_at(s, h, clipped, buckets, side, key)
         }
     }

@@ -1,26 +1,35 @@
 -- What the code leaves in the area and answers is what the definitions say.
 use mathlib.Core.Path.{_≡_, refl, ap, _∙_}
-use mathlib.Core.Bool.{Bool, true, false, cond, not, _&&_, _||_}
+use mathlib.Core.Logic.{_≢_}
+use mathlib.Core.Bool.{Bool, true, false, cond, not, _&&_}
 use mathlib.Core.List.{List, [], _∷_, _++_}
-use Prim.Native.Nat.{ℕ, zero, suc, _+_, _/_, _%_, _^_, _≤_, max}
+use Prim.Native.Nat.{ℕ, zero, suc, _+_, _-_, _*_, _/_, _%_, _^_, _≤_, _<_, max}
+use native.Mathlib.Nat.{zero-mul, mul-zero, mul-pos, mul-le-mul}
 use native.Mathlib.Omega.{arith}
 use lib.Dec.{eqb, leb}
-use borrow.Author.Tests.{eqb-true, eq-eqb}
+use borrow.Author.Tests.{eqb-true, eqb-false, eq-eqb, ne-eqb, le-leb, lt-leb}
 use lib.ListN.{length, getD, set, replicate}
 use Rattle.theory.specs.Lists.{filter, upto}
 use Rattle.theory.specs.Window.{Entry, window-size, oldest-at, many-at, held-at, side-at, compared-at, ring-at, entry-word, word-entry}
 use Rattle.theory.specs.Window.{window-length, greatest, counts-told, told-answer, entry-of, words-after, raised, lowered, oldest-out, put-in}
 use Rattle.theory.specs.Lookup.{accepted}
+use Rattle.theory.specs.Fill.{distance}
 use Rattle.theory.proofs.ListLaws.{by-test, and-left, and-right, all-stored}
 use Rattle.theory.proofs.GrowingLaws.{upto-more, filter-append}
 use Rattle.window.specs.Windows.{Written, clear-of, enter-of, remove-of, counts-of}
 
--- ---- the sum of two tests is not zero where one of them holds
-pub one-holds : (a b : Bool) {x y : ℕ} → x ≡ cond a 1 0 → y ≡ cond b 1 0 → not (eqb (x + y) 0) ≡ (a || b)
-one-holds true true e f = rw (e, f)
-one-holds true false e f = rw (e, f)
-one-holds false true e f = rw (e, f)
-one-holds false false e f = rw (e, f)
+-- ---- a number times how far it is from 100 is zero for 0 and 100 alone
+pub zero-or-100 : (n : ℕ) {d : ℕ} → d ≡ distance n 100 → eqb (n * d) 0 ≡ accepted n
+zero-or-100 n {d} e =
+    by-test (eqb n 0) (λ t. rw (t, eqb-true n 0 t, zero-mul))
+    (λ t. let some : n ≢ 0 = eqb-false n 0 t in
+    by-test (eqb n 100) (λ u. let none : d ≡ 0 = omega (arith, eqb-true n 100 u) in rw (t, u, none, mul-zero))
+    (λ u. let far : n ≢ 100 = eqb-false n 100 u in
+    let more = mul-pos {m = n} {n = d} (omega arith) (omega arith) in rw (t, u, ne-eqb (n * d) 0 (omega arith))))
+
+-- two numbers of 32 bits have a product of 64
+pub product-fits : (a b : ℕ) → a < 2 ^ 32 → b < 2 ^ 32 → a * b < 2 ^ 64
+product-fits a b p q = omega (arith, mul-le-mul {n₁ = a} {m₁ = b} {n₂ = 2 ^ 32 - 1} {m₂ = 2 ^ 32 - 1} (omega arith) (omega arith))
 
 -- ---- an entry's four counts are lowered, or raised, one after the other
 module _ (words : List ℕ) (e : Entry) {oldest : ℕ} {one two three four : List ℕ} where
@@ -73,9 +82,13 @@ module _ (words : List ℕ) (long : length words ≡ window-length) where
   unfolding clear-of words-after
   cleared e = rw (eq-eqb (length words) window-length long, e, long)
 
-  pub removed : {area : List ℕ} → area ≡ cond (eqb (getD words many-at 0) 0) words (oldest-out words) → Leaves area (remove-of words)
+  pub removed : {area : List ℕ} → getD words many-at 0 ≢ 0 → area ≡ oldest-out words → Leaves area (remove-of words)
   unfolding remove-of words-after
-  removed e = rw (eq-eqb (length words) window-length long, e)
+  removed some e = rw (eq-eqb (length words) window-length long, ne-eqb (getD words many-at 0) 0 some, e)
+
+  pub none-removed : getD words many-at 0 ≡ 0 → Leaves words (remove-of words)
+  unfolding remove-of words-after
+  none-removed none = rw (eq-eqb (length words) window-length long, eq-eqb (getD words many-at 0) 0 none)
 
 -- a window's area and three counts, of the right lengths
 abbrev pub both-right : List ℕ → List ℕ → Bool
@@ -94,6 +107,13 @@ right-by words counts t =
 -- in a full window the oldest entry makes room
 abbrev pub roomy : List ℕ → List ℕ
 roomy words = cond (leb window-size (getD words many-at 0)) (oldest-out words) words
+
+module _ (words : List ℕ) where
+  pub full : window-size ≤ getD words many-at 0 → oldest-out words ≡ roomy words
+  full h = rw (le-leb window-size (getD words many-at 0) h)
+
+  pub not-full : getD words many-at 0 < window-size → words ≡ roomy words
+  not-full h = rw (lt-leb window-size (getD words many-at 0) h)
 
 -- two counts as the area tells them
 held-told : (words : List ℕ) → counts-told words .held ≡ getD words held-at 0

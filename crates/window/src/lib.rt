@@ -8,6 +8,7 @@ ghost use mathlib.Core.Bool.{cond};
 ghost use Prim.Native.Nat.{_≤_, _<_, min};
 ghost use lib.ListN.{length};
 ghost use Rattle.theory.specs.Lookup as lookups;
+ghost use Rattle.theory.specs.Fill.{distance};
 ghost use Rattle.theory.specs.Window as plain;
 ghost use Rattle.theory.specs.Window.{window-length, most-compared, raised, lowered, oldest-out, put-in, told-answer, entry-word, word-entry, counts-told};
 ghost use Rattle.window.specs.Windows.{entry-in, EntryFits, Written, clear-of, enter-of, remove-of, counts-of};
@@ -29,12 +30,19 @@ fn one_where(test: bool) -> u16
     if test { 1 } else { 0 }
 }
 
-// The answer of an accepted search: held or absent. A sum, since the compiler makes two branches of `|`, and a driver that meets held and absent flows in
-// turn would wait for the first.
-fn accepted(number: u64) -> bool
+// How far two numbers are apart.
+fn apart(a: u32, b: u32) -> u32
+    ensures { λ r. ⌜ r ≡ distance a b ⌝ }
+{
+    if a < b { b - a } else { a - b }
+}
+
+// The answer of an accepted search: 0, held, or 100, absent. A product, since the compiler makes two branches of two tests, and where held and absent flows come
+// in turn the processor would wait at the first.
+fn accepted(number: u32) -> bool
     ensures { λ r. ⌜ r ≡ lookups.accepted number ⌝ }
 {
-    one_where(number == 0) + one_where(number == 100) != 0
+    (number as u64) * (apart(number, 100) as u64) == 0
 }
 
 // No search compares more than 64 records.
@@ -136,8 +144,7 @@ pub fn enter(words: &mut [u16], found: u64, counts: &[u32]) -> u32
     if !((words.len() == LENGTH) & (counts.len() == 3)) {
         return 2;
     }
-    let number = found / 4294967296;
-    if !accepted(number) {
+    if !accepted((found / 4294967296) as u32) {
         return 0;
     }
     if 1024 <= words[1] {

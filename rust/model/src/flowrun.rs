@@ -26,6 +26,8 @@ pub fn output(input: &[u8]) -> String {
             class,
             buckets_read,
             compared,
+            // "but not in flowrun"
+            side_compared: _,
         } = answer;
         writeln!(
             text,

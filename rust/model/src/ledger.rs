@@ -100,23 +100,24 @@ impl Ledger {
         }
         let key: Key = key.try_into().unwrap();
         let held = self.position(&key);
-        let (buckets_read, compared) = self.counts(card, &key);
+        let (buckets_read, compared, side_compared) = self.counts(card, &key);
         Answer {
             number: if held.is_some() { 0 } else { 100 },
             class: held.map_or(0, |i| self.list[i].class),
             buckets_read,
             compared,
+            side_compared,
         }
     }
 
-    /// Buckets read and records compared.
-    fn counts(&self, card: &Card, key: &Key) -> (u64, u64) {
+    /// Buckets read, records compared, and 1 where the side store is the place compared.
+    fn counts(&self, card: &Card, key: &Key) -> (u64, u64, u64) {
         let settings = &card.settings;
         let placing = placing(card, &self.list);
         let numbers = card.numbers(key);
         let clipped = |b: u64| placing.clipped(settings, b);
         if numbers.iter().any(|&b| clipped(b) == ClippedCount(0)) {
-            return (0, 0);
+            return (0, 0, 0);
         }
         let all_t = numbers.iter().all(|&b| clipped(b).0 == settings.t);
         let chosen = numbers
@@ -124,7 +125,8 @@ impl Ledger {
             .copied()
             .min_by_key(|&b| (clipped(b).0, b))
             .unwrap();
-        let compared_place = if all_t || placing.mark(settings, chosen) == 255 {
+        let at_side = all_t || placing.mark(settings, chosen) == 255;
+        let compared_place = if at_side {
             &placing.side
         } else {
             &placing.choosers[chosen as usize]
@@ -136,7 +138,7 @@ impl Ledger {
             Some(i) => i + 1,
             None => compared_place.len(),
         };
-        (u64::from(!all_t), compared as u64)
+        (u64::from(!all_t), compared as u64, u64::from(at_side))
     }
 
     /// The second search call: the record itself.

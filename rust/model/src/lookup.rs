@@ -1,4 +1,5 @@
-//! 'The calls' that only read, on areas with any contents and lengths: search, the second search call, a burst of searches, tally.
+//! 'The calls' that only read, on areas with any contents and lengths: search, the second search call, search with its
+//! counts, a burst of searches, tally.
 
 use crate::card::Card;
 use crate::hash::KEY_BYTES;
@@ -42,6 +43,9 @@ pub struct Answer {
     pub class: u32,
     pub buckets_read: u64,
     pub compared: u64,
+    /// "searches that compared the side store (1, else 0, now a third count in search's answer)" (document 02, U5): 1 where the side store is the
+    /// place compared, whether or not it holds a record.
+    pub side_compared: u64,
 }
 
 impl Answer {
@@ -51,12 +55,18 @@ impl Answer {
             class: 0,
             buckets_read: 0,
             compared: 0,
+            side_compared: 0,
         }
     }
 
-    /// What the forwarding driver gets.
+    /// What the forwarding driver gets: no count is in it.
     pub fn door(&self) -> u64 {
         u64::from(self.number) * 2u64.pow(32) + u64::from(self.class)
+    }
+
+    /// Buckets read, records compared, side store compared.
+    pub fn counts(&self) -> [u32; 3] {
+        [self.buckets_read, self.compared, self.side_compared].map(|count| count as u32)
     }
 }
 
@@ -185,6 +195,10 @@ pub fn search(card: &Card, areas: Lookup, key: &[u8]) -> Answer {
             _ => 0,
         },
         compared: 0,
+        side_compared: match place {
+            Place::SideByCounters { .. } | Place::SideByMark { .. } => 1,
+            _ => 0,
+        },
     };
     if let Some((in_buckets, from, n)) = span(card, place) {
         let area = if in_buckets {
@@ -245,6 +259,35 @@ pub fn search_place(card: &Card, areas: Lookup, key: &[u8], place: &mut [u64]) -
         });
     }
     answer
+}
+
+/// The search, and in three lent numbers its counts. Refused, the lent numbers stay; 2 also where they are not three.
+pub fn search_counts(card: &Card, areas: Lookup, key: &[u8], counts: &mut [u32]) -> Answer {
+    let answer = search(card, areas, key);
+    if answer.number == 1 {
+        return answer;
+    }
+    if counts.len() != 3 {
+        return Answer::refused(2);
+    }
+    if answer.number == 0 || answer.number == 100 {
+        counts.copy_from_slice(&answer.counts());
+    }
+    answer
+}
+
+/// The search with its counts, and a lent hash table of so many entries: 2 also where they are not 3,328.
+pub fn search_counts_lent(
+    card: &Card,
+    table: usize,
+    areas: Lookup,
+    key: &[u8],
+    counts: &mut [u32],
+) -> Answer {
+    if card.settings.allowed() && table != 256 * KEY_BYTES {
+        return Answer::refused(2);
+    }
+    search_counts(card, areas, key, counts)
 }
 
 /// Many searches at once: a key of 13 bytes for each answer, and a lent hash table of so many entries. 0 with what the driver gets for each

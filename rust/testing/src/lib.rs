@@ -5,3 +5,4 @@ pub mod made;
 pub mod programs;
 pub mod random;
 pub mod seen;
+pub mod windows;

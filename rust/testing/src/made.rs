@@ -303,7 +303,7 @@ pub fn random_bytes(random: &mut Random, length: u64) -> Vec<u8> {
     (0..length).map(|_| random.number() as u8).collect()
 }
 
-fn random_numbers(random: &mut Random, length: u64) -> Vec<u16> {
+pub fn random_numbers(random: &mut Random, length: u64) -> Vec<u16> {
     (0..length).map(|_| random.number() as u16).collect()
 }
 

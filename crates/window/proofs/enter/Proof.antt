@@ -6,11 +6,11 @@ use mathlib.Core.List.{List}
 use Prim.Native.Nat.{ℕ}
 use native.Mathlib.Omega.{arith}
 use borrow.Author.Needs.{needs}
-use borrow.Author.Tests.{not-true, not-false, le-leb, lt-leb}
+use borrow.Author.Tests.{not-true, not-false}
 use lib.ListN.{length}
 use Rattle.theory.specs.Window.{window-length}
 use Rattle.window.specs.Windows.{enter-of}
-use Rattle.window.proofs.WindowAreaLaws.{both-right, Right, right-by, roomy, refused, entered}
+use Rattle.window.proofs.WindowAreaLaws.{both-right, Right, right-by, roomy, full, not-full, refused, entered}
 use Rattle.window.proofs.enter.Statement.{statement}
 use Rattle.window.proofs.enter.Tie as tie
 
@@ -37,12 +37,14 @@ module _ (c : tie.Joined3) where
   abbrev measured : tie.Else1
   measured = judged .before
 
-  room : (c .if3 .words ≡ roomy (words (measured .before))) × (length (c .if3 .words) ≡ window-length)
+  abbrev at-first : List ℕ
+  at-first = words (measured .before)
+
+  room : (c .if3 .words ≡ roomy at-first) × (length (c .if3 .words) ≡ window-length)
   room =
-      ⊎-elim
-      (λ w. (w .5 ∙ w .2 .ensures ∙ rw (le-leb _ _ (w .0 .taken)), ap length (w .5) ∙ w .2 .kept .0 ∙ right measured .long))
-      (λ w. (w .1 ∙ rw (lt-leb _ _ (w .0 .left)), ap length (w .1) ∙ right measured .long))
-      (c .if3 .came)
+      let long = right measured .long in
+      ⊎-elim (λ w. (w .5 ∙ w .2 .ensures ∙ full at-first (omega arith), ap length (w .5) ∙ w .2 .kept .0 ∙ long))
+      (λ w. (w .1 ∙ not-full at-first (omega arith), ap length (w .1) ∙ long)) (c .if3 .came)
 
 returns : tie.Need-returns
 unfolding enter-of
@@ -50,6 +52,12 @@ returns c = rw (not-true (lengths (c .before)) (c .if1 .taken))
 
 returns-2 : tie.Need-returns-2
 returns-2 c = refused (right (c .before .before)) _ (sym (c .before .accepted .ensures) ∙ not-true (c .before .accepted .result) (c .if2 .taken))
+
+same-length : tie.Need-same-length
+same-length c =
+    let put = c .before .before in
+    let made = put .before .before .before in
+    omega (arith, put .put-in .kept .0, room made .1, right (measured made) .long)
 
 returns-3 : tie.Need-returns-3
 returns-3 c =
@@ -62,8 +70,7 @@ returns-3 c =
 
 pub enter-spec : {M : Type 1} → statement M
 enter-spec =
-    tie.close (tie.spec returns (λ c κs. search needs) returns-2 (λ c. omega (arith, right (c .before .before .before) .long))
+    tie.close (tie.spec returns (λ c. search needs) (λ c κs. search needs) returns-2 (λ c. omega (arith, right (c .before .before .before) .long))
     (λ c κs. right (c .before .before .before .before .before) .long)
     (λ c κs. right (measured (c .before)) .three) (λ c κs. (room (c .before .before) .1, c .entry-of .ensures .1))
-    (λ c. let put = c .before .before in let made = put .before .before .before in omega (arith, put .put-in .kept .0, room made .1, right (measured made) .long))
-    returns-3)
+    same-length returns-3)

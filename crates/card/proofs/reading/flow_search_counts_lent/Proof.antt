@@ -8,4 +8,4 @@ use Rattle.card.proofs.reading.flow_search_counts_lent.Tie as tie
 pub flow-search-counts-lent-spec : {M : Type 1} → statement M
 flow-search-counts-lent-spec =
     tie.close (tie.spec (λ c κs. search needs) (λ c κs. search needs) (λ c. search needs)
-    (λ c. c .before .before .give-counts .ensures ∙ counted-with _ _ _ _ _ _ _ _ (c .before .before .before .before .locate-with-table .ensures)))
+    (λ c. c .before .before .give-counts .ensures ∙ counted-with _ _ _ _ _ _ _ (c .before .before .before .before .search-counted .ensures)))

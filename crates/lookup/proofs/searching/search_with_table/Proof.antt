@@ -1,14 +1,7 @@
 -- `lookup::searching::search_with_table` meets its contract: judged first, then the search by the H that the lent table gives.
-use mathlib.Core.Path.{_≡_, sym, ap, _∙_}
-use mathlib.Core.Bool.{true}
-use native.Mathlib.Omega.{arith}
+use mathlib.Core.Path.{_≡_, sym, _∙_}
 use borrow.Author.Needs.{needs}
-use lib.ListN.{length}
-use Rattle.theory.specs.Lists.{has}
 use Rattle.theory.specs.Settings as plain
-use Rattle.theory.specs.Settings.{card-of}
-use Rattle.hash.specs.Table.{table-lengths}
-use Rattle.hash.proofs.TableLaws.{lent-length}
 use Rattle.settings.specs.declared.Settings.{Settings}
 use Rattle.settings.specs.Checked.{given-of}
 use Rattle.lookup.specs.declared.judging.Judged.the-variants.{Ready}
