@@ -47,17 +47,6 @@ pub counted-with : (table : List ℕ) (t : Settings) (clipped buckets side key c
 unfolding search-counts-with
 counted-with table t clipped buckets side key counts e = ap (λ (x : Answer). counts-given x counts) e
 
--- one of two tests holds, by the opposites of both
-pub either-holds : (a b : Bool) → (not a && not b) ≡ false → (a || b) ≡ true
-either-holds true b e = refl
-either-holds false true e = refl
-either-holds false false e = sym e
-
-pub neither-holds : (a b : Bool) → (not a && not b) ≡ true → (a || b) ≡ false
-neither-holds true b e = sym e
-neither-holds false true e = sym e
-neither-holds false false e = refl
-
 -- ---- numbers of an answer given in a lent area, by the tests in their order
 module _ (x : Answer) (numbers area : List ℕ) where
   pub given-1 : x .number ≡ 1 → refused (driver-number x) area ≡ given-with x numbers area

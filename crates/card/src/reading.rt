@@ -3,6 +3,7 @@ use lookup::locating::Located;
 use lookup::searching::Answer;
 use lookup::searching::bare;
 use lookup::searching::driver_number;
+use memory::picks::is_either;
 use settings::Given;
 use tally::Totals;
 ghost use mathlib.Core.Path.{_≡_};
@@ -119,7 +120,7 @@ fn give_place(found: Located, place: &mut [u64]) -> u64
     if place.len() != 2 {
         return driver_number(bare(2));
     }
-    if (number != 0) & (number != 100) {
+    if !is_either(number, 0, 100) {
         return driver_number(answer);
     }
     place[0] = found.area;
@@ -171,7 +172,7 @@ fn give_counts(answer: Answer, counts: &mut [u32]) -> u64
     if counts.len() != 3 {
         return driver_number(bare(2));
     }
-    if (number != 0) & (number != 100) {
+    if !is_either(number, 0, 100) {
         return driver_number(answer);
     }
     counts[0] = answer.buckets_read;

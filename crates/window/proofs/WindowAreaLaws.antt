@@ -3,33 +3,18 @@ use mathlib.Core.Path.{_≡_, refl, ap, _∙_}
 use mathlib.Core.Logic.{_≢_}
 use mathlib.Core.Bool.{Bool, true, false, cond, not, _&&_}
 use mathlib.Core.List.{List, [], _∷_, _++_}
-use Prim.Native.Nat.{ℕ, zero, suc, _+_, _-_, _*_, _/_, _%_, _^_, _≤_, _<_, max}
-use native.Mathlib.Nat.{zero-mul, mul-zero, mul-pos, mul-le-mul}
+use Prim.Native.Nat.{ℕ, zero, suc, _+_, _/_, _%_, _^_, _≤_, _<_, max}
 use native.Mathlib.Omega.{arith}
 use lib.Dec.{eqb, leb}
-use borrow.Author.Tests.{eqb-true, eqb-false, eq-eqb, ne-eqb, le-leb, lt-leb}
+use borrow.Author.Tests.{eqb-true, eq-eqb, ne-eqb, le-leb, lt-leb}
 use lib.ListN.{length, getD, set, replicate}
 use Rattle.theory.specs.Lists.{filter, upto}
 use Rattle.theory.specs.Window.{Entry, window-size, oldest-at, many-at, held-at, side-at, compared-at, ring-at, entry-word, word-entry}
 use Rattle.theory.specs.Window.{window-length, greatest, counts-told, told-answer, entry-of, words-after, raised, lowered, oldest-out, put-in}
 use Rattle.theory.specs.Lookup.{accepted}
-use Rattle.theory.specs.Fill.{distance}
 use Rattle.theory.proofs.ListLaws.{by-test, and-left, and-right, all-stored}
 use Rattle.theory.proofs.GrowingLaws.{upto-more, filter-append}
 use Rattle.window.specs.Windows.{Written, clear-of, enter-of, remove-of, counts-of}
-
--- ---- a number times how far it is from 100 is zero for 0 and 100 alone
-pub zero-or-100 : (n : ℕ) {d : ℕ} → d ≡ distance n 100 → eqb (n * d) 0 ≡ accepted n
-zero-or-100 n {d} e =
-    by-test (eqb n 0) (λ t. rw (t, eqb-true n 0 t, zero-mul))
-    (λ t. let some : n ≢ 0 = eqb-false n 0 t in
-    by-test (eqb n 100) (λ u. let none : d ≡ 0 = omega (arith, eqb-true n 100 u) in rw (t, u, none, mul-zero))
-    (λ u. let far : n ≢ 100 = eqb-false n 100 u in
-    let more = mul-pos {m = n} {n = d} (omega arith) (omega arith) in rw (t, u, ne-eqb (n * d) 0 (omega arith))))
-
--- two numbers of 32 bits have a product of 64
-pub product-fits : (a b : ℕ) → a < 2 ^ 32 → b < 2 ^ 32 → a * b < 2 ^ 64
-product-fits a b p q = omega (arith, mul-le-mul {n₁ = a} {m₁ = b} {n₂ = 2 ^ 32 - 1} {m₂ = 2 ^ 32 - 1} (omega arith) (omega arith))
 
 -- ---- an entry's four counts are lowered, or raised, one after the other
 module _ (words : List ℕ) (e : Entry) {oldest : ℕ} {one two three four : List ℕ} where

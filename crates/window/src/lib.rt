@@ -2,13 +2,12 @@
 // Entering and removing touch a fixed number of words; reading looks at the counts alone. Theory's Window.antt says what each word is.
 use memory::numbers::wide_count;
 use memory::parts::zero_counts;
+use memory::picks::is_either;
 use memory::picks::pick32;
 ghost use mathlib.Core.Path.{_≡_};
 ghost use mathlib.Core.Bool.{cond};
 ghost use Prim.Native.Nat.{_≤_, _<_, min};
 ghost use lib.ListN.{length};
-ghost use Rattle.theory.specs.Lookup as lookups;
-ghost use Rattle.theory.specs.Fill.{distance};
 ghost use Rattle.theory.specs.Window as plain;
 ghost use Rattle.theory.specs.Window.{window-length, most-compared, raised, lowered, oldest-out, put-in, told-answer, entry-word, word-entry, counts-told};
 ghost use Rattle.window.specs.Windows.{entry-in, EntryFits, Written, clear-of, enter-of, remove-of, counts-of};
@@ -28,21 +27,6 @@ fn one_where(test: bool) -> u16
     ensures { λ r. ⌜ (r ≡ cond test 1 0) × (r ≤ 1) ⌝ }
 {
     if test { 1 } else { 0 }
-}
-
-// How far two numbers are apart.
-fn apart(a: u32, b: u32) -> u32
-    ensures { λ r. ⌜ r ≡ distance a b ⌝ }
-{
-    if a < b { b - a } else { a - b }
-}
-
-// The answer of an accepted search: 0, held, or 100, absent. A product, since the compiler makes two branches of two tests, and where held and absent flows come
-// in turn the processor would wait at the first.
-fn accepted(number: u32) -> bool
-    ensures { λ r. ⌜ r ≡ lookups.accepted number ⌝ }
-{
-    (number as u64) * (apart(number, 100) as u64) == 0
 }
 
 // No search compares more than 64 records.
@@ -144,13 +128,15 @@ pub fn enter(words: &mut [u16], found: u64, counts: &[u32]) -> u32
     if !((words.len() == LENGTH) & (counts.len() == 3)) {
         return 2;
     }
-    if !accepted((found / 4294967296) as u32) {
+    if !is_either((found / 4294967296) as u32, 0, 100) {
         return 0;
     }
+    // read before a word is written, so that the compiler writes the words of a full window once
+    let e = entry_of(found, counts);
     if 1024 <= words[1] {
         take_oldest_out(words);
     }
-    put_in(words, entry_of(found, counts));
+    put_in(words, e);
     0
 }
 

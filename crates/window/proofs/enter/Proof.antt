@@ -29,10 +29,13 @@ module _ (c : tie.After-shared-slice-known) where
 right : (c : tie.Else1) → Right (words (c .before)) (counts (c .before))
 right c = right-by _ _ (not-false (lengths (c .before)) (c .if1 .left))
 
--- ---- the oldest of a full window has made room
+-- ---- the oldest of a full window has made room for the entry
 module _ (c : tie.Joined3) where
-  abbrev judged : tie.After-accepted
-  judged = c .before .before .before
+  abbrev entry : tie.After-entry-of
+  entry = c .before .before
+
+  abbrev judged : tie.After-is-either
+  judged = entry .before .before
 
   abbrev measured : tie.Else1
   measured = judged .before
@@ -51,26 +54,24 @@ unfolding enter-of
 returns c = rw (not-true (lengths (c .before)) (c .if1 .taken))
 
 returns-2 : tie.Need-returns-2
-returns-2 c = refused (right (c .before .before)) _ (sym (c .before .accepted .ensures) ∙ not-true (c .before .accepted .result) (c .if2 .taken))
+returns-2 c = let told = c .before .is-either in refused (right (c .before .before)) _ (sym (told .ensures) ∙ not-true (told .result) (c .if2 .taken))
 
 same-length : tie.Need-same-length
 same-length c =
     let put = c .before .before in
-    let made = put .before .before .before in
+    let made = put .before .before in
     omega (arith, put .put-in .kept .0, room made .1, right (measured made) .long)
 
 returns-3 : tie.Need-returns-3
 returns-3 c =
     let put = c .before .before in
-    let entry = put .before in
-    let made = entry .before .before in
-    let told = judged made .accepted in
-    entered (right (measured made)) _ (sym (told .ensures) ∙ not-false (told .result) (made .before .before .if2 .left)) (entry .entry-of .ensures .0)
+    let made = put .before .before in
+    let told = judged made .is-either in
+    entered (right (measured made)) _ (sym (told .ensures) ∙ not-false (told .result) (entry made .before .if2 .left)) (entry made .entry-of .ensures .0)
     (room made .0) (put .put-in .ensures)
 
 pub enter-spec : {M : Type 1} → statement M
 enter-spec =
-    tie.close (tie.spec returns (λ c. search needs) (λ c κs. search needs) returns-2 (λ c. omega (arith, right (c .before .before .before) .long))
-    (λ c κs. right (c .before .before .before .before .before) .long)
-    (λ c κs. right (measured (c .before)) .three) (λ c κs. (room (c .before .before) .1, c .entry-of .ensures .1))
-    same-length returns-3)
+    tie.close (tie.spec returns (λ c. search needs) (λ c κs. search needs) returns-2 (λ c κs. right (c .before .before) .three)
+    (λ c. omega (arith, right (c .before .before .before .before) .long)) (λ c κs. right (c .before .before .before .before .before .before) .long)
+    (λ c κs. (room (c .before) .1, entry (c .before) .entry-of .ensures .1)) same-length returns-3)
