@@ -1,19 +1,21 @@
 -- Laws of the doors of search and tally: each answer is `perform`'s.
-use mathlib.Core.Path.{_≡_, refl, sym, ap, _∙_}
-use mathlib.Core.Bool.{Bool, true, false, not, _&&_, _||_, false≢true}
+use mathlib.Core.Path.{_≡_, sym, ap, _∙_}
+use mathlib.Core.Logic.{_≢_}
+use mathlib.Core.Bool.{true, false, not, _&&_, false≢true}
 use mathlib.Core.List.{List, [], _∷_}
-use Prim.Native.Nat.{ℕ, _^_, _<_}
+use Prim.Native.Nat.{ℕ, _^_, _≤_, _<_}
 use native.Mathlib.Omega.{arith}
-use lib.Dec.{eqb}
-use borrow.Author.Tests.{eqb-true, eqb-false, eq-eqb, ne-eqb}
+use lib.Dec.{eqb, ltb}
+use borrow.Author.Tests.{eqb-true, eqb-false, eq-eqb, ne-eqb, lt-ltb}
 use lib.ListN.{length}
 use Rattle.theory.specs.Settings.{Settings}
 use Rattle.theory.specs.Layout.{Areas}
 use Rattle.theory.specs.Ledger.{search, tally, Totals, Step, totalled}
-use Rattle.theory.specs.Calls.{perform}
+use Rattle.theory.specs.Calls.{reply-number, perform}
 use Rattle.theory.specs.Lookup.{Answer, bare, accepted, RecordPlace, driver-number}
 use Rattle.theory.specs.Window.{three-counts, told-answer, enter, words-after}
 use Rattle.theory.proofs.ListLaws.{by-test}
+use Rattle.theory.proofs.Demands.{search-number-few}
 use Rattle.theory.proofs.WindowLaws.{answer-told}
 use Rattle.lookup.specs.declared.locating.Located.{Located}
 use Rattle.lookup.specs.Answers.{answer-of, lookup-areas, search-with}
@@ -42,10 +44,26 @@ module _ (t : Settings) (clipped buckets side key area : List ℕ) (r : Located)
   unfolding search-counts-of
   counted = rw performed
 
+-- the number is at most 100
+pub number-few : (t : Settings) (clipped buckets side key : List ℕ) (r : Located) → LocatedCall t clipped buckets side key r → r .answer .number ≤ 100
+number-few t clipped buckets side key r call =
+    rw (ap (λ (s : Step Areas). reply-number (s .reply)) (call .answers)) (search-number-few t 0 key (lookup-areas clipped buckets side))
+
+pub given-few : {x y : Answer} → y .number ≤ 100 → x ≡ y → x .number ≤ 100
+given-few few e = rw e few
+
 pub counted-with : (table : List ℕ) (t : Settings) (clipped buckets side key counts : List ℕ) {x : Answer} → x ≡ search-with table t clipped buckets side key
     → counts-given x counts ≡ search-counts-with table t clipped buckets side key counts
 unfolding search-counts-with
 counted-with table t clipped buckets side key counts e = ap (λ (x : Answer). counts-given x counts) e
+
+-- ---- up to 100 the numbers between 0 and 100 are refusals
+pub not-between : (n : ℕ) → n ≤ 100 → not (ltb 0 n && ltb n 100) ≡ accepted n
+not-between n few =
+    by-test (eqb n 0) (λ t. rw (eqb-true n 0 t))
+    (λ t. let some : n ≢ 0 = eqb-false n 0 t in
+    by-test (eqb n 100) (λ u. rw (eqb-true n 100 u))
+    (λ u. let less : n ≢ 100 = eqb-false n 100 u in rw (t, u, lt-ltb 0 n (omega arith), lt-ltb n 100 (omega arith))))
 
 -- ---- numbers of an answer given in a lent area, by the tests in their order
 module _ (x : Answer) (numbers area : List ℕ) where

@@ -3,11 +3,11 @@ use lookup::locating::Located;
 use lookup::searching::Answer;
 use lookup::searching::bare;
 use lookup::searching::driver_number;
-use memory::picks::is_either;
 use settings::Given;
 use tally::Totals;
 ghost use mathlib.Core.Path.{_≡_};
 ghost use mathlib.Core.List.{[], _∷_};
+ghost use Prim.Native.Nat.{_≤_};
 ghost use lib.ListN.{length};
 ghost use Rattle.theory.specs.Lookup.{driver-number};
 ghost use Rattle.theory.specs.Settings.{settings-of};
@@ -107,8 +107,10 @@ pub extern "C" fn flow_search_burst(
     lookup::bursts::search_burst(table, given, clipped, buckets, side, keys, answers)
 }
 
-// The number of an answer, and its record's place in a lent area of 2 numbers.
+// The number of an answer, and its record's place in a lent area of 2 numbers. Refused is what lies between 0 and 100: one test, where one for each would be two
+// branches.
 fn give_place(found: Located, place: &mut [u64]) -> u64
+    requires { ⌜ found .answer .number ≤ 100 ⌝ }
     ensures { λ r. ⌜ _≡_ {A = Filled} (record { number = r; area = now (place .exit) })
         (place-given (answer-of (found .answer)) (lies-at found) (now (place .entry))) ⌝ }
 {
@@ -120,7 +122,7 @@ fn give_place(found: Located, place: &mut [u64]) -> u64
     if place.len() != 2 {
         return driver_number(bare(2));
     }
-    if !is_either(number, 0, 100) {
+    if (0 < number) & (number < 100) {
         return driver_number(answer);
     }
     place[0] = found.area;
@@ -162,6 +164,7 @@ pub extern "C" fn flow_search_place(
 
 // The number of an answer, and its counts in a lent area of 3 numbers.
 fn give_counts(answer: Answer, counts: &mut [u32]) -> u64
+    requires { ⌜ answer .number ≤ 100 ⌝ }
     ensures { λ r. ⌜ _≡_ {A = Filled} (record { number = r; area = now (counts .exit) })
         (counts-given (answer-of answer) (now (counts .entry))) ⌝ }
 {
@@ -172,7 +175,7 @@ fn give_counts(answer: Answer, counts: &mut [u32]) -> u64
     if counts.len() != 3 {
         return driver_number(bare(2));
     }
-    if !is_either(number, 0, 100) {
+    if (0 < number) & (number < 100) {
         return driver_number(answer);
     }
     counts[0] = answer.buckets_read;

@@ -26,7 +26,7 @@ use Rattle.theory.specs.Demands.{Small, HasLayout, Sized, RefusedUnchang
 use Rattle.theory.specs.Demands.{Demand3, SameFlowsSameBytes, AreasAfterRun, ListAfterRun, ReadsAtMostOne, ComparesAtMost, ComparesFew, OneBucket}
 use Rattle.theory.proofs.ListLaws.{by-test}
 use Rattle.theory.proofs.SettingsLaws.{ranges, sound}
-use Rattle.theory.proofs.LookupLaws.{local-place, search-reads}
+use Rattle.theory.proofs.LookupLaws.{local-place, search-reads, search-few}
 use Rattle.theory.proofs.RecordPlaceLaws.{search-compares}
 use Rattle.theory.proofs.OrderLaws.{rising-answers}
 use Rattle.theory.proofs.CallLaws.{found-width, sized, has-layout-empty, stays, call-step}
@@ -176,7 +176,7 @@ module _ (t : Settings) (w : ℕ) where
       by-test (allowed t) (λ e. rw e (by-test (all (λ x. x) (lookup-lengths (card-of t) a)) (λ f. rw f) (λ f. rw f))) (λ e. rw e)
 
 -- ---- a number of a search's answer: at most n where no refusal has more, and none by the areas
-judged-most : (f : Answer → ℕ) (n : ℕ) → ((m : ℕ) → f (bare m) ≤ n) → (t : Settings) (a : Areas) (k : List ℕ)
+judged-most : (f : Answer → ℕ) (n : ℕ) → ((m : ℕ) → m ≤ 3 → f (bare m) ≤ n) → (t : Settings) (a : Areas) (k : List ℕ)
     → (allowed t ≡ true → f (search-areas (card-of t) (a .clipped-counts) (a .buckets) (a .side-store) k) ≤ n)
     → f (cond (not (allowed t)) (bare 1)
     (cond (not (all (λ x. x) (lookup-lengths (card-of t) a))) (bare 2)
@@ -184,29 +184,35 @@ judged-most : (f : Answer → ℕ) (n : ℕ) → ((m : ℕ) → f (bare m) ≤ n
 judged-most f n refused t a k by-areas =
     by-test (allowed t)
     (λ e. rw e (by-test (all (λ x. x) (lookup-lengths (card-of t) a))
-    (λ l. rw l (by-test (key-wrong (card-of t) k) (λ q. rw q (refused 3)) (λ q. rw q (by-areas e))))
-    (λ l. rw l (refused 2))))
-    (λ e. rw e (refused 1))
+    (λ l. rw l (by-test (key-wrong (card-of t) k) (λ q. rw q (refused 3 (omega arith))) (λ q. rw q (by-areas e))))
+    (λ l. rw l (refused 2 (omega arith)))))
+    (λ e. rw e (refused 1 (omega arith)))
 
 -- a search reads at most one bucket
 pub reads-at-most-one : ReadsAtMostOne
 reads-at-most-one t w k a =
-    rw (search-reply t w k a) (judged-most (λ x. x .buckets-read) 1 (λ n. zero-le) t a k
+    rw (search-reply t w k a) (judged-most (λ x. x .buckets-read) 1 (λ n few. zero-le) t a k
     (λ ok. search-reads (card-of t) (a .clipped-counts) (a .buckets) (a .side-store) k))
 
 -- and compares no more records than a bucket or the side store has places
 pub compares-at-most : ComparesAtMost
 unfolding card-of
 compares-at-most t w k a =
-    rw (search-reply t w k a) (judged-most (λ x. x .records-compared) (max (t .room) (t .side-places)) (λ n. zero-le) t a k
+    rw (search-reply t w k a) (judged-most (λ x. x .records-compared) (max (t .room) (t .side-places)) (λ n few. zero-le) t a k
     (λ ok. search-compares (card-of t) (a .clipped-counts) (a .buckets) (a .side-store) k))
 
 pub compares-few : ComparesFew
 unfolding card-of
 compares-few t w k a =
-    rw (search-reply t w k a) (judged-most (λ x. x .records-compared) 64 (λ n. zero-le) t a k
+    rw (search-reply t w k a) (judged-most (λ x. x .records-compared) 64 (λ n few. zero-le) t a k
     (λ ok. let r = ranges t ok in
     le-trans (search-compares (card-of t) (a .clipped-counts) (a .buckets) (a .side-store) k) (max-le (omega (arith, r)) (omega (arith, r)))))
+
+-- and its number is at most 100
+pub search-number-few : (t : Settings) (w : ℕ) (k : List ℕ) (a : Areas) → reply-number (perform t w (search k) a .reply) ≤ 100
+search-number-few t w k a =
+    rw (search-reply t w k a) (judged-most (λ x. x .number) 100 (λ n few. omega arith) t a k
+    (λ ok. search-few (card-of t) (a .clipped-counts) (a .buckets) (a .side-store) k))
 
 -- 1, 2 and 3 first: two searches that agree where none of them applies agree
 judged-alike : {X : Type 0} (refused : ℕ → X) (x y z : Bool) (p q : X) → (x ≡ true → y ≡ true → z ≡ false → p ≡ q)

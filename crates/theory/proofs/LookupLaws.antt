@@ -149,3 +149,17 @@ module _ (s : Card) where
       go invalid h = zero-le
       go nowhere h = zero-le
       go (among a n read z) h = rw (answer-reads (find k (records (s .width) n a)) read (comparisons k (records (s .width) n a)) z) h
+
+  -- ---- an answer's number is at most 100
+  answer-few : (o : Option Record) (read compared z : ℕ) → answer o read compared z .number ≤ 100
+  answer-few none read compared z = omega arith
+  answer-few (some r) read compared z = omega arith
+
+  pub search-few : (clipped buckets side k : List ℕ) → search-areas s clipped buckets side k .number ≤ 100
+  unfolding search-areas answer-at
+  search-few clipped buckets side k = go (place s clipped buckets side k)
+    where
+      go : (x : Place) → answer-at s k x .number ≤ 100
+      go invalid = omega arith
+      go nowhere = omega arith
+      go (among a n read z) = answer-few (find k (records (s .width) n a)) read (comparisons k (records (s .width) n a)) z

@@ -1,7 +1,7 @@
 -- Laws of the window (document 02, U5): after any calls the area's ring is the plain window and its counts are a fresh count; the window is the latest 1,024.
 use mathlib.Core.Path.{_≡_, refl, ap, _∙_}
 use mathlib.Core.Logic.{_≢_}
-use mathlib.Core.Bool.{Bool, true, cond, not, false≢true}
+use mathlib.Core.Bool.{Bool, true, false, cond, not, false≢true}
 use mathlib.Core.List.{List, [], _∷_, _++_, map, append-nil}
 use Prim.Native.Nat.{ℕ, zero, suc, _+_, _-_, _*_, _/_, _%_, _^_, _≤_, _<_, min, zero-le}
 use native.Mathlib.Nat.{mod-eq-of-lt, mod-add-mod, add-zero, zero-add, add-comm, add-assoc, add-suc, suc-add}
@@ -14,7 +14,7 @@ use Rattle.theory.specs.Lists.{filter, upto, has, sum, All}
 use Rattle.theory.specs.Lookup.{Answer, accepted, driver-number}
 use Rattle.theory.specs.Window.{Entry, most-compared, entry-of, window-size, latest, WindowCall, clear-window, enter, remove-oldest, window-after}
 use Rattle.theory.specs.Window.{greatest, fresh-count, told-answer, AnswerTold, oldest-at, many-at, held-at, side-at, compared-at, ring-at, window-length}
-use Rattle.theory.specs.Window.{entry-word, word-entry, raised, lowered, oldest-out, put-in, words-after, counts-told, ring-entries, after-calls}
+use Rattle.theory.specs.Window.{entry-word, word-entry, raised, lowered, oldest-out, put-in, put-for-oldest, words-after, counts-told, ring-entries, after-calls}
 use Rattle.theory.specs.Window.{WindowCountsFresh, WindowRing, WindowFew, WindowLatest}
 use Rattle.theory.proofs.ListLaws.{by-test, either, eqb-same, all-every, all-map, all-of-map, all-at, all-append, all-upto, all-has}
 use Rattle.theory.proofs.ListLaws.{map-cong, filter-cong}
@@ -185,6 +185,39 @@ oldest-out-is : (e : Entry) (words : List ℕ) → word-entry (getD words (ring-
 unfolding oldest-out lowered raised
 oldest-out-is e words is = rw (← is)
 
+-- what an entry for another changes: three counts by what both change, and as many entries as before
+abbrev exchanges : Entry → Entry → List Change
+exchanges e x =
+    record { place = compared-at + e .records-compared; by = 1 }
+    ∷ record { place = compared-at + x .records-compared; by = 2 ^ 16 - 1 }
+    ∷ record { place = side-at; by = e .side-compared + (2 ^ 16 - x .side-compared) }
+    ∷ record { place = held-at; by = e .held + (2 ^ 16 - x .held) }
+    ∷ []
+
+-- at one place, where a test holds
+whole-turn : (t : Bool) (m n d : ℕ) → m + d ≡ n + 2 ^ 16 → cond t m 0 + cond t d 0 ≡ cond t n 0 + 2 ^ 16 * cond t 1 0
+whole-turn true m n d e = omega (arith, e)
+whole-turn false m n d e = omega arith
+
+exchanged : (e x : Entry) → Small x → (j y : ℕ) → (share j x + y + added j (exchanges e x)) % 2 ^ 16 ≡ (y + share j e) % 2 ^ 16
+exchanged e x s j y =
+    let t = eqb j (compared-at + x .records-compared) in
+    let zero-either : _≡_ {A = ℕ} (cond t 0 0) 0 = by-test t (λ a. rw a) (λ a. rw a) in
+    omega (
+      arith,
+      zero-either,
+      whole-turn t 1 0 (2 ^ 16 - 1) (omega arith),
+      whole-turn (eqb j side-at) (x .side-compared) (e .side-compared) (e .side-compared + (2 ^ 16 - x .side-compared)) (omega (arith, s)),
+      whole-turn (eqb j held-at) (x .held) (e .held) (e .held + (2 ^ 16 - x .held)) (omega (arith, s)),
+    )
+
+put-for-oldest-is : (e x : Entry) (words : List ℕ) (n : ℕ) → getD words many-at 0 ≡ n
+    → word-entry (getD words (ring-at + getD words oldest-at 0 % window-size) 0) ≡ x
+    → put-for-oldest e words ≡ altered (set words (ring-at + (getD words oldest-at 0 + n) % window-size) (entry-word e)) oldest-at
+    ((getD words oldest-at 0 % window-size + 1) % window-size) (exchanges e x)
+unfolding put-for-oldest lowered raised
+put-for-oldest-is e x words n is-n is-x = rw (is-n, ← is-x)
+
 -- ---- an area holds a list of entries
 no-entry : Entry
 no-entry = record { held = 0; side-compared = 0; records-compared = 0 }
@@ -264,7 +297,37 @@ one-less {words} (e ∷ l) some h =
           (word-kept a (ring-at + (next + i) % window-size) (omega arith) (omega arith) ∙ rw (ring-next o i) (h .ring (suc i) (omega arith)));
     })
 
--- ---- so each call keeps it; where the ring is full, the oldest makes room
+one-for-one : {words : List ℕ} (l : List Entry) (e : Entry) → Small e → window-size ≤ length l → Holds words l
+    → Holds (put-for-oldest e words) (drop 1 l ++ (e ∷ []))
+one-for-one [] e s full h = absurd (omega arith)
+one-for-one {words} (x ∷ l) e s full h =
+    let o = getD words oldest-at 0 in
+    let n = suc (length l) in
+    let whole : n ≡ window-size = omega (arith, h .few) in
+    let next = (o % window-size + 1) % window-size in
+    let place = ring-at + (o + n) % window-size in
+    let put = set words place (entry-word e) in
+    let sx : Small x = h .small .0 in
+    let a : Alters put oldest-at next (exchanges e x) =
+    record { long = length-set words place (entry-word e) ∙ h .long; outer = omega arith; inner = omega (arith, s, sx) } in
+    rw (put-for-oldest-is e x words n (many h) (ap word-entry (rw add-zero at (h .ring 0 (omega arith))) ∙ word-back x sx))
+    (record {
+      long = length-altered a;
+      few = omega (arith, length-append l (e ∷ []));
+      small = all-append Small l (e ∷ []) (h .small .1) (s, tt);
+      counts = λ j inner. rw (sum-end (share j) l e)
+          (count-changed a j _ inner (getD-set-other words place j _ 0 (omega arith) ∙ h .counts j inner) ∙ exchanged e x sx j _);
+      ring = λ i inside. rw (word-put a)
+          (word-kept a (ring-at + (next + i) % window-size) (omega arith) (omega arith)
+          ∙ by-test (ltb i (length l))
+          (λ t. let less : i < length l = ltb-true i (length l) t in
+          rw (List·getD-append l (e ∷ []) no-entry i less, ring-next o i)
+          (getD-set-other words place _ _ 0 (omega (arith, ring-apart o 0 (suc i) (omega arith) (omega arith))) ∙ h .ring (suc i) (omega arith)))
+          (λ t. let end : i ≡ length l = omega (arith, ltb-false i (length l) t, length-append l (e ∷ [])) in
+          rw (end, getD-append-seam l e [] no-entry, ring-next o (length l)) (getD-set-same words place _ 0 (omega (arith, h .long)))));
+    })
+
+-- ---- so each call keeps it
 latest-is : (l : List Entry) → length l ≤ window-size + 1 → latest l ≡ drop (length l - window-size) l
 unfolding latest
 latest-is l few =
@@ -273,7 +336,7 @@ latest-is l few =
     (λ t. let none : length l - window-size ≡ 0 = omega (arith, ltb-false window-size (length l) t) in rw (t, none))
 
 entered : {words : List ℕ} (l : List Entry) (e : Entry) → Small e → Holds words l
-    → Holds (put-in e (cond (leb window-size (getD words many-at 0)) (oldest-out words) words)) (latest (l ++ (e ∷ [])))
+    → Holds (cond (leb window-size (getD words many-at 0)) (put-for-oldest e words) (put-in e words)) (latest (l ++ (e ∷ [])))
 entered {words} l e s h =
     let n : getD words many-at 0 ≡ length l = many h in
     let few : length l ≤ window-size = h .few in
@@ -282,7 +345,7 @@ entered {words} l e s h =
     (by-test (leb window-size (getD words many-at 0))
     (λ t. let full : window-size ≤ length l = omega (arith, leb-true window-size (getD words many-at 0) t) in
     let over : length (l ++ (e ∷ [])) - window-size ≡ 1 = omega arith in
-    rw (t, over, drop-append-le 1 l (e ∷ []) (omega arith)) (one-more e s (omega (arith, length-drop 1 l)) (one-less l (omega arith) h)))
+    rw (t, over, drop-append-le 1 l (e ∷ []) (omega arith)) (one-for-one l e s full h))
     (λ t. let room : length l < window-size = omega (arith, leb-false window-size (getD words many-at 0) t) in
     let over : length (l ++ (e ∷ [])) - window-size ≡ 0 = omega arith in
     rw (t, over) (one-more e s room h)))

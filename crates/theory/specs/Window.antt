@@ -122,7 +122,7 @@ raised i n words = set words i ((getD words i 0 + n) % 2 ^ 16)
 unfoldable pub lowered : ℕ → ℕ → List ℕ → List ℕ
 lowered i n words = set words i ((getD words i 0 + (2 ^ 16 - n)) % 2 ^ 16)
 
--- the oldest entry taken out, on any words: its place and all counts first, the ring's word stays
+-- the oldest entry taken out, on any words; the ring's word stays
 unfoldable pub oldest-out : List ℕ → List ℕ
 oldest-out words =
     let place = getD words oldest-at 0 % window-size in
@@ -137,11 +137,23 @@ put-in e words =
     raised (compared-at + e .records-compared) 1
     (raised side-at (e .side-compared) (raised held-at (e .held) (raised many-at 1 (set words (ring-at + place) (entry-word e)))))
 
--- what a call leaves in an area of the right length, whatever that holds; in a full ring the oldest makes room
+-- an entry put in at the end of a full ring, on any words: the oldest entry leaves, and there are as many as before
+unfoldable pub put-for-oldest : Entry → List ℕ → List ℕ
+put-for-oldest e words =
+    let oldest = getD words oldest-at 0 % window-size in
+    let left = word-entry (getD words (ring-at + oldest) 0) in
+    let place = (getD words oldest-at 0 + getD words many-at 0) % window-size in
+    raised (compared-at + e .records-compared) 1
+    (lowered (compared-at + left .records-compared) 1
+    (raised side-at (e .side-compared + (2 ^ 16 - left .side-compared))
+    (raised held-at (e .held + (2 ^ 16 - left .held))
+    (set (set words (ring-at + place) (entry-word e)) oldest-at ((oldest + 1) % window-size)))))
+
+-- what a call leaves in an area of the right length, whatever that holds
 unfoldable pub words-after : WindowCall → List ℕ → List ℕ
 words-after clear-window words = replicate window-length 0
 words-after (enter x) words =
-    cond (accepted (x .number)) (put-in (entry-of x) (cond (leb window-size (getD words many-at 0)) (oldest-out words) words)) words
+    cond (accepted (x .number)) (cond (leb window-size (getD words many-at 0)) (put-for-oldest (entry-of x) words) (put-in (entry-of x) words)) words
 words-after remove-oldest words = cond (eqb (getD words many-at 0) 0) words (oldest-out words)
 
 -- the three counts as the area tells them: the greatest is the highest whose count is not zero

@@ -3,14 +3,14 @@ use mathlib.Core.Path.{_≡_, refl, ap, _∙_}
 use mathlib.Core.Logic.{_≢_}
 use mathlib.Core.Bool.{Bool, true, false, cond, not, _&&_}
 use mathlib.Core.List.{List, [], _∷_, _++_}
-use Prim.Native.Nat.{ℕ, zero, suc, _+_, _/_, _%_, _^_, _≤_, _<_, max}
+use Prim.Native.Nat.{ℕ, zero, suc, _+_, _-_, _/_, _%_, _^_, _≤_, _<_, max}
 use native.Mathlib.Omega.{arith}
-use lib.Dec.{eqb, leb}
+use lib.Dec.{eqb}
 use borrow.Author.Tests.{eqb-true, eq-eqb, ne-eqb, le-leb, lt-leb}
 use lib.ListN.{length, getD, set, replicate}
 use Rattle.theory.specs.Lists.{filter, upto}
 use Rattle.theory.specs.Window.{Entry, window-size, oldest-at, many-at, held-at, side-at, compared-at, ring-at, entry-word, word-entry}
-use Rattle.theory.specs.Window.{window-length, greatest, counts-told, told-answer, entry-of, words-after, raised, lowered, oldest-out, put-in}
+use Rattle.theory.specs.Window.{window-length, greatest, counts-told, told-answer, entry-of, words-after, raised, lowered, oldest-out, put-in, put-for-oldest}
 use Rattle.theory.specs.Lookup.{accepted}
 use Rattle.theory.proofs.ListLaws.{by-test, and-left, and-right, all-stored}
 use Rattle.theory.proofs.GrowingLaws.{upto-more, filter-append}
@@ -29,6 +29,16 @@ module _ (words : List ℕ) (e : Entry) {oldest : ℕ} {one two three four : Lis
       → three ≡ raised side-at (e .side-compared) two → four ≡ raised (compared-at + e .records-compared) 1 three → four ≡ put-in e words
   unfolding put-in
   raised-all eo em ew e1 e2 e3 e4 = rw (e4, e3, e2, e1, ew, em, eo)
+
+  -- or one entry comes for another
+  pub exchanged-all : {many word : ℕ} {left : Entry} → oldest ≡ getD words oldest-at 0 → many ≡ getD words many-at 0 → word ≡ entry-word e
+      → left ≡ word-entry (getD words (ring-at + oldest % window-size) 0)
+      → one ≡ raised held-at (e .held + (2 ^ 16 - left .held))
+      (set (set words (ring-at + (oldest + many) % window-size) word) oldest-at ((oldest % window-size + 1) % window-size))
+      → two ≡ raised side-at (e .side-compared + (2 ^ 16 - left .side-compared)) one → three ≡ lowered (compared-at + left .records-compared) 1 two
+      → four ≡ raised (compared-at + e .records-compared) 1 three → four ≡ put-for-oldest e words
+  unfolding put-for-oldest
+  exchanged-all eo em ew el e1 e2 e3 e4 = rw (e4, e3, e2, e1, el, ew, em, eo)
 
 -- ---- the greatest number below c that passes a test, and one number more
 abbrev pub greatest-below : (ℕ → Bool) → ℕ → ℕ
@@ -89,17 +99,6 @@ right-by words counts t =
     let second = eqb (length counts) 3 in
     record { long = eqb-true _ _ (and-left first second t); three = eqb-true _ _ (and-right first second t) }
 
--- in a full window the oldest entry makes room
-abbrev pub roomy : List ℕ → List ℕ
-roomy words = cond (leb window-size (getD words many-at 0)) (oldest-out words) words
-
-module _ (words : List ℕ) where
-  pub full : window-size ≤ getD words many-at 0 → oldest-out words ≡ roomy words
-  full h = rw (le-leb window-size (getD words many-at 0) h)
-
-  pub not-full : getD words many-at 0 < window-size → words ≡ roomy words
-  not-full h = rw (lt-leb window-size (getD words many-at 0) h)
-
 -- two counts as the area tells them
 held-told : (words : List ℕ) → counts-told words .held ≡ getD words held-at 0
 unfolding counts-told
@@ -117,10 +116,14 @@ module _ {words counts : List ℕ} (r : Right words counts) where
   unfolding enter-of words-after told-answer
   refused found out = rw (both, out)
 
-  pub entered : (found : ℕ) {e : Entry} {room area : List ℕ} → accepted (found / 2 ^ 32) ≡ true → e ≡ entry-of (told-answer found counts)
-      → room ≡ roomy words → area ≡ put-in e room → Leaves area (enter-of words found counts)
-  unfolding enter-of words-after told-answer
-  entered found ok ee er ea = rw (both, ok, ea, ee, er)
+  module _ (found : ℕ) {e : Entry} {area : List ℕ} (ok : accepted (found / 2 ^ 32) ≡ true) (entry : e ≡ entry-of (told-answer found counts)) where
+    pub entered-full : window-size ≤ getD words many-at 0 → area ≡ put-for-oldest e words → Leaves area (enter-of words found counts)
+    unfolding enter-of words-after told-answer
+    entered-full full put = rw (both, ok, le-leb window-size (getD words many-at 0) full, put, entry)
+
+    pub entered : getD words many-at 0 < window-size → area ≡ put-in e words → Leaves area (enter-of words found counts)
+    unfolding enter-of words-after told-answer
+    entered room put = rw (both, ok, lt-leb window-size (getD words many-at 0) room, put, entry)
 
   pub told : {g : ℕ} → g ≡ counts-told words .greatest-compared
       → Leaves (set (set (set counts 0 (getD words held-at 0)) 1 (getD words side-at 0)) 2 g) (counts-of words counts)

@@ -2,14 +2,14 @@
 // Entering and removing touch a fixed number of words; reading looks at the counts alone. Theory's Window.antt says what each word is.
 use memory::numbers::wide_count;
 use memory::parts::zero_counts;
-use memory::picks::is_either;
 use memory::picks::pick32;
 ghost use mathlib.Core.Path.{_≡_};
 ghost use mathlib.Core.Bool.{cond};
-ghost use Prim.Native.Nat.{_≤_, _<_, min};
+ghost use Prim.Native.Nat.{_+_, _-_, _/_, _^_, _≤_, _<_, min};
 ghost use lib.ListN.{length};
+ghost use Rattle.theory.specs.Lookup as lookup;
 ghost use Rattle.theory.specs.Window as plain;
-ghost use Rattle.theory.specs.Window.{window-length, most-compared, raised, lowered, oldest-out, put-in, told-answer, entry-word, word-entry, counts-told};
+ghost use Rattle.theory.specs.Window.{window-length, most-compared, raised, lowered, oldest-out, put-in, put-for-oldest, told-answer, entry-word, word-entry, counts-told};
 ghost use Rattle.window.specs.Windows.{entry-in, EntryFits, Written, clear-of, enter-of, remove-of, counts-of};
 
 // The words of a window's area.
@@ -27,6 +27,14 @@ fn one_where(test: bool) -> u16
     ensures { λ r. ⌜ (r ≡ cond test 1 0) × (r ≤ 1) ⌝ }
 {
     if test { 1 } else { 0 }
+}
+
+// The number of an accepted search: of a held flow below 2^32, of an absent one from 100 * 2^32 on. By ranges of the whole number, since of two tests for an equal
+// answer the compiler makes two branches, and where held and absent flows come in turn the processor would wait at the first.
+fn accepted(found: u64) -> bool
+    ensures { λ r. ⌜ r ≡ lookup.accepted (found / 2 ^ 32) ⌝ }
+{
+    (found < 4294967296) | ((429496729600 <= found) & (found < 433791696896))
 }
 
 // No search compares more than 64 records.
@@ -82,6 +90,14 @@ fn lower(words: &mut [u16], at: usize, n: u16)
     words[at] = (((words[at] as u32) + (65536 - (n as u32))) % 65536) as u16;
 }
 
+// A count that one entry comes to and another leaves, modulo 2^16.
+fn exchange(words: &mut [u16], at: usize, came: u16, left: u16)
+    requires { ⌜ (at < length (now words)) × (came ≤ 1) × (left ≤ 1) ⌝ }
+    ensures { λ _. ⌜ now (words .exit) ≡ raised at (came + (2 ^ 16 - left)) (now (words .entry)) ⌝ }
+{
+    words[at] = (((words[at] as u32) + ((came as u32) + (65536 - (left as u32)))) % 65536) as u16;
+}
+
 // The oldest entry leaves.
 fn take_oldest_out(words: &mut [u16])
     requires { ⌜ length (now words) ≡ window-length ⌝ }
@@ -109,6 +125,23 @@ fn put_in(words: &mut [u16], e: Entry)
     raise(words, 4 + (e.records_compared as usize), 1);
 }
 
+// An entry comes in at the end of a full window, and the oldest leaves: each word is written once.
+fn put_for_oldest(words: &mut [u16], e: Entry)
+    requires { ⌜ (length (now words) ≡ window-length) × EntryFits e ⌝ }
+    ensures { λ _. ⌜ now (words .exit) ≡ put-for-oldest (entry-in e) (now (words .entry)) ⌝ }
+{
+    let first = wide_count(words[0]);
+    let oldest = first % 1024;
+    let place = (first + wide_count(words[1])) % 1024;
+    let left = entry_at(words[69 + oldest]);
+    words[69 + place] = word_of(e);
+    words[0] = ((oldest + 1) % 1024) as u16;
+    exchange(words, 2, e.held, left.held);
+    exchange(words, 3, e.side_compared, left.side_compared);
+    lower(words, 4 + (left.records_compared as usize), 1);
+    raise(words, 4 + (e.records_compared as usize), 1);
+}
+
 // Empty: 2 for a wrong length.
 pub fn clear(words: &mut [u16]) -> u32
     ensures { λ r. ⌜ _≡_ {A = Written} (record { number = r; area = now (words .exit) }) (clear-of (now (words .entry))) ⌝ }
@@ -128,13 +161,13 @@ pub fn enter(words: &mut [u16], found: u64, counts: &[u32]) -> u32
     if !((words.len() == LENGTH) & (counts.len() == 3)) {
         return 2;
     }
-    if !is_either((found / 4294967296) as u32, 0, 100) {
+    if !accepted(found) {
         return 0;
     }
-    // read before a word is written, so that the compiler writes the words of a full window once
     let e = entry_of(found, counts);
     if 1024 <= words[1] {
-        take_oldest_out(words);
+        put_for_oldest(words, e);
+        return 0;
     }
     put_in(words, e);
     0
