@@ -1,12 +1,12 @@
 -- Laws of the doors of search and tally: each answer is `perform`'s.
 use mathlib.Core.Path.{_≡_, sym, ap, _∙_}
 use mathlib.Core.Logic.{_≢_}
-use mathlib.Core.Bool.{true, false, not, _&&_, false≢true}
+use mathlib.Core.Bool.{true, false, false≢true}
 use mathlib.Core.List.{List, [], _∷_}
 use Prim.Native.Nat.{ℕ, _^_, _≤_, _<_}
 use native.Mathlib.Omega.{arith}
-use lib.Dec.{eqb, ltb}
-use borrow.Author.Tests.{eqb-true, eqb-false, eq-eqb, ne-eqb, lt-ltb}
+use lib.Dec.{eqb}
+use borrow.Author.Tests.{eqb-true, eqb-false, eq-eqb, ne-eqb}
 use lib.ListN.{length}
 use Rattle.theory.specs.Settings.{Settings}
 use Rattle.theory.specs.Layout.{Areas}
@@ -56,14 +56,6 @@ pub counted-with : (table : List ℕ) (t : Settings) (clipped buckets side key c
     → counts-given x counts ≡ search-counts-with table t clipped buckets side key counts
 unfolding search-counts-with
 counted-with table t clipped buckets side key counts e = ap (λ (x : Answer). counts-given x counts) e
-
--- ---- up to 100 the numbers between 0 and 100 are refusals
-pub not-between : (n : ℕ) → n ≤ 100 → not (ltb 0 n && ltb n 100) ≡ accepted n
-not-between n few =
-    by-test (eqb n 0) (λ t. rw (eqb-true n 0 t))
-    (λ t. let some : n ≢ 0 = eqb-false n 0 t in
-    by-test (eqb n 100) (λ u. rw (eqb-true n 100 u))
-    (λ u. let less : n ≢ 100 = eqb-false n 100 u in rw (t, u, lt-ltb 0 n (omega arith), lt-ltb n 100 (omega arith))))
 
 -- ---- numbers of an answer given in a lent area, by the tests in their order
 module _ (x : Answer) (numbers area : List ℕ) where

@@ -6,10 +6,11 @@ use lookup::searching::driver_number;
 use settings::Given;
 use tally::Totals;
 ghost use mathlib.Core.Path.{_≡_};
+ghost use mathlib.Core.Bool.{not};
 ghost use mathlib.Core.List.{[], _∷_};
 ghost use Prim.Native.Nat.{_≤_};
 ghost use lib.ListN.{length};
-ghost use Rattle.theory.specs.Lookup.{driver-number};
+ghost use Rattle.theory.specs.Lookup.{accepted, driver-number};
 ghost use Rattle.theory.specs.Settings.{settings-of};
 ghost use Rattle.lookup.specs.Answers.{search-of, search-with, answer-of};
 ghost use Rattle.lookup.specs.Bursts.{Burst, burst-of};
@@ -107,8 +108,15 @@ pub extern "C" fn flow_search_burst(
     lookup::bursts::search_burst(table, given, clipped, buckets, side, keys, answers)
 }
 
-// The number of an answer, and its record's place in a lent area of 2 numbers. Refused is what lies between 0 and 100: one test, where one for each would be two
-// branches.
+// A search is refused by a number between 0 and 100: one test, where a test for each of these two would be two branches.
+fn refused(number: u32) -> bool
+    requires { ⌜ number ≤ 100 ⌝ }
+    ensures { λ r. ⌜ r ≡ not (accepted number) ⌝ }
+{
+    (0 < number) & (number < 100)
+}
+
+// The number of an answer, and its record's place in a lent area of 2 numbers.
 fn give_place(found: Located, place: &mut [u64]) -> u64
     requires { ⌜ found .answer .number ≤ 100 ⌝ }
     ensures { λ r. ⌜ _≡_ {A = Filled} (record { number = r; area = now (place .exit) })
@@ -122,7 +130,7 @@ fn give_place(found: Located, place: &mut [u64]) -> u64
     if place.len() != 2 {
         return driver_number(bare(2));
     }
-    if (0 < number) & (number < 100) {
+    if refused(number) {
         return driver_number(answer);
     }
     place[0] = found.area;
@@ -175,7 +183,7 @@ fn give_counts(answer: Answer, counts: &mut [u32]) -> u64
     if counts.len() != 3 {
         return driver_number(bare(2));
     }
-    if (0 < number) & (number < 100) {
+    if refused(number) {
         return driver_number(answer);
     }
     counts[0] = answer.buckets_read;
