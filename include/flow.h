@@ -216,18 +216,21 @@ uint32_t flow_remove(uint64_t p, uint64_t k, uint64_t room, uint64_t top, uint64
  *   4 to 68      how many compared 0, 1, .. 64 records
  *   69 to 1092   the ring: an entry is 1 for a held answer, and 2 where it compared the side store, and 4 times the records compared
  * After flow_window_clear, whatever the area held before, and any list of these calls, flow_window_counts gives a fresh count over the entries
- * that the window then holds. On any other contents each call ends and answers as it does on these: the ring's places are taken modulo 1024,
- * counts run modulo 2^16, and an entry with more than 64 records compared is one with 64. Each of the four doors answers
- * 0, or 2 where an area is not of its length, and then alters nothing (examples/watch.c). */
+ * that the window then holds. An entry that leaves is taken off the counts, and its number stays in the ring until another takes its place.
+ * On any other contents each call ends, and goes by these numbers as they stand: the window is full where number 1 is 1024 or more, and empty
+ * where it is 0; the ring's places are taken modulo 1024, counts run modulo 2^16, and an entry above 64 records compared is one of 64.
+ * Each of the four doors answers 0, or 2 where an area is not of its length, and then alters nothing. A burst of searches gives no counts, so
+ * it enters no window (examples/watch.c has a driver's loop). */
 #define FLOW_WINDOW_NUMBERS 1093
 #define FLOW_WINDOW_SEARCHES 1024
 
 /* Empties a window. Lent: window, of 1093 numbers, with any contents: all are zero after it. */
 uint32_t flow_window_clear(uint16_t *window, size_t window_length);
 
-/* Enters a search: found is the number that a search door returned, counts the 3 numbers that it gave. The oldest entry of a full window is
- * dropped for good. A refused search (found / 2^32 neither 0 nor 100) enters nothing, and is answered with 0. No search compares more than 64
- * records: a greater number enters as 64, and a third count that is not 0 as 1. Lent: window; counts, of 3 numbers, which is only read. */
+/* Enters a search: found is the number that flow_search_counts or flow_search_counts_lent returned, counts the 3 numbers that it gave, of which
+ * the second and the third enter. The oldest entry of a full window is dropped for good. A refused search (found / 2^32 neither 0 nor 100)
+ * enters nothing, its counts are not looked at, and the answer is 0. No search compares more than 64 records: a greater number enters as 64,
+ * and a third count that is not 0 as 1. Lent: window; counts, of 3 numbers, which is only read. */
 uint32_t flow_window_enter(uint16_t *window, size_t window_length, uint64_t found, const uint32_t *counts,
                            size_t counts_length);
 
