@@ -14,7 +14,7 @@ use Rattle.theory.specs.Lists.{filter, upto, has, sum, All}
 use Rattle.theory.specs.Lookup.{Answer, accepted, driver-number}
 use Rattle.theory.specs.Window.{Entry, most-compared, entry-of, window-size, latest, WindowCall, clear-window, enter, remove-oldest, window-after}
 use Rattle.theory.specs.Window.{greatest, fresh-count, told-answer, AnswerTold, oldest-at, many-at, held-at, side-at, compared-at, ring-at, window-length}
-use Rattle.theory.specs.Window.{entry-word, word-entry, raised, lowered, oldest-out, put-in, put-for-oldest, words-after, counts-told, ring-entries, after-calls}
+use Rattle.theory.specs.Window.{entry-word, word-entry, raised, counted, oldest-out, put-in, put-for-oldest, words-after, counts-told, ring-entries, after-calls}
 use Rattle.theory.specs.Window.{WindowCountsFresh, WindowRing, WindowFew, WindowLatest}
 use Rattle.theory.proofs.ListLaws.{by-test, either, eqb-same, all-every, all-map, all-of-map, all-at, all-append, all-upto, all-has}
 use Rattle.theory.proofs.ListLaws.{map-cong, filter-cong}
@@ -177,12 +177,12 @@ module _ (e : Entry) (s : Small e) where
 
 put-in-is : (e : Entry) (words : List ℕ) (n : ℕ) → getD words many-at 0 ≡ n
     → put-in e words ≡ altered words (ring-at + (getD words oldest-at 0 + n) % window-size) (entry-word e) (changes e)
-unfolding put-in
+unfolding put-in counted
 put-in-is e words n is = rw is
 
 oldest-out-is : (e : Entry) (words : List ℕ) → word-entry (getD words (ring-at + getD words oldest-at 0 % window-size) 0) ≡ e
     → oldest-out words ≡ altered words oldest-at ((getD words oldest-at 0 % window-size + 1) % window-size) (map opposite (changes e))
-unfolding oldest-out lowered raised
+unfolding oldest-out counted raised
 oldest-out-is e words is = rw (← is)
 
 -- what an entry for another changes: three counts by what both change, and as many entries as before
@@ -215,7 +215,7 @@ put-for-oldest-is : (e x : Entry) (words : List ℕ) (n : ℕ) → getD words ma
     → word-entry (getD words (ring-at + getD words oldest-at 0 % window-size) 0) ≡ x
     → put-for-oldest e words ≡ altered (set words (ring-at + (getD words oldest-at 0 + n) % window-size) (entry-word e)) oldest-at
     ((getD words oldest-at 0 % window-size + 1) % window-size) (exchanges e x)
-unfolding put-for-oldest lowered raised
+unfolding put-for-oldest raised
 put-for-oldest-is e x words n is-n is-x = rw (is-n, ← is-x)
 
 -- ---- an area holds a list of entries

@@ -115,27 +115,26 @@ entry-word e = e .held + 2 * e .side-compared + 4 * e .records-compared
 unfoldable pub word-entry : ℕ → Entry
 word-entry x = record { held = x % 2; side-compared = x / 2 % 2; records-compared = min (x / 4) most-compared }
 
--- a count with so much added, or taken off: modulo 2^16, as a word holds it
+-- a count with so much added, modulo 2^16, as a word holds it; n taken off is 2^16 - n added
 unfoldable pub raised : ℕ → ℕ → List ℕ → List ℕ
 raised i n words = set words i ((getD words i 0 + n) % 2 ^ 16)
 
-unfoldable pub lowered : ℕ → ℕ → List ℕ → List ℕ
-lowered i n words = set words i ((getD words i 0 + (2 ^ 16 - n)) % 2 ^ 16)
+-- the counts with so much added: to all entries and to those that compared so many records, to held ones, to those that compared the side store
+unfoldable pub counted : ℕ → ℕ → ℕ → ℕ → List ℕ → List ℕ
+counted one held side compared words = raised (compared-at + compared) one (raised side-at side (raised held-at held (raised many-at one words)))
 
 -- the oldest entry taken out, on any words; the ring's word stays
 unfoldable pub oldest-out : List ℕ → List ℕ
 oldest-out words =
     let place = getD words oldest-at 0 % window-size in
     let e = word-entry (getD words (ring-at + place) 0) in
-    lowered (compared-at + e .records-compared) 1
-    (lowered side-at (e .side-compared) (lowered held-at (e .held) (lowered many-at 1 (set words oldest-at ((place + 1) % window-size)))))
+    counted (2 ^ 16 - 1) (2 ^ 16 - e .held) (2 ^ 16 - e .side-compared) (e .records-compared) (set words oldest-at ((place + 1) % window-size))
 
 -- an entry put in at the end, on any words
 unfoldable pub put-in : Entry → List ℕ → List ℕ
 put-in e words =
     let place = (getD words oldest-at 0 + getD words many-at 0) % window-size in
-    raised (compared-at + e .records-compared) 1
-    (raised side-at (e .side-compared) (raised held-at (e .held) (raised many-at 1 (set words (ring-at + place) (entry-word e)))))
+    counted 1 (e .held) (e .side-compared) (e .records-compared) (set words (ring-at + place) (entry-word e))
 
 -- an entry put in at the end of a full ring, on any words: the oldest entry leaves, and there are as many as before
 unfoldable pub put-for-oldest : Entry → List ℕ → List ℕ
@@ -144,7 +143,7 @@ put-for-oldest e words =
     let left = word-entry (getD words (ring-at + oldest) 0) in
     let place = (getD words oldest-at 0 + getD words many-at 0) % window-size in
     raised (compared-at + e .records-compared) 1
-    (lowered (compared-at + left .records-compared) 1
+    (raised (compared-at + left .records-compared) (2 ^ 16 - 1)
     (raised side-at (e .side-compared + (2 ^ 16 - left .side-compared))
     (raised held-at (e .held + (2 ^ 16 - left .held))
     (set (set words (ring-at + place) (entry-word e)) oldest-at ((oldest + 1) % window-size)))))

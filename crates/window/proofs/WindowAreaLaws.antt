@@ -10,35 +10,41 @@ use borrow.Author.Tests.{eqb-true, eq-eqb, ne-eqb, le-leb, lt-leb}
 use lib.ListN.{length, getD, set, replicate}
 use Rattle.theory.specs.Lists.{filter, upto}
 use Rattle.theory.specs.Window.{Entry, window-size, oldest-at, many-at, held-at, side-at, compared-at, ring-at, entry-word, word-entry}
-use Rattle.theory.specs.Window.{window-length, greatest, counts-told, told-answer, entry-of, words-after, raised, lowered, oldest-out, put-in, put-for-oldest}
+use Rattle.theory.specs.Window.{window-length, greatest, counts-told, told-answer, entry-of, words-after, raised, counted, oldest-out, put-in, put-for-oldest}
 use Rattle.theory.specs.Lookup.{accepted}
 use Rattle.theory.proofs.ListLaws.{by-test, and-left, and-right, all-stored}
 use Rattle.theory.proofs.GrowingLaws.{upto-more, filter-append}
 use Rattle.window.specs.Windows.{Written, clear-of, enter-of, remove-of, counts-of}
 
--- ---- an entry's four counts are lowered, or raised, one after the other
-module _ (words : List ℕ) (e : Entry) {oldest : ℕ} {one two three four : List ℕ} where
-  pub lowered-all : oldest ≡ getD words oldest-at 0 → e ≡ word-entry (getD words (ring-at + oldest % window-size) 0)
-      → one ≡ lowered many-at 1 (set words oldest-at ((oldest % window-size + 1) % window-size)) → two ≡ lowered held-at (e .held) one
-      → three ≡ lowered side-at (e .side-compared) two → four ≡ lowered (compared-at + e .records-compared) 1 three → four ≡ oldest-out words
-  unfolding oldest-out
-  lowered-all eo ee e1 e2 e3 e4 = rw (e4, e3, e2, e1, ee, eo)
+-- ---- what the code leaves, step by step: four counts; an entry taken out; one put in; one put in for another
+module _ (words : List ℕ) where
+  pub counted-all : (n held side compared : ℕ) {one two three four : List ℕ} → one ≡ raised many-at n words → two ≡ raised held-at held one
+      → three ≡ raised side-at side two → four ≡ raised (compared-at + compared) n three → four ≡ counted n held side compared words
+  unfolding counted
+  counted-all n held side compared e1 e2 e3 e4 = rw (e4, e3, e2, e1)
 
-  pub raised-all : {many word : ℕ} → oldest ≡ getD words oldest-at 0 → many ≡ getD words many-at 0 → word ≡ entry-word e
-      → one ≡ raised many-at 1 (set words (ring-at + (oldest + many) % window-size) word) → two ≡ raised held-at (e .held) one
-      → three ≡ raised side-at (e .side-compared) two → four ≡ raised (compared-at + e .records-compared) 1 three → four ≡ put-in e words
-  unfolding put-in
-  raised-all eo em ew e1 e2 e3 e4 = rw (e4, e3, e2, e1, ew, em, eo)
+  module _ (e : Entry) {oldest : ℕ} (first : oldest ≡ getD words oldest-at 0) where
+    pub taken-out : e ≡ word-entry (getD words (ring-at + oldest % window-size) 0) → {after : List ℕ}
+        → after ≡ counted (2 ^ 16 - 1) (2 ^ 16 - e .held) (2 ^ 16 - e .side-compared) (e .records-compared)
+        (set words oldest-at ((oldest % window-size + 1) % window-size)) → after ≡ oldest-out words
+    unfolding oldest-out
+    taken-out ee e1 = rw (e1, ee, first)
 
-  -- or one entry comes for another
-  pub exchanged-all : {many word : ℕ} {left : Entry} → oldest ≡ getD words oldest-at 0 → many ≡ getD words many-at 0 → word ≡ entry-word e
-      → left ≡ word-entry (getD words (ring-at + oldest % window-size) 0)
-      → one ≡ raised held-at (e .held + (2 ^ 16 - left .held))
-      (set (set words (ring-at + (oldest + many) % window-size) word) oldest-at ((oldest % window-size + 1) % window-size))
-      → two ≡ raised side-at (e .side-compared + (2 ^ 16 - left .side-compared)) one → three ≡ lowered (compared-at + left .records-compared) 1 two
-      → four ≡ raised (compared-at + e .records-compared) 1 three → four ≡ put-for-oldest e words
-  unfolding put-for-oldest
-  exchanged-all eo em ew el e1 e2 e3 e4 = rw (e4, e3, e2, e1, el, ew, em, eo)
+    module _ {many word : ℕ} (entries : many ≡ getD words many-at 0) (as-word : word ≡ entry-word e) where
+      pub come-in : {after : List ℕ}
+          → after ≡ counted 1 (e .held) (e .side-compared) (e .records-compared) (set words (ring-at + (oldest + many) % window-size) word)
+          → after ≡ put-in e words
+      unfolding put-in
+      come-in e1 = rw (e1, as-word, entries, first)
+
+      pub come-for : (left : Entry) → left ≡ word-entry (getD words (ring-at + oldest % window-size) 0) → {one two three four : List ℕ}
+          → one ≡ raised held-at (e .held + (2 ^ 16 - left .held))
+          (set (set words (ring-at + (oldest + many) % window-size) word) oldest-at ((oldest % window-size + 1) % window-size))
+          → two ≡ raised side-at (e .side-compared + (2 ^ 16 - left .side-compared)) one
+          → three ≡ raised (compared-at + left .records-compared) (2 ^ 16 - 1) two → four ≡ raised (compared-at + e .records-compared) 1 three
+          → four ≡ put-for-oldest e words
+      unfolding put-for-oldest
+      come-for left el e1 e2 e3 e4 = rw (e4, e3, e2, e1, el, as-word, entries, first)
 
 -- ---- the greatest number below c that passes a test, and one number more
 abbrev pub greatest-below : (ℕ → Bool) → ℕ → ℕ

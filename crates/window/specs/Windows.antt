@@ -1,7 +1,7 @@
 -- The calls of the window on every input, and an entry as the code holds it.
 use mathlib.Core.Bool.{Bool, cond, _&&_}
 use mathlib.Core.List.{List, [], _∷_}
-use Prim.Native.Nat.{ℕ, _≤_}
+use Prim.Native.Nat.{ℕ, _^_, _≤_}
 use lib.Dec.{eqb}
 use lib.ListN.{length}
 use Rattle.theory.specs.Window as plain
@@ -16,6 +16,13 @@ pub record EntryFits (e : Entry) : Type 0 where
   pub held : e .held ≤ 1
   pub side : e .«side_compared» ≤ 1
   pub compared : e .«records_compared» ≤ plain.most-compared
+
+-- numbers that one entry adds to the counts, or takes off
+pub record Countable (one held side compared : ℕ) : Type 0 where
+  pub one-most : one ≤ 2 ^ 16
+  pub held-most : held ≤ 2 ^ 16
+  pub side-most : side ≤ 2 ^ 16
+  pub compared-most : compared ≤ plain.most-compared
 
 -- ---- the number answered, and the area that the call writes as it leaves it
 pub record Written : Type 0 where

@@ -9,21 +9,21 @@ ghost use Prim.Native.Nat.{_+_, _-_, _/_, _^_, _≤_, _<_, min};
 ghost use lib.ListN.{length};
 ghost use Rattle.theory.specs.Lookup as lookup;
 ghost use Rattle.theory.specs.Window as plain;
-ghost use Rattle.theory.specs.Window.{window-length, most-compared, raised, lowered, oldest-out, put-in, put-for-oldest, told-answer, entry-word, word-entry, counts-told};
-ghost use Rattle.window.specs.Windows.{entry-in, EntryFits, Written, clear-of, enter-of, remove-of, counts-of};
+ghost use Rattle.theory.specs.Window.{window-length, most-compared, raised, counted, oldest-out, put-in, put-for-oldest, told-answer, entry-word, word-entry, counts-told};
+ghost use Rattle.window.specs.Windows.{entry-in, EntryFits, Countable, Written, clear-of, enter-of, remove-of, counts-of};
 
 // The words of a window's area.
 pub const LENGTH: usize = 1093;
 
 // An accepted search: 1 where it was held, 1 where it compared the side store, records compared.
 struct Entry {
-    held: u16,
-    side_compared: u16,
-    records_compared: u16,
+    held: u32,
+    side_compared: u32,
+    records_compared: u32,
 }
 
 // 1 where a test holds, else 0.
-fn one_where(test: bool) -> u16
+fn one_where(test: bool) -> u32
     ensures { λ r. ⌜ (r ≡ cond test 1 0) × (r ≤ 1) ⌝ }
 {
     if test { 1 } else { 0 }
@@ -38,10 +38,10 @@ fn accepted(found: u64) -> bool
 }
 
 // No search compares more than 64 records.
-fn at_most_64(compared: u32) -> u16
+fn at_most_64(compared: u32) -> u32
     ensures { λ r. ⌜ (r ≡ min compared most-compared) × (r ≤ most-compared) ⌝ }
 {
-    if compared < 64 { compared as u16 } else { 64 }
+    if compared < 64 { compared } else { 64 }
 }
 
 // The entry of a search, of which a door gave the driver's number and three counts.
@@ -61,41 +61,36 @@ fn word_of(e: Entry) -> u16
     requires { ⌜ EntryFits e ⌝ }
     ensures { λ r. ⌜ r ≡ entry-word (entry-in e) ⌝ }
 {
-    e.held + 2 * e.side_compared + 4 * e.records_compared
+    (e.held + 2 * e.side_compared + 4 * e.records_compared) as u16
 }
 
 fn entry_at(word: u16) -> Entry
     ensures { λ r. ⌜ (entry-in r ≡ word-entry word) × EntryFits r ⌝ }
 {
     Entry {
-        held: word % 2,
-        side_compared: word / 2 % 2,
-        records_compared: at_most_64((word / 4) as u32),
+        held: (word as u32) % 2,
+        side_compared: (word as u32) / 2 % 2,
+        records_compared: at_most_64((word as u32) / 4),
     }
 }
 
-// A count with so much added, modulo 2^16.
-fn raise(words: &mut [u16], at: usize, n: u16)
-    requires { ⌜ at < length (now words) ⌝ }
+// A count with so much added, modulo 2^16; n taken off is 65,536 - n added.
+fn raise(words: &mut [u16], at: usize, n: u32)
+    requires { ⌜ (at < length (now words)) × (n ≤ 131072) ⌝ }
     ensures { λ _. ⌜ now (words .exit) ≡ raised at n (now (words .entry)) ⌝ }
 {
-    words[at] = (((words[at] as u32) + (n as u32)) % 65536) as u16;
+    words[at] = (((words[at] as u32) + n) % 65536) as u16;
 }
 
-// A count with so much taken off, modulo 2^16.
-fn lower(words: &mut [u16], at: usize, n: u16)
-    requires { ⌜ at < length (now words) ⌝ }
-    ensures { λ _. ⌜ now (words .exit) ≡ lowered at n (now (words .entry)) ⌝ }
+// The counts with so much added: all entries and those that compared so many records, held ones, those that compared the side store.
+fn count(words: &mut [u16], one: u32, held: u32, side: u32, compared: usize)
+    requires { ⌜ (length (now words) ≡ window-length) × Countable one held side compared ⌝ }
+    ensures { λ _. ⌜ now (words .exit) ≡ counted one held side compared (now (words .entry)) ⌝ }
 {
-    words[at] = (((words[at] as u32) + (65536 - (n as u32))) % 65536) as u16;
-}
-
-// A count that one entry comes to and another leaves, modulo 2^16.
-fn exchange(words: &mut [u16], at: usize, came: u16, left: u16)
-    requires { ⌜ (at < length (now words)) × (came ≤ 1) × (left ≤ 1) ⌝ }
-    ensures { λ _. ⌜ now (words .exit) ≡ raised at (came + (2 ^ 16 - left)) (now (words .entry)) ⌝ }
-{
-    words[at] = (((words[at] as u32) + ((came as u32) + (65536 - (left as u32)))) % 65536) as u16;
+    raise(words, 1, one);
+    raise(words, 2, held);
+    raise(words, 3, side);
+    raise(words, 4 + compared, one);
 }
 
 // The oldest entry leaves.
@@ -106,10 +101,13 @@ fn take_oldest_out(words: &mut [u16])
     let place = wide_count(words[0]) % 1024;
     let e = entry_at(words[69 + place]);
     words[0] = ((place + 1) % 1024) as u16;
-    lower(words, 1, 1);
-    lower(words, 2, e.held);
-    lower(words, 3, e.side_compared);
-    lower(words, 4 + (e.records_compared as usize), 1);
+    count(
+        words,
+        65535,
+        65536 - e.held,
+        65536 - e.side_compared,
+        e.records_compared as usize,
+    );
 }
 
 // An entry comes in at the end.
@@ -119,10 +117,13 @@ fn put_in(words: &mut [u16], e: Entry)
 {
     let place = (wide_count(words[0]) + wide_count(words[1])) % 1024;
     words[69 + place] = word_of(e);
-    raise(words, 1, 1);
-    raise(words, 2, e.held);
-    raise(words, 3, e.side_compared);
-    raise(words, 4 + (e.records_compared as usize), 1);
+    count(
+        words,
+        1,
+        e.held,
+        e.side_compared,
+        e.records_compared as usize,
+    );
 }
 
 // An entry comes in at the end of a full window, and the oldest leaves: each word is written once.
@@ -136,9 +137,9 @@ fn put_for_oldest(words: &mut [u16], e: Entry)
     let left = entry_at(words[69 + oldest]);
     words[69 + place] = word_of(e);
     words[0] = ((oldest + 1) % 1024) as u16;
-    exchange(words, 2, e.held, left.held);
-    exchange(words, 3, e.side_compared, left.side_compared);
-    lower(words, 4 + (left.records_compared as usize), 1);
+    raise(words, 2, e.held + (65536 - left.held));
+    raise(words, 3, e.side_compared + (65536 - left.side_compared));
+    raise(words, 4 + (left.records_compared as usize), 65535);
     raise(words, 4 + (e.records_compared as usize), 1);
 }
 

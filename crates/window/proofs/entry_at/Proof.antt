@@ -10,4 +10,4 @@ unfolding word-entry
 returns c = (rw (c .at-most-64 .ensures .0), record { held = omega arith; side = omega arith; compared = c .at-most-64 .ensures .1 })
 
 pub entry-at-spec : {M : Type 1} → statement M
-entry-at-spec = tie.close (tie.spec (λ c. search needs) (λ c κs. search needs) returns)
+entry-at-spec = tie.close (tie.spec (λ c κs. search needs) returns)

@@ -4,55 +4,77 @@ use native.Mathlib.Omega.{arith}
 use borrow.Author.Needs.{needs}
 use lib.ListN.{length, length-set}
 use Rattle.theory.specs.Window.{window-length}
-use Rattle.window.proofs.WindowAreaLaws.{exchanged-all}
+use Rattle.window.specs.Windows.{EntryFits}
+use Rattle.window.proofs.WindowAreaLaws.{come-for}
 use Rattle.window.proofs.put_for_oldest.Statement.{statement}
 use Rattle.window.proofs.put_for_oldest.Tie as tie
 
--- ---- the entry's word is in the ring and the oldest one's place has moved, and one count after the other is changed
-module _ (c : tie.After-exchange) where
-  abbrev placed : tie.After-word-of
-  placed = c .before .before
-
+-- ---- the entry's word is in the ring
+module _ (c : tie.After-word-of) where
   abbrev taken : tie.After-entry-at
-  taken = placed .before
+  taken = c .before
 
   abbrev start : tie.Start
   start = taken .before .before .before .before .before .before .before
 
-  long : length (c .exchange .last .0) ≡ window-length
-  long = c .exchange .kept .0 ∙ simp length-set (start .pre .0)
+  left : EntryFits (taken .entry-at .result)
+  left = taken .entry-at .ensures .1
 
-module _ (c : tie.After-exchange2) where
-  abbrev one : tie.After-exchange
-  one = c .before .before .before .before
+-- ---- and one count after the other is changed
+module _ (c : tie.After-raise) where
+  abbrev placed : tie.After-word-of
+  placed = c .before .before .before .before
 
-  long2 : length (c .exchange2 .last .0) ≡ window-length
-  long2 = c .exchange2 .kept .0 ∙ long one
+  long : length (c .raise .last .0) ≡ window-length
+  long = c .raise .kept .0 ∙ simp length-set (start placed .pre .0)
 
-module _ (c : tie.After-lower) where
-  abbrev two : tie.After-exchange2
+module _ (c : tie.After-raise2) where
+  abbrev one : tie.After-raise
+  one = c .before .before .before .before .before .before
+
+  long2 : length (c .raise2 .last .0) ≡ window-length
+  long2 = c .raise2 .kept .0 ∙ long one
+
+module _ (c : tie.After-raise3) where
+  abbrev two : tie.After-raise2
   two = c .before .before .before .before .before
 
-  long3 : length (c .lower .last .0) ≡ window-length
-  long3 = c .lower .kept .0 ∙ long2 two
+  long3 : length (c .raise3 .last .0) ≡ window-length
+  long3 = c .raise3 .kept .0 ∙ long2 two
 
-module _ (c : tie.After-raise) where
-  abbrev three : tie.After-lower
+module _ (c : tie.After-raise4) where
+  abbrev three : tie.After-raise3
   three = c .before .before .before .before .before
 
-  long4 : length (c .raise .last .0) ≡ window-length
-  long4 = c .raise .kept .0 ∙ long3 three
+  long4 : length (c .raise4 .last .0) ≡ window-length
+  long4 = c .raise4 .kept .0 ∙ long3 three
 
 -- two words are below 2^16
 add-place : tie.Need-add-place
 add-place c =
     let known = c .before .slice-known3 .given in omega (arith, c .wide-count2 .ensures, c .before .before .wide-count .ensures, known 0, known 1)
 
-exchange-requires-2 : tie.Need-exchange-requires-2
-exchange-requires-2 c κs = let one = c .before .before .before in omega (arith, long one, start one .pre .1, taken one .entry-at .ensures .1)
+raise-requires : tie.Need-raise-requires
+raise-requires c κs =
+    let placed = c .before .before .before in
+    let fits = start placed .pre .1 in
+    (simp length-set (omega (arith, start placed .pre .0)), omega (arith, fits .held))
 
-lower-requires : tie.Need-lower-requires
-lower-requires c κs = let two = c .before .before .before .before in omega (arith, long2 two, taken (one two) .entry-at .ensures .1)
+raise-requires-2 : tie.Need-raise-requires-2
+raise-requires-2 c κs =
+    let one = c .before .before .before .before .before in
+    let fits = start (placed one) .pre .1 in
+    (omega (arith, long one), omega (arith, fits .side))
+
+raise-requires-3 : tie.Need-raise-requires-3
+raise-requires-3 c κs =
+    let two = c .before .before .before .before in (omega (arith, long2 two, left (placed (one two)) .compared), omega arith)
+
+raise-requires-4 : tie.Need-raise-requires-4
+raise-requires-4 c κs =
+    let three = c .before .before .before .before in
+    let fits = start (placed (one (two three))) .pre .1 in
+    (omega (arith, long3 three, fits .compared), omega arith)
 
 returns : tie.Need-returns
 returns c =
@@ -60,15 +82,16 @@ returns c =
     let three = three four in
     let two = two three in
     let one = one two in
-    let taken = taken one in
+    let placed = placed one in
+    let taken = taken placed in
     let read = taken .before .before in
-    exchanged-all _ _ (read .before .before .wide-count .ensures) (read .wide-count2 .ensures) (placed one .word-of .ensures) (taken .entry-at .ensures .0)
-    (one .exchange .ensures) (two .exchange2 .ensures) (three .lower .ensures) (four .raise .ensures)
+    come-for _ _ (read .before .before .wide-count .ensures) (read .wide-count2 .ensures) (placed .word-of .ensures) _ (taken .entry-at .ensures .0)
+    (one .raise .ensures) (two .raise2 .ensures) (three .raise3 .ensures) (four .raise4 .ensures)
 
 pub put-for-oldest-spec : {M : Type 1} → statement M
 put-for-oldest-spec =
     tie.close (tie.spec (λ c. search needs) (λ c κs. search needs) (λ c. search needs) (λ c κs. search needs) add-place (λ c. search needs)
     (λ c. search needs) (λ c. search needs) (λ c κs. search needs) (λ c κs. search needs) (λ c. search needs) (λ c. search needs) (λ c. search needs)
-    (λ c. search needs) (λ c. search needs) (λ c. search needs) (λ c κs. search needs) exchange-requires-2 (λ c. search needs) (λ c. search needs)
-    lower-requires (λ c. search needs) (λ c. search needs) (λ c κs. omega (arith, long3 (c .before .before .before .before)))
-    (λ c. omega (arith, long4 (c .before .before))) returns)
+    (λ c. search needs) (λ c. search needs) (λ c. search needs) (λ c. search needs) (λ c. search needs) raise-requires (λ c. search needs)
+    (λ c. search needs) raise-requires-2 (λ c. search needs) (λ c. search needs) raise-requires-3 (λ c. search needs) (λ c. search needs) raise-requires-4
+    (λ c. omega (arith, long4 (c .before .before), start (placed (one (two (three (c .before .before))))) .pre .0)) returns)

@@ -13,5 +13,5 @@ returns c = refl
 pub raise-spec : {M : Type 1} → statement M
 raise-spec =
     tie.close (tie.spec (λ c. search needs) (λ c. search needs) (λ c. omega (arith, c .slice-known .given (c .before .args .at)))
-    (λ c. omega (arith, c .slice-known .given (c .before .args .at))) (λ c. search needs) (λ c. search needs) (λ c. search needs) (λ c. search needs)
-    returns)
+    (λ c. omega (arith, c .slice-known .given (c .before .args .at), c .before .pre .1)) (λ c. search needs) (λ c. search needs) (λ c. search needs)
+    (λ c. search needs) returns)

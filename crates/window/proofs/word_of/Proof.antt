@@ -10,4 +10,4 @@ unfolding entry-word
 returns c = refl
 
 pub word-of-spec : {M : Type 1} → statement M
-word-of-spec = tie.close (tie.spec (λ c. search needs) (λ c. search needs) (λ c. search needs) (λ c. search needs) returns)
+word-of-spec = tie.close (tie.spec (λ c. search needs) (λ c. search needs) (λ c. search needs) (λ c. search needs) (λ c. search needs) returns)
