@@ -9,11 +9,28 @@ ghost use Prim.Native.Nat.{_+_, _-_, _/_, _^_, _≤_, _<_, min};
 ghost use lib.ListN.{length};
 ghost use Rattle.theory.specs.Lookup as lookup;
 ghost use Rattle.theory.specs.Window as plain;
-ghost use Rattle.theory.specs.Window.{window-length, most-compared, raised, counted, oldest-out, put-in, put-for-oldest, told-answer, entry-word, word-entry, counts-told};
+ghost use Rattle.theory.specs.Window.{window-length, most-compared, told-answer, entry-word, word-entry, raised, counted, oldest-out, put-in, put-for-oldest};
+ghost use Rattle.theory.specs.Window.{counts-told};
 ghost use Rattle.window.specs.Windows.{entry-in, EntryFits, Countable, Written, clear-of, enter-of, remove-of, counts-of};
 
-// The words of a window's area.
+// The words of a window's area: the place of the oldest entry in the ring; how many entries there are; how many of them are held, how many compared the side store,
+// and how many compared 0, 1, .. 64 records; then the ring.
+const OLDEST: usize = 0;
+
+const MANY: usize = 1;
+
+const HELD: usize = 2;
+
+const SIDE: usize = 3;
+
+const COMPARED: usize = 4;
+
+const RING: usize = 69;
+
 pub const LENGTH: usize = 1093;
+
+// The entries that the ring has room for.
+const SIZE: usize = 1024;
 
 // An accepted search: 1 where it was held, 1 where it compared the side store, records compared.
 struct Entry {
@@ -87,10 +104,10 @@ fn count(words: &mut [u16], one: u32, held: u32, side: u32, compared: usize)
     requires { ⌜ (length (now words) ≡ window-length) × Countable one held side compared ⌝ }
     ensures { λ _. ⌜ now (words .exit) ≡ counted one held side compared (now (words .entry)) ⌝ }
 {
-    raise(words, 1, one);
-    raise(words, 2, held);
-    raise(words, 3, side);
-    raise(words, 4 + compared, one);
+    raise(words, MANY, one);
+    raise(words, HELD, held);
+    raise(words, SIDE, side);
+    raise(words, COMPARED + compared, one);
 }
 
 // The oldest entry leaves.
@@ -98,9 +115,9 @@ fn take_oldest_out(words: &mut [u16])
     requires { ⌜ length (now words) ≡ window-length ⌝ }
     ensures { λ _. ⌜ now (words .exit) ≡ oldest-out (now (words .entry)) ⌝ }
 {
-    let place = wide_count(words[0]) % 1024;
-    let e = entry_at(words[69 + place]);
-    words[0] = ((place + 1) % 1024) as u16;
+    let place = wide_count(words[OLDEST]) % SIZE;
+    let e = entry_at(words[RING + place]);
+    words[OLDEST] = ((place + 1) % SIZE) as u16;
     count(
         words,
         65535,
@@ -115,8 +132,8 @@ fn put_in(words: &mut [u16], e: Entry)
     requires { ⌜ (length (now words) ≡ window-length) × EntryFits e ⌝ }
     ensures { λ _. ⌜ now (words .exit) ≡ put-in (entry-in e) (now (words .entry)) ⌝ }
 {
-    let place = (wide_count(words[0]) + wide_count(words[1])) % 1024;
-    words[69 + place] = word_of(e);
+    let place = (wide_count(words[OLDEST]) + wide_count(words[MANY])) % SIZE;
+    words[RING + place] = word_of(e);
     count(
         words,
         1,
@@ -131,16 +148,16 @@ fn put_for_oldest(words: &mut [u16], e: Entry)
     requires { ⌜ (length (now words) ≡ window-length) × EntryFits e ⌝ }
     ensures { λ _. ⌜ now (words .exit) ≡ put-for-oldest (entry-in e) (now (words .entry)) ⌝ }
 {
-    let first = wide_count(words[0]);
-    let oldest = first % 1024;
-    let place = (first + wide_count(words[1])) % 1024;
-    let left = entry_at(words[69 + oldest]);
-    words[69 + place] = word_of(e);
-    words[0] = ((oldest + 1) % 1024) as u16;
-    raise(words, 2, e.held + (65536 - left.held));
-    raise(words, 3, e.side_compared + (65536 - left.side_compared));
-    raise(words, 4 + (left.records_compared as usize), 65535);
-    raise(words, 4 + (e.records_compared as usize), 1);
+    let first = wide_count(words[OLDEST]);
+    let oldest = first % SIZE;
+    let place = (first + wide_count(words[MANY])) % SIZE;
+    let left = entry_at(words[RING + oldest]);
+    words[RING + place] = word_of(e);
+    words[OLDEST] = ((oldest + 1) % SIZE) as u16;
+    raise(words, HELD, e.held + (65536 - left.held));
+    raise(words, SIDE, e.side_compared + (65536 - left.side_compared));
+    raise(words, COMPARED + (left.records_compared as usize), 65535);
+    raise(words, COMPARED + (e.records_compared as usize), 1);
 }
 
 // Empty: 2 for a wrong length.
@@ -166,7 +183,7 @@ pub fn enter(words: &mut [u16], found: u64, counts: &[u32]) -> u32
         return 0;
     }
     let e = entry_of(found, counts);
-    if 1024 <= words[1] {
+    if SIZE <= wide_count(words[MANY]) {
         put_for_oldest(words, e);
         return 0;
     }
@@ -181,7 +198,7 @@ pub fn remove(words: &mut [u16]) -> u32
     if words.len() != LENGTH {
         return 2;
     }
-    if words[1] != 0 {
+    if words[MANY] != 0 {
         take_oldest_out(words);
     }
     0
@@ -195,7 +212,7 @@ fn greatest_compared(words: &[u16]) -> u32
     let mut greatest: u32 = 0;
     let mut c: usize = 0;
     while c < 65 {
-        greatest = pick32(words[4 + c] != 0, c as u32, greatest);
+        greatest = pick32(words[COMPARED + c] != 0, c as u32, greatest);
         c += 1;
     }
     greatest
@@ -209,8 +226,8 @@ pub fn counts(words: &[u16], counts: &mut [u32]) -> u32
     if !((words.len() == LENGTH) & (counts.len() == 3)) {
         return 2;
     }
-    counts[0] = words[2] as u32;
-    counts[1] = words[3] as u32;
+    counts[0] = words[HELD] as u32;
+    counts[1] = words[SIDE] as u32;
     counts[2] = greatest_compared(words);
     0
 }

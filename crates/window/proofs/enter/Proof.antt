@@ -45,21 +45,30 @@ returns c = rw (not-true (lengths (c .before)) (c .if1 .taken))
 returns-2 : tie.Need-returns-2
 returns-2 c = let told = c .before .accepted in refused (right (c .before .before)) _ (sym (told .ensures) ∙ not-true (told .result) (c .if2 .taken))
 
+-- ---- how many entries there are is seen
+module _ (c : tie.After-wide-count) where
+  abbrev made : tie.After-entry-of
+  made = c .before .before
+
 returns-3 : tie.Need-returns-3
 returns-3 c =
     let put = c .before .before in
-    let made = put .before .before .before .before in
-    entered-full (right (measured made)) _ (ok made) (made .entry-of .ensures .0) (omega (arith, put .before .before .if3 .taken)) (put .put-for-oldest .ensures)
+    let seen = put .before .before .before in
+    let made = made seen in
+    entered-full (right (measured made)) _ (ok made) (made .entry-of .ensures .0) (omega (arith, put .before .before .if3 .taken, seen .wide-count .ensures))
+    (put .put-for-oldest .ensures)
 
 returns-4 : tie.Need-returns-4
 returns-4 c =
     let put = c .before .before in
-    let made = put .before .before .before .before in
-    entered (right (measured made)) _ (ok made) (made .entry-of .ensures .0) (omega (arith, put .before .before .if3 .left)) (put .put-in .ensures)
+    let seen = put .before .before .before in
+    let made = made seen in
+    entered (right (measured made)) _ (ok made) (made .entry-of .ensures .0) (omega (arith, put .before .before .if3 .left, seen .wide-count .ensures))
+    (put .put-in .ensures)
 
 pub enter-spec : {M : Type 1} → statement M
 enter-spec =
     tie.close (tie.spec returns (λ c κs. search needs) returns-2 (λ c κs. right (c .before .before) .three)
-    (λ c. omega (arith, right (measured (c .before)) .long))
-    (λ c κs. let made = c .before .before .before in (right (measured made) .long, made .entry-of .ensures .1)) (λ c. search needs) returns-3
-    (λ c κs. let made = c .before .before .before in (right (measured made) .long, made .entry-of .ensures .1)) (λ c. search needs) returns-4)
+    (λ c. omega (arith, right (measured (c .before)) .long)) (λ c κs. search needs)
+    (λ c κs. let made = made (c .before .before) in (right (measured made) .long, made .entry-of .ensures .1)) (λ c. search needs) returns-3
+    (λ c κs. let made = made (c .before .before) in (right (measured made) .long, made .entry-of .ensures .1)) (λ c. search needs) returns-4)
