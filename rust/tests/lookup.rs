@@ -10,7 +10,7 @@ use model::records::{Key, Record, RECORD_BYTES};
 use model::settings::{Settings as Model, LIMITS};
 use testing::made::{
     damage_ledger, damage_lookup, filled, random_card, random_key, random_table, set_count,
-    spoiled, wrong_length,
+    spoiled, wrong_length, wrong_search,
 };
 use testing::random::Random;
 use testing::seen::{Halves, Seen};
@@ -290,28 +290,7 @@ fn searches_with_wrong_lengths_and_settings() {
         let card = random_card(&mut random);
         let (list, areas) = random_table(&mut random, &card);
         for _ in 0..50 {
-            let mut areas = areas.clone();
-            let mut settings = card.settings;
-            let key = match list.first() {
-                Some(record) if random.between(0, 1) == 0 => record.key,
-                _ => random_key(&mut random),
-            };
-            let mut key = key.to_vec();
-            if random.between(0, 3) == 0 {
-                let keys = [random_key(&mut random)];
-                damage_lookup(&mut random, &card, &mut areas, &keys);
-            }
-            if random.between(0, 3) == 0 {
-                key.resize(wrong_length(&mut random, KEY_BYTES), 7);
-            }
-            for area in [&mut areas.clipped, &mut areas.buckets, &mut areas.side] {
-                if random.between(0, 7) == 0 {
-                    area.resize(wrong_length(&mut random, area.len()), 0);
-                }
-            }
-            if random.between(0, 5) == 0 {
-                settings = spoiled(&mut random, settings);
-            }
+            let (settings, areas, key) = wrong_search(&mut random, &card, &list, &areas);
             doors.search(&Card::new(settings), areas.lookup(), &key);
             let numbers = wrong_length(&mut random, 2);
             let card = Card::new(settings);

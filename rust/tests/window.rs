@@ -13,7 +13,7 @@ use model::window::{Window, SEARCHES};
 use model::window_area::{self, ENTRIES, HELD, NUMBERS, OLDEST, RING};
 use testing::made::{
     damage_lookup, filled, random_card, random_class, random_key, random_numbers, random_table,
-    set_count, spoiled, wrong_length,
+    set_count, wrong_length, wrong_search,
 };
 use testing::random::Random;
 use testing::seen::Seen;
@@ -630,28 +630,7 @@ fn searches_with_wrong_lengths_and_settings() {
         let card = random_card(&mut random);
         let (list, areas) = random_table(&mut random, &card);
         for _ in 0..50 {
-            let mut areas = areas.clone();
-            let mut settings = card.settings;
-            let key = match list.first() {
-                Some(record) if random.between(0, 1) == 0 => record.key,
-                _ => random_key(&mut random),
-            };
-            let mut key = key.to_vec();
-            if random.between(0, 3) == 0 {
-                let keys = [random_key(&mut random)];
-                damage_lookup(&mut random, &card, &mut areas, &keys);
-            }
-            if random.between(0, 3) == 0 {
-                key.resize(wrong_length(&mut random, KEY_BYTES), 7);
-            }
-            for area in [&mut areas.clipped, &mut areas.buckets, &mut areas.side] {
-                if random.between(0, 7) == 0 {
-                    area.resize(wrong_length(&mut random, area.len()), 0);
-                }
-            }
-            if random.between(0, 5) == 0 {
-                settings = spoiled(&mut random, settings);
-            }
+            let (settings, areas, key) = wrong_search(&mut random, &card, &list, &areas);
             let lent = match random.between(0, 3) {
                 0 => wrong_length(&mut random, 3),
                 _ => 3,

@@ -14,7 +14,8 @@ use Rattle.theory.specs.Lists.{filter, upto, has, sum, All}
 use Rattle.theory.specs.Lookup.{Answer, accepted, driver-number}
 use Rattle.theory.specs.Window.{Entry, most-compared, entry-of, window-size, latest, WindowCall, clear-window, enter, remove-oldest, window-after}
 use Rattle.theory.specs.Window.{greatest, fresh-count, told-answer, AnswerTold, oldest-at, many-at, held-at, side-at, compared-at, ring-at, window-length}
-use Rattle.theory.specs.Window.{entry-word, word-entry, raised, counted, oldest-out, put-in, put-for-oldest, words-after, counts-told, ring-entries, after-calls}
+use Rattle.theory.specs.Window.{entry-word, word-entry, raised, counted, oldest-out, put-in, put-for-oldest}
+use Rattle.theory.specs.Window.{words-after, counts-told, ring-entries, after-calls}
 use Rattle.theory.specs.Window.{WindowCountsFresh, WindowRing, WindowFew, WindowLatest}
 use Rattle.theory.proofs.ListLaws.{by-test, either, eqb-same, all-every, all-map, all-of-map, all-at, all-append, all-upto, all-has}
 use Rattle.theory.proofs.ListLaws.{map-cong, filter-cong}

@@ -15,7 +15,8 @@ use Rattle.theory.specs.Placing.{chosen}
 use Rattle.theory.specs.Layout.{Areas, layout}
 use Rattle.theory.specs.Lookup.{counter, bucket-part, reads-bucket}
 use Rattle.theory.specs.Ledger.{Call, clear, add, change, remove, search, fetch, tally, handed, key-wrong, side-need-of}
-use Rattle.theory.specs.Calls.{reply-number, reply-class, reply-buckets-read, reply-compared, ledger-records, lookup-lengths, only-reads, lent-areas, lent-work, perform}
+use Rattle.theory.specs.Calls.{reply-number, reply-class, reply-buckets-read, reply-compared}
+use Rattle.theory.specs.Calls.{ledger-records, lookup-lengths, only-reads, lent-areas, lent-work, perform}
 use Rattle.theory.specs.Calls.{run, areas-after, last-state, run-plain, list-after}
 use Rattle.theory.specs.Snapshot.{save, load}
 use Rattle.theory.specs.Packet.{read-packet}

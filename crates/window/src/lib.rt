@@ -13,8 +13,8 @@ ghost use Rattle.theory.specs.Window.{window-length, most-compared, told-answer
 ghost use Rattle.theory.specs.Window.{counts-told};
 ghost use Rattle.window.specs.Windows.{entry-in, EntryFits, Countable, Written, clear-of, enter-of, remove-of, counts-of};
 
-// The words of a window's area: the place of the oldest entry in the ring; how many entries there are; how many of them are held, how many compared the side store,
-// and how many compared 0, 1, .. 64 records; then the ring.
+// The words of a window's area: the place of the oldest entry in the ring; how many entries there are; how many of them are held, how many compared the
+// side store, and how many compared 0, 1, .. 64 records; then the ring.
 const OLDEST: usize = 0;
 
 const MANY: usize = 1;
@@ -46,8 +46,8 @@ fn one_where(test: bool) -> u32
     if test { 1 } else { 0 }
 }
 
-// The number of an accepted search: of a held flow below 2^32, of an absent one from 100 * 2^32 on. By ranges of the whole number, since of two tests for an equal
-// answer the compiler makes two branches, and where held and absent flows come in turn the processor would wait at the first.
+// The number of an accepted search: of a held flow below 2^32, of an absent one from 100 * 2^32 on. By ranges of the whole number, since of two tests for
+// an equal answer the compiler makes two branches, and where held and absent flows come in turn the processor would wait at the first.
 fn accepted(found: u64) -> bool
     ensures { λ r. ⌜ r ≡ lookup.accepted (found / 2 ^ 32) ⌝ }
 {

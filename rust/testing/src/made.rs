@@ -338,3 +338,36 @@ pub fn resize<T: Clone + Default>(random: &mut Random, area: &mut Vec<T>) {
 pub fn load(s: u64, w: u64, f: u64, count: u64) -> Vec<u8> {
     [s, w, f, count].map(u64::to_be_bytes).concat()
 }
+
+/// What a search is lent, with a key of the list or another, where now and then the lookup areas are damaged, the key or an area has another length, and a setting
+/// is out of its range.
+pub fn wrong_search(
+    random: &mut Random,
+    card: &Card,
+    list: &[Record],
+    areas: &Areas,
+) -> (Model, Areas, Vec<u8>) {
+    let mut areas = areas.clone();
+    let mut settings = card.settings;
+    let key = match list.first() {
+        Some(record) if random.between(0, 1) == 0 => record.key,
+        _ => random_key(random),
+    };
+    let mut key = key.to_vec();
+    if random.between(0, 3) == 0 {
+        let keys = [random_key(random)];
+        damage_lookup(random, card, &mut areas, &keys);
+    }
+    if random.between(0, 3) == 0 {
+        key.resize(wrong_length(random, KEY_BYTES), 7);
+    }
+    for area in [&mut areas.clipped, &mut areas.buckets, &mut areas.side] {
+        if random.between(0, 7) == 0 {
+            area.resize(wrong_length(random, area.len()), 0);
+        }
+    }
+    if random.between(0, 5) == 0 {
+        settings = spoiled(random, settings);
+    }
+    (settings, areas, key)
+}
