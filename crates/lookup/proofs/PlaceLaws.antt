@@ -2,25 +2,25 @@
 use mathlib.Core.Path.{_≡_, refl, sym, ap, _∙_, subst}
 use mathlib.Core.Bool.{Bool, true, false, not, _&&_}
 use mathlib.Core.List.{List, [], _∷_}
-use Prim.Native.Nat.{ℕ, zero, suc, _+_, _-_, _*_, _^_, _≤_, _<_}
+use Prim.Native.Nat.{ℕ, zero, suc, _+_, _-_, _*_, _≤_, _<_}
 use native.Mathlib.Nat.{add-zero}
 use native.Mathlib.Omega.{arith}
-use lib.Dec.{eqb, ltb, leb}
+use lib.Dec.{eqb}
 use borrow.Author.Tests.{lt-ltb, le-ltb, eq-eqb, ne-eqb}
 use lib.ListN.{length, take, drop, getD, length-drop}
 use lib.Seq.{getD-take, getD-drop, drop-drop}
 use Rattle.theory.specs.Lists.{least}
-use Rattle.theory.specs.Hash.{H, numbers-of}
+use Rattle.theory.specs.Hash.{H}
 use Rattle.theory.specs.Records.{count-of}
 use Rattle.theory.specs.Settings.{Settings, Card, allowed, card-of, record-size, bucket-size, buckets-length}
 use Rattle.theory.specs.Placing.{all-top, least-count, chosen}
 use Rattle.theory.specs.Lookup as plain
 use Rattle.theory.specs.Lookup.{counter, bare, bucket-part, side-place, bucket-place, by-counters, reads-bucket}
 use Rattle.theory.specs.Lookup.{goes-to-bucket, place, answer-at, search-areas, record-place}
-use Rattle.theory.proofs.ListLaws.{by-test, all-map, all-cong, any-none, least-zero, least-top}
+use Rattle.theory.proofs.ListLaws.{by-test}
 use Rattle.theory.proofs.SettingsLaws.{ranges, Sound, sound, numbers-of-below}
-use Rattle.theory.proofs.PlacingLaws.{chosen-below}
-use Rattle.theory.proofs.RecordPlaceLaws.{not-above}
+use Rattle.theory.proofs.PlacingLaws.{all-top-least, chosen-below}
+use Rattle.theory.proofs.LookupLaws.{by-least}
 use Rattle.memory.proofs.SliceLaws.{length-part}
 use Rattle.settings.proofs.Laws.{width-is, room-is, bucket-size-is, side-length-is, bounds}
 use Rattle.lookup.specs.declared.counters.KeyCounters.{KeyCounters}
@@ -150,8 +150,8 @@ module _ (t : Settings) (ok : allowed t ≡ true) (h : ℕ) where
   -- unless the least is T, the chosen bucket is one of the card's
   module _ (clipped key : List ℕ) (e : least-count (card-at t h) (counter clipped) key ≡ t .top → ⊥) where
     not-all : all-top (card-at t h) (counter clipped) key ≡ false
-    unfolding all-top least-count card-at card-of
-    not-all = least-top (counter clipped) (t .top) (numbers-of (2 ^ t .p) (t .k) h) ∙ ne-eqb _ (t .top) e
+    unfolding card-at card-of
+    not-all = all-top-least (card-at t h) (counter clipped) key ∙ ne-eqb _ (t .top) e
 
     chosen-there : chosen (card-at t h) (counter clipped) key < card-of t .buckets
     unfolding card-at
@@ -168,23 +168,12 @@ module _ {t : Settings} {h : ℕ} {clipped : List ℕ} {c : KeyCounters} (ok : a
   pub key-counters-fit : KeyCountersFit t c
   key-counters-fit = record { there = λ e. rw (of .bucket []) (chosen-there t ok h clipped [] (λ low. e (of .least [] ∙ low))) }
 
-  -- with no counter above T, the least tells whether one is zero and whether all are T
+  -- by `by-least` the least tells what the definition asks of all counters
   by-choice-is : (key : List ℕ) {X : Type 0} (refused absent side bucket : X)
       → by-choice (card-of t) c refused absent side bucket ≡ by-counters (card-at t h) (counter clipped) key refused absent side bucket
-  unfolding by-counters card-at card-of least-count
+  unfolding card-at card-of
   by-choice-is key refused absent side bucket =
-      let ns = numbers-of (2 ^ t .p) (t .k) h in
-      by-test (c .above) (λ a. rw (a, sym (of .above) ∙ a))
-      (λ a. let none = sym (of .above) ∙ a in
-      rw (
-        a,
-        of .least key,
-        none,
-        least-zero (counter clipped) (t .top) ns (let r = ranges t ok in omega arith),
-        all-cong (λ b. eqb (counter clipped b) (t .top)) (λ b. leb (t .top) (counter clipped b)) ns
-            (all-map (λ b q. not-above (t .top) (counter clipped b) q) ns (any-none (λ b. ltb (t .top) (counter clipped b)) ns none)),
-        least-top (counter clipped) (t .top) ns,
-      ))
+      rw (of .above, of .least key) (sym (by-least (card-at t h) (sound-at t ok h .top-some) (counter clipped) key refused absent side bucket))
 
   module _ (buckets side key : List ℕ) where
     pub place-by-is : place-by (card-of t) c buckets side ≡ place (card-at t h) clipped buckets side key

@@ -75,7 +75,9 @@ pub fn place_by(s: Settings, choice: KeyCounters, buckets: &[u8], side: &[u8]) -
     bucket_place(s, buckets, choice.bucket, side)
 }
 
-// "It reads all counters of the key, then" looks by what they say.
+// "It reads all counters of the key, then" looks by what they say: in the order of the listing SearchItem (source document 001; theory's Listing.antt).
+// Lines 1 and 5, the least counter and the smallest index that has it, by one comparison: `read_counters`. Then `place_by`: 5, line 2, a least of T; then the
+// bucket's mark. Lines 6 and 7 are the comparison of the records, by whoever asked for the place.
 pub fn find_place(s: Settings, h: u64, clipped: &[u8], buckets: &[u8], side: &[u8]) -> Place
     requires { ⌜ CheckedLookup (paper s) (now clipped) (now buckets) (now side) ⌝ }
     ensures { λ r. ⌜ ((key : List ℕ) → Looks (paper s) (now (buckets .entry)) (now (side .entry))

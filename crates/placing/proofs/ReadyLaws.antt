@@ -11,11 +11,10 @@ use Rattle.theory.specs.Lists.{has, least}
 use Rattle.theory.specs.Hash.{H, numbers-of, hashes}
 use Rattle.theory.specs.Settings as plain
 use Rattle.theory.specs.Settings.{allowed, card-of}
-use Rattle.theory.specs.Placing.{all-top, least-count, chosen}
-use Rattle.theory.proofs.ListLaws.{least-top}
+use Rattle.theory.specs.Placing.{all-top, chosen}
 use Rattle.theory.proofs.RankLaws.{any-numbers, rank, rank-least, rank-chosen}
 use Rattle.theory.proofs.SettingsLaws.{Sound, sound}
-use Rattle.theory.proofs.PlacingLaws.{chosen-below}
+use Rattle.theory.proofs.PlacingLaws.{all-top-least, chosen-below}
 use Rattle.settings.specs.declared.Settings.{Settings}
 use Rattle.settings.specs.Checked.{paper, card}
 use Rattle.settings.proofs.Laws.{width-is, top-is, bounds}
@@ -33,10 +32,6 @@ module _ (t : plain.Settings) (h : ℕ) (key : List ℕ) (e : h ≡ H key) where
   pub has-hashes : (m : ℕ) → m ≡ card-of t .buckets → (b : ℕ) → has b (hashes m h 0 (t .k)) ≡ has b (card-of t .numbers key)
   has-hashes m m-is b = rw (numbers-by, m-is) (sym (any-numbers (eqb b) (card-of t .buckets) (t .k) h))
 
-all-top-by : (t : plain.Settings) (c : ℕ → ℕ) (key : List ℕ) → eqb (least-count (card-of t) c key) (t .top) ≡ all-top (card-of t) c key
-unfolding all-top least-count card-of
-all-top-by t c key = sym (least-top c (t .top) (card-of t .numbers key))
-
 -- the least rank of a key's hashes tells whether its counts are all top or more, and the bucket that it chooses
 pub choice-by-rank : (t : plain.Settings) → allowed t ≡ true → (c : ℕ → ℕ) (m h best : ℕ) → m ≡ card-of t .buckets
     → best ≡ least (t .top * 65536 + m) (map (rank c) (hashes m h 0 (t .k))) → (key : List ℕ) → h ≡ H key
@@ -46,7 +41,7 @@ choice-by-rank t ok c m h best m-is is-least key e =
     let b = bounds t ok in
     let least-is : best ≡ least (s .top * 65536 + s .buckets) (map (rank c) (hashes (s .buckets) h 0 (t .k))) = is-least ∙ rw (m-is, top-is t) in
     let low = rank-least s c (t .k) h best (omega arith) (omega arith) least-is key (numbers-by t h key e) in
-    (rw low (all-top-by t c key), rank-chosen s c (t .k) h best (omega arith) (omega arith) least-is key (numbers-by t h key e))
+    (rw low (sym (all-top-least s c key ∙ rw (top-is t))), rank-chosen s c (t .k) h best (omega arith) (omega arith) least-is key (numbers-by t h key e))
 
 module _ (s : Settings) (t : List ℕ) (ready : Ready s t) where
   pub sound-card : Sound (card s)

@@ -14,6 +14,7 @@ pub mod OrderLaws
 pub mod CallLaws
 pub mod Demands
 pub mod LentLaws
+pub mod ListingLaws
 pub mod SnapshotLaws
 pub mod PacketLaws
 pub mod FlowrunLaws

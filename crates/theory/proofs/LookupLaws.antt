@@ -3,11 +3,11 @@ use mathlib.Core.Path.{_≡_, refl, ap, _∙_}
 use mathlib.Core.Bool.{Bool, true, false, cond}
 use mathlib.Core.List.{List, map}
 use mathlib.Core.Option.{Option, none, some}
-use Prim.Native.Nat.{ℕ, _≤_, zero-le}
+use Prim.Native.Nat.{ℕ, _≤_, _<_, zero-le}
 use native.Mathlib.Nat.{le-refl, le-trans}
 use native.Mathlib.Omega.{arith}
-use lib.Dec.{eqb, ltb}
-use borrow.Author.Tests.{le-ltb}
+use lib.Dec.{eqb, ltb, leb}
+use borrow.Author.Tests.{ltb-false, le-ltb, leb-true, leb-false, eq-eqb, ne-eqb}
 use lib.ListN.{length, getD}
 use Rattle.theory.specs.Lists.{any, all, least}
 use Rattle.theory.specs.Records.{Record, count-of, records, find, comparisons}
@@ -17,7 +17,7 @@ use Rattle.theory.specs.Layout.{places, counter-bytes, bucket-bytes, buc
 use Rattle.theory.specs.Lookup.{answer, part, counter, Place, invalid, nowhere, among, bucket-part, side-place, bucket-place, by-counters, reads-bucket}
 use Rattle.theory.specs.Lookup.{place, answer-at, part-at, search-areas, fetch-areas}
 use Rattle.theory.specs.Ledger.{Seen, unseen, seen, answer-seen, seen-by, search-by}
-use Rattle.theory.proofs.ListLaws.{either, by-test, All, all-map, any-cong, all-cong, filter-cong, map-cong}
+use Rattle.theory.proofs.ListLaws.{either, by-test, All, all-map, any-none, any-cong, all-cong, filter-cong, map-cong, least-zero, least-top}
 use Rattle.theory.proofs.ByteLaws.{Fit}
 use Rattle.theory.proofs.SettingsLaws.{Sound}
 use Rattle.theory.proofs.LayoutLaws.{read-places, read-place-bytes, read-count, after-count, read-counter, read-bucket, bucket-fits, bucket-fit}
@@ -29,7 +29,28 @@ either-if : {X : Type 0} {P : Type 0} (t : Bool) {a a′ b b′ : X} {u v : Bool
 either-if true f g h = f refl h
 either-if false f g h = g refl h
 
+-- a count that is not above T is T if it is at least T
+not-above : (top n : ℕ) → ltb top n ≡ false → eqb n top ≡ leb top n
+not-above top n e =
+    by-test (leb top n) (λ q. rw q (eq-eqb n top (omega (arith, ltb-false top n e, leb-true top n q)))) (λ q. rw q (ne-eqb n top (omega (arith, leb-false top n q))))
+
 module _ (s : Card) where
+  -- ---- with no counter above T, the least tells whether one is zero and whether all are T
+  pub by-least : 0 < s .top → {X : Type 0} (c : ℕ → ℕ) (k : List ℕ) (refused absent side bucket : X)
+      → by-counters s c k refused absent side bucket
+      ≡ cond (any (λ b. ltb (s .top) (c b)) (s .numbers k)) refused
+      (cond (eqb (least-count s c k) 0) absent (cond (eqb (least-count s c k) (s .top)) side bucket))
+  unfolding by-counters least-count
+  by-least one c k refused absent side bucket =
+      let ns = s .numbers k in
+      by-test (any (λ b. ltb (s .top) (c b)) ns) (λ e. rw e)
+      (λ e. rw (
+        e,
+        least-zero c (s .top) ns one,
+        all-cong (λ b. eqb (c b) (s .top)) (λ b. leb (s .top) (c b)) ns (all-map (λ b. not-above (s .top) (c b)) ns (any-none (λ b. ltb (s .top) (c b)) ns e)),
+        least-top c (s .top) ns,
+      ))
+
   -- ---- only the key's own counters matter
   pub chosen-cong : (f g : ℕ → ℕ) (k : List ℕ) → All (λ b. f b ≡ g b) (s .numbers k) → chosen s f k ≡ chosen s g k
   unfolding chosen least-count

@@ -17,10 +17,10 @@ use Rattle.theory.specs.Placing.{clip, true-count, all-top, least-count,
 use Rattle.theory.specs.Placing.{side-records}
 use Rattle.theory.specs.Ledger.{Seen, unseen, seen, seen-by}
 use Rattle.theory.proofs.ListLaws.{by-test, All, all-every, all-map, all-cong, filter-cong, any-false, filter-first, filter-grows, all-has, least-clip}
-use Rattle.theory.proofs.ListLaws.{least-lt, attained, least-filter}
+use Rattle.theory.proofs.ListLaws.{least-top, least-lt, attained, least-filter}
 use Rattle.theory.proofs.SettingsLaws.{Sound}
 
--- ---- tests of a clipped number-after
+-- ---- tests of a clipped number
 clip-eq : (n t m : ℕ) → m < t → eqb (min n t) m ≡ eqb n m
 clip-eq n t m h = go (eqb n m) refl
   where
@@ -34,6 +34,11 @@ clip-top n t = go (leb t n) refl
     go : (b : Bool) → leb t n ≡ b → eqb (min n t) t ≡ b
     go true e = eq-eqb (min n t) t (omega (arith, leb-true t n e))
     go false e = ne-eqb (min n t) t (omega (arith, leb-false t n e))
+
+-- all counts of a key are T or more just where the least is T
+pub all-top-least : (s : Card) (c : ℕ → ℕ) (k : List ℕ) → all-top s c k ≡ eqb (least-count s c k) (s .top)
+unfolding all-top least-count
+all-top-least s c k = least-top c (s .top) (s .numbers k)
 
 -- equal keys
 pub same-key-eq : (a b : List ℕ) → same-key a b ≡ true → a ≡ b

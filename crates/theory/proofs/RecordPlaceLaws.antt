@@ -6,20 +6,21 @@ use mathlib.Core.Option.{Option, none, some}
 use Prim.Native.Nat.{ℕ, zero, suc, _+_, _-_, _*_, _≤_, _<_, zero-le, max}
 use native.Mathlib.Nat.{mul-comm, suc-mul, mul-le-mul-right, le-max-left, le-max-right}
 use native.Mathlib.Omega.{arith}
-use lib.Dec.{eqb, ltb, leb}
-use borrow.Author.Tests.{eq-eqb, ne-eqb, ltb-false, leb-true, leb-false}
+use lib.Dec.{eqb, ltb}
+use borrow.Author.Tests.{eq-eqb, ne-eqb, ltb-false}
 use lib.ListN.{length, take, drop, getD}
 use lib.Seq.{take-take, drop-drop}
 use Rattle.theory.specs.Lists.{any, all}
 use Rattle.theory.specs.Records.{Record, record-at, entries, records, count-of, same-key, find, comparisons, find-bytes}
 use Rattle.theory.specs.Settings.{Card, record-size, bucket-size, buckets-length, side-length}
-use Rattle.theory.specs.Placing.{all-top, chosen}
+use Rattle.theory.specs.Placing.{all-top, least-count, chosen}
 use Rattle.theory.specs.Lookup.{Answer, answer, counter, Place, invalid, nowhere, among, no-place, bucket-part, side-place, bucket-place, by-counters}
 use Rattle.theory.specs.Lookup.{reads-bucket, goes-to-bucket, place, answer-at, part-at, search-areas, fetch-areas, record-place}
-use Rattle.theory.proofs.ListLaws.{by-test, and-left, all-map, all-cong, any-none}
+use Rattle.theory.proofs.ListLaws.{by-test, and-left}
 use Rattle.theory.proofs.ByteLaws.{length-records}
 use Rattle.theory.proofs.SettingsLaws.{Sound}
-use Rattle.theory.proofs.PlacingLaws.{chosen-below}
+use Rattle.theory.proofs.PlacingLaws.{all-top-least, chosen-below}
+use Rattle.theory.proofs.LookupLaws.{by-least}
 
 -- a part of a part
 part-of-part : (size at len : ℕ) (l : List ℕ) → at + size ≤ len → take size (drop at (take len l)) ≡ take size (drop at l)
@@ -32,12 +33,6 @@ part-of-part size (suc at) (suc len) (x ∷ xs) h = part-of-part size at len xs 
 pub one-back : (n z : ℕ) → 0 < n → n * z ≡ (n - 1) * z + z
 one-back zero z h = absurd (omega arith)
 one-back (suc n) z h = let e : suc n - 1 ≡ n = omega arith in rw e (omega arith)
-
--- a count that is not above T is T if it is at least T
-pub not-above : (top n : ℕ) → ltb top n ≡ false → eqb n top ≡ leb top n
-not-above top n e =
-    by-test (leb top n) (λ q. rw q (eq-eqb n top (omega (arith, ltb-false top n e, leb-true top n q))))
-    (λ q. rw q (ne-eqb n top (omega (arith, leb-false top n q))))
 
 -- ---- the key's record among records: as many are compared as stand up to it
 module _ (k : List ℕ) where
@@ -203,15 +198,18 @@ module _ (s : Card) (clipped buckets side k : List ℕ) where
   -- ---- held: the record lies inside its area
   module _ (ok : Sound s) where
     not-top : reads-bucket s clipped k ≡ true → all-top s (counter clipped) k ≡ false
-    unfolding reads-bucket by-counters all-top
+    unfolding reads-bucket
     not-top h =
-        let ns = s .numbers k in
         let c = counter clipped in
-        by-test (any (λ b. ltb (s .top) (c b)) ns) (λ e. absurd (false≢true (rw e at h)))
-        (λ e. by-test (any (λ b. eqb (c b) 0) ns) (λ z. absurd (false≢true (rw (e, z) at h)))
-        (λ z. by-test (all (λ b. eqb (c b) (s .top)) ns) (λ f. absurd (false≢true (rw (e, z, f) at h)))
-        (λ f. sym (all-cong (λ b. eqb (c b) (s .top)) (λ b. leb (s .top) (c b)) ns
-        (all-map (λ b q. not-above (s .top) (c b) q) ns (any-none (λ b. ltb (s .top) (c b)) ns e))) ∙ f)))
+        all-top-least s c k
+        ∙ last-test (any (λ b. ltb (s .top) (c b)) (s .numbers k)) (eqb (least-count s c k) 0) (eqb (least-count s c k) (s .top))
+        (sym (by-least s (ok .top-some) c k false false false true) ∙ h)
+      where
+        last-test : (x y z : Bool) → cond x false (cond y false (cond z false true)) ≡ true → z ≡ false
+        last-test true x y e = absurd (false≢true e)
+        last-test false true y e = absurd (false≢true e)
+        last-test false false true e = absurd (false≢true e)
+        last-test false false false e = refl
 
     bucket-there : in-bucket ≡ true → b < s .buckets
     unfolding goes-to-bucket

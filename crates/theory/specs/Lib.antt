@@ -10,6 +10,7 @@ pub mod Fill
 pub mod Window
 pub mod Calls
 pub mod CallAreas
+pub mod Listing
 pub mod Snapshot
 pub mod Packet
 pub mod Fragments
