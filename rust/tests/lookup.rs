@@ -1,10 +1,12 @@
-//! Both search doors and tally against the model: on layouts that the model makes, on damaged areas, on wrong lengths and settings.
+//! Both search doors and tally against the model: on layouts that the model makes, on damaged areas, on wrong lengths and settings. The listing of
+//! source document 001 is compared with them in every search: the doors' number, and the model's whole answer.
 
 use flow::{doors, HashTable, LookupAreas, Refusal, Settings, Store, Tally};
 use model::card::Card;
 use model::hash::KEY_BYTES;
 use model::layout::{layout, Areas};
 use model::ledger::Ledger;
+use model::listing::{self, Counter};
 use model::lookup::{self as paper, Answer, Lookup, Part, Place};
 use model::records::{Key, Record, RECORD_BYTES};
 use model::settings::{Settings as Model, LIMITS};
@@ -15,7 +17,7 @@ use testing::made::{
 use testing::random::Random;
 use testing::seen::{Halves, Seen};
 
-// Searches of each test, each through both doors.
+// Searches of each test, each through both doors and by the listing.
 const ON_LAYOUTS: u64 = 400_000;
 const ON_LARGE_LAYOUTS: u64 = 100_000;
 const ON_DAMAGED_AREAS: u64 = 700_000;
@@ -31,6 +33,7 @@ struct Doors {
     table: HashTable,
     seen: Seen,
     places: Seen,
+    cases: Seen,
 }
 
 impl Doors {
@@ -39,10 +42,11 @@ impl Doors {
             table: HashTable::new(),
             seen: Seen::default(),
             places: Seen::default(),
+            cases: Seen::default(),
         }
     }
 
-    // A search through both doors, and through the one that gives the record's place; they agree with the model.
+    // A search through both doors, by the listing, and through the door that gives the record's place; they agree with the model.
     fn search(&mut self, card: &Card, areas: Lookup, key: &[u8]) -> Answer {
         let expected = paper::search(card, areas, key);
         let numbers = card.settings.numbers();
@@ -59,7 +63,15 @@ impl Doors {
             "{:?} {key:?}",
             card.settings
         );
+        let listed = listing::search_item(card, areas, key);
+        assert_eq!(
+            (listed.door(), listed),
+            (whole, expected),
+            "the listing: {:?} {key:?}",
+            card.settings
+        );
         self.seen.note("search", expected.number);
+        note_cases(&mut self.cases, card, areas, key, expected.number);
         self.search_place(card, areas, key, 2);
         expected
     }
@@ -126,6 +138,105 @@ impl Doors {
         }
         self.seen.note("tally", answer);
         expected
+    }
+}
+
+// What a search not refused at once meets on its way through the listing: one of seven cases, and perhaps repeated hashes or a tie.
+fn note_cases(cases: &mut Seen, card: &Card, areas: Lookup, key: &[u8], answer: u32) {
+    if [1, 2, 3].contains(&answer) {
+        return;
+    }
+    let Model { b, t, .. } = card.settings;
+    let counters = listing::counters(card, areas, key.try_into().unwrap());
+    let first_with = |i: u64| counters.iter().position(|counter| counter.i == i);
+    if (0..counters.len()).any(|j| first_with(counters[j].i) != Some(j)) {
+        cases.note("repeated hashes", answer);
+    }
+    let c_min = least(&counters);
+    let above = counters.iter().any(|counter| counter.c > t);
+    if above || c_min == 0 || c_min == t {
+        let case = match c_min {
+            0 if above => "a counter above T, another zero",
+            _ if above => "a counter above T, none zero",
+            0 => "a least of zero",
+            _ => "a least of T",
+        };
+        cases.note(case, answer);
+        return;
+    }
+    let i = listing::smallest_index_of(c_min, &counters);
+    match u64::from(areas.buckets[i as usize * card.bucket_bytes()]) {
+        255 => cases.note("mark 255", answer),
+        mark if mark > b => cases.note("mark above B", answer),
+        _ => cases.note("mark of at most B", answer),
+    }
+    let mut least = counters.iter().filter(|counter| counter.c == c_min);
+    let first = least.next().unwrap().i;
+    if first > i {
+        cases.note("tie, the smallest index not first", answer);
+    } else if least.any(|counter| counter.i > i) {
+        cases.note("tie, the smallest index first", answer);
+    }
+}
+
+// The cases that layouts have, with their answers.
+const CASES_ON_LAYOUTS: [(&str, &[u32]); 6] = [
+    ("repeated hashes", &[0, 100]),
+    ("a least of zero", &[100]),
+    ("a least of T", &[0, 100]),
+    ("mark 255", &[0, 100]),
+    ("mark of at most B", &[0, 100]),
+    ("tie, the smallest index not first", &[0, 100]),
+];
+
+// Those that areas with any contents have. 5 for a least of T or a mark 255 is a side count above S.
+const CASES: [(&str, &[u32]); 9] = [
+    ("repeated hashes", &[0, 100, 5]),
+    ("a counter above T, another zero", &[5]),
+    ("a counter above T, none zero", &[5]),
+    ("a least of zero", &[100]),
+    ("a least of T", &[0, 100, 5]),
+    ("mark 255", &[0, 100, 5]),
+    ("mark above B", &[5]),
+    ("mark of at most B", &[0, 100]),
+    ("tie, the smallest index not first", &[0, 100, 5]),
+];
+
+fn least(counters: &[Counter]) -> u64 {
+    counters.iter().map(|counter| counter.c).min().unwrap()
+}
+
+// Figure 2 and section 2.1.1 of source document 001, as far as the text has their numbers, with the hashes in every order.
+#[test]
+fn published_choices() {
+    let chosen = |item: [(u64, u64); 3]| {
+        let orders = [
+            [0, 1, 2],
+            [0, 2, 1],
+            [1, 0, 2],
+            [1, 2, 0],
+            [2, 0, 1],
+            [2, 1, 0],
+        ];
+        let by_order = orders.map(|order| {
+            let counters = order.map(|j| item[j]).map(|(i, c)| Counter { i, c });
+            listing::smallest_index_of(least(&counters), &counters)
+        });
+        assert_eq!(by_order, [by_order[0]; 6], "{item:?}");
+        by_order[0]
+    };
+    // "the item y maps to the lists {X^3, X^6, X^11} with counter values {3, 2, 1}"; "we need to access only the list X^11"
+    assert_eq!(chosen([(3, 3), (6, 2), (11, 1)]), 11);
+    // a new item shares bucket 11, whose counter becomes 2: "the minimum counter value bucket with smallest index associated with y is no longer the 11 but
+    // now it is 6"
+    assert_eq!(chosen([(3, 3), (6, 2), (11, 2)]), 6);
+    // "item x has two bucket counters set to 2, which is also the smallest value. In this case, we always access the bucket X^1": the text does not have
+    // the other two buckets of x, nor its third counter
+    for second in 2..=16 {
+        for third in (2..=16).filter(|&third| third != second) {
+            assert_eq!(chosen([(1, 2), (second, 2), (third, 3)]), 1);
+            assert_eq!(chosen([(1, 2), (second, 2), (third, 4)]), 1);
+        }
     }
 }
 
@@ -214,6 +325,9 @@ fn searches_on_layouts() {
     doors
         .places
         .report("records' places on layouts", &[("place", &[0, 100])]);
+    doors
+        .cases
+        .report("cases of the listing on layouts", &CASES_ON_LAYOUTS);
     println!(
         "{tables} tables, {clipped_below_true} counters clipped below the true count, {places:?}"
     );
@@ -242,6 +356,9 @@ fn searches_on_large_layouts() {
     doors
         .seen
         .report("searches on large layouts", &[("search", &[0, 100])]);
+    doors
+        .cases
+        .report("cases of the listing on large layouts", &[]);
     println!("at most {largest} flows, {places:?}");
     assert_eq!(largest, 4000);
 }
@@ -277,6 +394,9 @@ fn searches_on_damaged_areas() {
         "records' places on damaged areas",
         &[("place", &[0, 100, 5])],
     );
+    doors
+        .cases
+        .report("cases of the listing on damaged areas", &CASES);
     println!("held: {held_of_buckets} out of the buckets, {held_of_side} out of the side store");
     assert!(held_of_buckets > 0 && held_of_side > 0);
 }
@@ -429,6 +549,13 @@ fn lent_table_of_any_contents() {
             );
             let expected = paper::search(&by_table, areas.lookup(), &record.key);
             assert_eq!(answer, expected.door());
+            let listed = listing::search_item(&by_table, areas.lookup(), &record.key);
+            assert_eq!(
+                (listed.door(), listed),
+                (answer, expected),
+                "the listing: {numbers:?} {:?}",
+                record.key
+            );
             seen.note("search", expected.number);
         }
     }

@@ -26,13 +26,24 @@ impl Card {
         }
     }
 
-    /// A key's bucket numbers.
-    pub fn numbers(&self, key: &Key) -> Vec<u64> {
-        let h = match &self.other_table {
+    fn h(&self, key: &Key) -> u64 {
+        match &self.other_table {
             None => hash::h_by_table(key),
             Some(table) => hash::h_by(table, key),
-        };
-        hash::bucket_numbers(&self.settings, h)
+        }
+    }
+
+    /// A key's first k hashes.
+    pub fn hashes(&self, key: &Key) -> Vec<u64> {
+        let h = self.h(key);
+        (0..self.settings.k as u32)
+            .map(|j| hash::hash_j(&self.settings, h, j))
+            .collect()
+    }
+
+    /// A key's bucket numbers: those hashes, repeats dropped.
+    pub fn numbers(&self, key: &Key) -> Vec<u64> {
+        hash::bucket_numbers(&self.settings, self.h(key))
     }
 
     /// The bytes of one bucket: a mark, then B places.
