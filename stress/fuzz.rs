@@ -1,5 +1,6 @@
 //! The fuzzer's target: bytes are taken as settings, areas and a list of calls of every door. Each answer and every area, a window's too, is
-//! compared with the model's. A difference aborts, which the fuzzer reports with the bytes that led there.
+//! compared with the model's, and the model's two searches with each other. A difference aborts, which the fuzzer reports with the bytes that led
+//! there.
 
 use flow::{doors, Generator, HashTable};
 use model::bench_load;
@@ -8,6 +9,7 @@ use model::card::Card;
 use model::hash::{self, KEY_BYTES};
 use model::layout::Areas;
 use model::ledger::{list_of, valid};
+use model::listing;
 use model::lookup as paper;
 use model::packet::packet_key_into;
 use model::records::{Key, RECORD_BYTES};
@@ -246,10 +248,15 @@ impl Trial {
             side,
         } = self.areas.lookup();
         let table = self.hash_table.entries();
-        let by_paper = paper::search(&self.card, self.areas.lookup(), &key).door();
+        let by_paper = paper::search(&self.card, self.areas.lookup(), &key);
+        let listed = listing::search_item(&self.card, self.areas.lookup(), &key);
         let whole = doors::search(numbers, clipped, buckets, side, &key);
         let lent = doors::search_lent(table, numbers, clipped, buckets, side, &key);
-        assert_eq!((whole, lent), (by_paper, by_paper), "{numbers:?}, {key:?}");
+        assert_eq!(
+            (whole, lent, listed),
+            (by_paper.door(), by_paper.door(), by_paper),
+            "{numbers:?}, {key:?}"
+        );
         note("search", (whole >> 32) as u32);
     }
 
