@@ -358,7 +358,7 @@ fn searches_on_large_layouts() {
         .report("searches on large layouts", &[("search", &[0, 100])]);
     doors
         .cases
-        .report("cases of the listing on large layouts", &[]);
+        .report("cases of the listing on large layouts", &CASES_ON_LAYOUTS);
     println!("at most {largest} flows, {places:?}");
     assert_eq!(largest, 4000);
 }

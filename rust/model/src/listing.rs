@@ -55,12 +55,12 @@ pub fn search_item(card: &Card, areas: Lookup, key: &[u8]) -> Answer {
         return FALSE;
     }
     // 4. else
+    // 5. i = SmallestIndexOf(C_min)
+    let i = smallest_index_of(c_min, &counters);
     // Added: a least of T goes to the side store (document 02, U6), and no bucket is read.
     if c_min == card.settings.t {
         return is_in_side_store(&x, card, areas, 0);
     }
-    // 5. i = SmallestIndexOf(C_min)
-    let i = smallest_index_of(c_min, &counters);
     let bucket = &areas.buckets[i as usize * card.bucket_bytes()..];
     let mark = u64::from(bucket[0]);
     // Added: a mark 255 goes to the side store (document 02, U6), and one bucket is read.
