@@ -32,7 +32,8 @@ either-if false f g h = g refl h
 -- a count that is not above T is T if it is at least T
 not-above : (top n : ℕ) → ltb top n ≡ false → eqb n top ≡ leb top n
 not-above top n e =
-    by-test (leb top n) (λ q. rw q (eq-eqb n top (omega (arith, ltb-false top n e, leb-true top n q)))) (λ q. rw q (ne-eqb n top (omega (arith, leb-false top n q))))
+    by-test (leb top n) (λ q. rw q (eq-eqb n top (omega (arith, ltb-false top n e, leb-true top n q))))
+    (λ q. rw q (ne-eqb n top (omega (arith, leb-false top n q))))
 
 module _ (s : Card) where
   -- ---- with no counter above T, the least tells whether one is zero and whether all are T

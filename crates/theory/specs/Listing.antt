@@ -1,5 +1,5 @@
--- Document 02, U6: search in the order of the published listing, over the lookup areas with any contents. The listing is SearchItem of the Basic Fast Hash Table
--- (source document 001, section 2.1):
+-- Document 02, U6: search in the order of the published listing, over the lookup areas with any contents. The listing is SearchItem of the Basic Fast Hash
+-- Table (source document 001, section 2.1):
 --
 --   1. C_min = min{C_h1(x), .., C_hk(x)}
 --   2. if (C_min == 0)
@@ -9,7 +9,8 @@
 --   6.   if (x ∈ X^i) return true
 --   7.   else return false
 --
--- Of Lookup.antt it takes what an answer, a counter and a bucket's part are, and nothing of how search is defined there.
+-- x is the key, C the clipped counts, X^i the records of bucket i. Of Lookup.antt the definition takes what an answer, a counter and a bucket's part are, and
+-- nothing of how search is defined there.
 use mathlib.Core.Path.{_≡_}
 use mathlib.Core.Bool.{Bool, cond, not}
 use mathlib.Core.List.{List, map}
@@ -34,7 +35,8 @@ module _ (s : Card) (clipped buckets side x : List ℕ) where
   unfoldable pub smallest-index : ℕ → ℕ
   smallest-index c-min = least (s .buckets) (filter (λ b. eqb (counter clipped b) c-min) (s .numbers x))
 
-  -- lines 6 and 7, "comparing it with each item in the list": from the first up to the equal one or the last, with so many buckets read, and 1 for the side store
+  -- lines 6 and 7, "comparing it with each item in the list of items": from the first up to the equal one or the last; with so many buckets read, and 1 where
+  -- the items are the side store's
   unfoldable pub member : List Record → ℕ → ℕ → Answer
   member items read side-compared = answer (find x items) read (comparisons x items) side-compared
 
