@@ -9,9 +9,9 @@ use Rattle.theory.specs.Lists.{any}
 use Rattle.theory.specs.Records.{count-of}
 use Rattle.theory.specs.Settings.{allowed, Card, card-of}
 use Rattle.theory.specs.Placing.{least-count, chosen}
-use Rattle.theory.specs.Lookup.{counter, bucket-part, side-place, bucket-place, place, answer-at, search-areas}
-use Rattle.theory.specs.Listing.{least-counter, smallest-index, member, refused-where, counter-above, mark-of, member-of-bucket, member-of-side}
-use Rattle.theory.specs.Listing.{search-item, Listed, SearchInOrder}
+use Rattle.theory.specs.Lookup.{bare, counter, bucket-part, side-place, bucket-place, place, answer-at, search-areas}
+use Rattle.theory.specs.Listing.{least-counter, smallest-index, mark-of, items, member, refused-where, counter-above, member-of-side, search-item}
+use Rattle.theory.specs.Listing.{Listed, SearchInOrder}
 use Rattle.theory.proofs.ListLaws.{by-test}
 use Rattle.theory.proofs.SettingsLaws.{sound}
 use Rattle.theory.proofs.LookupLaws.{by-least}
@@ -24,9 +24,10 @@ module _ (s : Card) (clipped buckets side x : List ℕ) where
   in-side read = by-test (ltb (s .side-places) (count-of side)) (λ e. rw e) (λ e. rw e)
 
   in-bucket : (i : ℕ)
-      → cond (eqb (mark-of s clipped buckets side x i) 255) (member-of-side s clipped buckets side x 1) (member-of-bucket s clipped buckets side x i)
+      → cond (eqb (mark-of s clipped buckets side x i) 255) (member-of-side s clipped buckets side x 1)
+      (cond (ltb (s .room) (mark-of s clipped buckets side x i)) (bare 5) (member s clipped buckets side x (items s clipped buckets side x i) 1 0))
       ≡ answer-at s x (bucket-place s (bucket-part s buckets i) side)
-  unfolding member-of-bucket member mark-of refused-where bucket-place answer-at
+  unfolding mark-of items member bucket-place answer-at
   in-bucket i =
       let mark = getD (bucket-part s buckets i) 0 0 in
       by-test (eqb mark 255) (λ e. rw e (in-side 1)) (λ e. rw e (by-test (ltb (s .room) mark) (λ f. rw f) (λ f. rw f)))

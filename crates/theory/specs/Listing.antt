@@ -35,10 +35,17 @@ module _ (s : Card) (clipped buckets side x : List ℕ) where
   unfoldable pub smallest-index : ℕ → ℕ
   smallest-index c-min = least (s .buckets) (filter (λ b. eqb (counter clipped b) c-min) (s .numbers x))
 
+  -- line 6, X^i: so many records as the mark of bucket i says
+  unfoldable pub mark-of : ℕ → ℕ
+  mark-of i = getD (bucket-part s buckets i) 0 0
+
+  unfoldable pub items : ℕ → List Record
+  items i = records (s .width) (mark-of i) (drop 1 (bucket-part s buckets i))
+
   -- lines 6 and 7, "comparing it with each item in the list of items": from the first up to the equal one or the last; with so many buckets read, and 1 where
   -- the items are the side store's
   unfoldable pub member : List Record → ℕ → ℕ → Answer
-  member items read side-compared = answer (find x items) read (comparisons x items) side-compared
+  member list read side-compared = answer (find x list) read (comparisons x list) side-compared
 
   -- ---- ADDED to the listing: "5, in what a search .. reads, a clipped count above T, a mark above B other than 255, a side count above S" (document 01)
   unfoldable pub refused-where : Bool → Answer → Answer
@@ -47,14 +54,7 @@ module _ (s : Card) (clipped buckets side x : List ℕ) where
   unfoldable pub counter-above : Bool
   counter-above = any (λ b. ltb (s .top) (counter clipped b)) (s .numbers x)
 
-  -- membership in bucket i, of so many records as its mark says
-  unfoldable pub mark-of : ℕ → ℕ
-  mark-of i = getD (bucket-part s buckets i) 0 0
-
-  unfoldable pub member-of-bucket : ℕ → Answer
-  member-of-bucket i = refused-where (ltb (s .room) (mark-of i)) (member (records (s .width) (mark-of i) (drop 1 (bucket-part s buckets i))) 1 0)
-
-  -- membership in the side store, with so many buckets read before
+  -- membership in the side store, with so many buckets read before: "a least of T or a mark 255 goes to the side store" (document 02)
   unfoldable pub member-of-side : ℕ → Answer
   member-of-side read = refused-where (ltb (s .side-places) (count-of side)) (member (records (s .width) (count-of side) (drop 2 side)) read 1)
 
@@ -63,7 +63,7 @@ module _ (s : Card) (clipped buckets side x : List ℕ) where
   search-item =
       -- 1. C_min = min{C_h1(x), .., C_hk(x)}
       let c-min = least-counter in
-      -- added
+      -- added: 5
       refused-where counter-above
       -- 2. if (C_min == 0)
       (cond (eqb c-min 0)
@@ -72,12 +72,14 @@ module _ (s : Card) (clipped buckets side x : List ℕ) where
       -- 4. else
       -- 5.   i = SmallestIndexOf(C_min)
       (let i = smallest-index c-min in
-      -- added (document 02): a least of T goes to the side store, and so does a mark 255
+      -- added: the side store
       cond (eqb c-min (s .top)) (member-of-side 0)
       (cond (eqb (mark-of i) 255) (member-of-side 1)
+      -- added: 5
+      (refused-where (ltb (s .room) (mark-of i))
       -- 6.   if (x ∈ X^i) return true
       -- 7.   else return false
-      (member-of-bucket i))))
+      (member (items i) 1 0)))))
 
 -- ---- WHAT IS CLAIMED. The laws of these names are in proofs/ListingLaws.antt
 -- listed: on every card whose T is at least 1, so on every card of allowed settings, and on every contents, the listing's whole answer is search's
