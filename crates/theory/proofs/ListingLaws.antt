@@ -1,5 +1,5 @@
 -- Laws of search in the order of the published listing: its answer is search's. By the counters alone that is `by-least`; the rest is a walk through the tests.
-use mathlib.Core.Path.{_≡_}
+use mathlib.Core.Path.{_≡_, refl}
 use mathlib.Core.Bool.{cond}
 use mathlib.Core.List.{List}
 use Prim.Native.Nat.{ℕ}
@@ -10,12 +10,13 @@ use Rattle.theory.specs.Records.{count-of}
 use Rattle.theory.specs.Settings.{allowed, Card, card-of}
 use Rattle.theory.specs.Placing.{least-count, chosen}
 use Rattle.theory.specs.Lookup.{bare, counter, bucket-part, side-place, bucket-place, place, answer-at, search-areas}
+use Rattle.theory.specs.Ledger.{search}
 use Rattle.theory.specs.Listing.{least-counter, smallest-index, mark-of, items, member, refused-where, counter-above, member-of-side, search-item}
 use Rattle.theory.specs.Listing.{Listed, SearchInOrder}
 use Rattle.theory.proofs.ListLaws.{by-test}
 use Rattle.theory.proofs.SettingsLaws.{sound}
 use Rattle.theory.proofs.LookupLaws.{by-least}
-use Rattle.theory.proofs.Demands.{search-reply}
+use Rattle.theory.proofs.Demands.{search-reply, reads-keep}
 
 module _ (s : Card) (clipped buckets side x : List ℕ) where
   -- membership in the side store, and in bucket i
@@ -44,5 +45,5 @@ listed s one clipped buckets side x =
 
 pub search-in-order : SearchInOrder
 search-in-order t w x a =
-    rw (search-reply t w x a)
+    rw (search-reply t w x a, reads-keep t w (search x) a refl)
     (by-test (allowed t) (λ e. rw (e, listed (card-of t) (sound t e .top-some) (a .clipped-counts) (a .buckets) (a .side-store) x)) (λ e. rw e))

@@ -63,7 +63,7 @@ module _ (s : Card) (clipped buckets side x : List ℕ) where
   search-item =
       -- 1. C_min = min{C_h1(x), .., C_hk(x)}
       let c-min = least-counter in
-      -- added: 5
+      -- added: a counter of the key above T is 5
       refused-where counter-above
       -- 2. if (C_min == 0)
       (cond (eqb c-min 0)
@@ -72,10 +72,10 @@ module _ (s : Card) (clipped buckets side x : List ℕ) where
       -- 4. else
       -- 5.   i = SmallestIndexOf(C_min)
       (let i = smallest-index c-min in
-      -- added: the side store
+      -- added: a least of T or a mark 255 goes to the side store
       cond (eqb c-min (s .top)) (member-of-side 0)
       (cond (eqb (mark-of i) 255) (member-of-side 1)
-      -- added: 5
+      -- added: another mark above B is 5
       (refused-where (ltb (s .room) (mark-of i))
       -- 6.   if (x ∈ X^i) return true
       -- 7.   else return false
@@ -86,12 +86,15 @@ module _ (s : Card) (clipped buckets side x : List ℕ) where
 abbrev pub Listed : Type 0
 Listed = (s : Card) → 0 < s .top → (clipped buckets side x : List ℕ) → search-item s clipped buckets side x ≡ search-areas s clipped buckets side x
 
--- search-in-order: the search call is, on every input, 1, 2, 3 and then the listing
+-- search-in-order: the search call is, on every input, 1, 2, 3 and then the listing, with the areas as they were
 abbrev pub SearchInOrder : Type 0
 SearchInOrder =
     (t : Settings) (w : ℕ) (x : List ℕ) (a : Areas)
-    → perform t w (search x) a .reply
-    ≡ answered
-    (cond (not (allowed t)) (bare 1)
-    (cond (not (all (λ ok. ok) (lookup-lengths (card-of t) a))) (bare 2)
-    (cond (key-wrong (card-of t) x) (bare 3) (search-item (card-of t) (a .clipped-counts) (a .buckets) (a .side-store) x))))
+    → perform t w (search x) a
+    ≡ record {
+      reply = answered
+          (cond (not (allowed t)) (bare 1)
+          (cond (not (all (λ ok. ok) (lookup-lengths (card-of t) a))) (bare 2)
+          (cond (key-wrong (card-of t) x) (bare 3) (search-item (card-of t) (a .clipped-counts) (a .buckets) (a .side-store) x))));
+      state = a;
+    }
