@@ -13,7 +13,7 @@ use lib.ListN.{length, getD, length-append}
 use lib.Seq.{take-at, drop-at, take-all}
 use Rattle.theory.specs.Lists.{flat}
 use Rattle.theory.specs.Records.{Record, to-bytes, of-bytes, record-bytes}
-use Rattle.theory.specs.Settings.{in-range}
+use Rattle.theory.specs.Settings.{ipv4-width, in-range}
 use Rattle.theory.specs.Flowrun.{letter-call, call-in, call-count, header, output, plain-lines, plain-output}
 use Rattle.theory.specs.BenchLoad.{Generator, Drawn, draw, after-call, load-class, call-letter, load-key, load-call, call-bytes}
 use Rattle.theory.specs.BenchLoad.{draws, load-calls, load-bytes, after-calls, BenchLoad, load-in, load-wrong, load-asked}
@@ -26,7 +26,7 @@ use Rattle.theory.proofs.FlowrunLaws.{output-plain}
 
 -- ---- one call
 module _ (flows : ℕ) (d : Drawn) where
-  pub length-load-key : length (load-key flows d) ≡ 13
+  pub length-load-key : length (load-key flows d) ≡ ipv4-width
   unfolding load-key
   length-load-key = rw (length-append, length-to-bytes)
 
@@ -55,7 +55,7 @@ module _ (flows : ℕ) (d : Drawn) where
   call-read =
       let key = load-key flows d in
       let class = to-bytes 4 (load-class d) in
-      rw (length-append, length-load-key, length-to-bytes, take-at key class 13 length-load-key, drop-at key class 13 length-load-key)
+      rw (length-append, length-load-key, length-to-bytes, take-at key class ipv4-width length-load-key, drop-at key class ipv4-width length-load-key)
       (rw (take-all 4 class (rw length-to-bytes (omega arith)), class-read) letter-read)
 
   -- its bytes are bytes

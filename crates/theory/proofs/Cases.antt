@@ -7,12 +7,12 @@ use Prim.Native.Nat.{ℕ}
 use lib.ListN.{length, getD, replicate}
 use Rattle.theory.specs.Lists.{all, All, flat, upto, fresh}
 use Rattle.theory.specs.Hash.{if-set, rows-of, H-from, H, hash, numbers-of}
-use Rattle.theory.specs.Settings.{Settings, Card, card-of}
+use Rattle.theory.specs.Settings.{Settings, ipv4-width, ipv6-width, Card, card-of}
 use Rattle.theory.specs.Records.{Record, to-bytes, record-bytes, same-key}
 use Rattle.theory.specs.Placing.{true-count, clip, all-top, least-count, chosen, chooses, choosers, crowded, belongs-to-side, side-records, side-need}
 use Rattle.theory.specs.Layout.{counter-bytes}
 use Rattle.theory.specs.Ledger.{remove, held, without, fill-of, key-wrong, side-need-of, side-short, next, refusal}
-use Rattle.theory.specs.Snapshot.{section, snapshot}
+use Rattle.theory.specs.Snapshot.{section, first-count, snapshot}
 use Rattle.theory.proofs.ListLaws.{all-each, all-map}
 use Rattle.theory.proofs.PlacingLaws.{same-key-eq}
 
@@ -74,16 +74,23 @@ need : ℕ → ℕ → List ℕ → ℕ
 need room top ks = side-need-of (card-with room top 8) (flows ks)
 
 zero-key : List ℕ
-zero-key = replicate 13 0
+zero-key = replicate ipv4-width 0
+
+-- the zero key of 37 bytes (document 02, U7)
+zero-key6 : List ℕ
+zero-key6 = replicate ipv6-width 0
 
 -- how many bucket numbers the zero key has under p and k, and which
 zero-key-numbers : ℕ → ℕ → List ℕ
 zero-key-numbers p k =
-    let l = card-of (record { p = p; k = k; room = 2; top = 4; capacity = 128; side-places = 8 }) .numbers zero-key in length l ∷ l
+    let l = card-of (record { p = p; k = k; room = 2; top = 4; capacity = 128; side-places = 8; width = ipv4-width }) .numbers zero-key in length l ∷ l
 
 -- the settings of the snapshot case
 smallest : Settings
-smallest = record { p = 4; k = 1; room = 1; top = 2; capacity = 1; side-places = 0 }
+smallest = record { p = 4; k = 1; room = 1; top = 2; capacity = 1; side-places = 0; width = ipv4-width }
+
+smallest6 : Settings
+smallest6 = record { p = 4; k = 1; room = 1; top = 2; capacity = 1; side-places = 0; width = ipv6-width }
 
 pub record Case : Type 0 where
   pub computed : List ℕ
@@ -97,6 +104,7 @@ pub cases : List Case
 cases =
     -- the zero key: H 0, bucket 0 alone
     ((H zero-key ∷ []) gives (0 ∷ []))
+    ∷ ((H zero-key6 ∷ []) gives (0 ∷ []))
     -- for each p from 4 to 12 and each k from 1 to 4
     ∷ (flat (λ p. flat (λ k. zero-key-numbers p k) (upto 1 4)) (upto 4 9) gives flat (λ i. 1 ∷ 0 ∷ []) (upto 0 36))
     -- buckets a {1,5}, b {1,6}, T 15: a in 5, b in 6; a by itself: in 1
@@ -117,6 +125,8 @@ cases =
     ∷ (map (λ n. fill-of n 16) (0 ∷ 2 ∷ 6 ∷ 10 ∷ []) gives (0 ∷ 12 ∷ 38 ∷ 62 ∷ []))
     -- settings 4,1,1,2,1,0, empty
     ∷ (snapshot smallest [] gives (0 ∷ 6 ∷ 0 ∷ 4 ∷ 0 ∷ 1 ∷ 0 ∷ 1 ∷ 0 ∷ 2 ∷ 0 ∷ 1 ∷ 0 ∷ 0 ∷ 0 ∷ 0 ∷ []))
+    -- the same with keys of 37 bytes (document 02, U7): first count 7, the width last
+    ∷ (snapshot smallest6 [] gives (0 ∷ 7 ∷ 0 ∷ 4 ∷ 0 ∷ 1 ∷ 0 ∷ 1 ∷ 0 ∷ 2 ∷ 0 ∷ 1 ∷ 0 ∷ 0 ∷ 0 ∷ ipv6-width ∷ 0 ∷ 0 ∷ []))
     -- and two that the paper's rows leave open: hashes 5, 1: a tie goes to the lowest bucket and not to the first hash; hashes 5, 5: a counter is raised once
     ∷ ((choice reversed (reversed ∷ []) ∷ []) gives (1 ∷ []))
     ∷ ((card-with 1 15 8 .numbers (doubled ∷ [])) gives (5 ∷ []))
@@ -127,9 +137,9 @@ agrees : Case → Bool
 agrees x = same-key (x .computed) (x .stated)
 
 tested : all agrees cases ≡ true
-unfolding agrees cases choice need flows card-with hashes zero-key zero-key-numbers smallest if-set rows-of H-from H hash numbers-of card-of to-bytes
-    record-bytes true-count clip all-top least-count chosen chooses choosers crowded belongs-to-side side-records side-need counter-bytes held without fill-of
-    key-wrong side-need-of side-short next refusal section snapshot
+unfolding agrees cases choice need flows card-with hashes zero-key zero-key6 zero-key-numbers smallest smallest6 if-set rows-of H-from H hash numbers-of card-of
+    to-bytes record-bytes true-count clip all-top least-count chosen chooses choosers crowded belongs-to-side side-records side-need counter-bytes held without fill-of
+    key-wrong side-need-of side-short next refusal section first-count snapshot
 tested = refl
 
 pub cases-hold : All (λ x. x .computed ≡ x .stated) cases

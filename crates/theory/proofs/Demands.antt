@@ -12,7 +12,7 @@ use borrow.Author.Tests.{eq-eqb}
 use lib.ListN.{length}
 use Rattle.theory.specs.Lists.{all, All}
 use Rattle.theory.specs.Records.{Record, rising}
-use Rattle.theory.specs.Settings.{Settings, allowed, Card, key-width, card-of, record-size, ledger-length, work-length}
+use Rattle.theory.specs.Settings.{Settings, allowed, Card, ipv4-width, card-of, record-size, ledger-length, work-length}
 use Rattle.theory.specs.Placing.{true-count}
 use Rattle.theory.specs.Layout.{Areas, layout}
 use Rattle.theory.specs.Lookup.{Answer, bare, place, search-areas, fetch-areas}
@@ -20,7 +20,7 @@ use Rattle.theory.specs.Ledger.{Call, clear, add, change, remove, search
 use Rattle.theory.specs.Ledger.{side-short, refusal, search-by, seen-by, plain}
 use Rattle.theory.specs.Calls.{reply-number, ledger-records, ledger-invalid, update, call, lookup-lengths, all-lengths, lent-lengths, only-reads, perform}
 use Rattle.theory.specs.Calls.{run, areas-after, run-plain, list-after}
-use Rattle.theory.specs.Snapshot.{save, file-settings, file-count, file-records, head-wrong, load}
+use Rattle.theory.specs.Snapshot.{first-count, head-size, body-wrong, save, file-settings, file-count, file-records, head-wrong, load}
 use Rattle.theory.specs.Packet.{header-wrong, ports-cut, read-packet}
 use Rattle.theory.specs.Demands.{Small, HasLayout, Sized, RefusedUnchanged, ReadsKeep, RefusedLoad, RefusedSave, RefusedPacket, HeldFound, AbsentNotFound}
 use Rattle.theory.specs.Demands.{Demand3, SameFlowsSameBytes, AreasAfterRun, ListAfterRun, ReadsAtMostOne, ComparesAtMost, ComparesFew, OneBucket}
@@ -289,7 +289,7 @@ refused-load f w a =
     (λ e. rw e (by-test (not (allowed t)) (λ e. rw e (λ n. refl))
     (λ e. rw e (by-test (not (all (λ x. x) (eqb w (work-length s) ∷ all-lengths s a))) (λ e. rw e (λ n. refl))
     (λ e. rw e (by-test (ltb (t .capacity) (file-count f)) (λ e. rw e (λ n. refl))
-    (λ e. rw e (by-test (not (eqb (length f) (16 + record-size s * file-count f))) (λ e. rw e (λ n. refl))
+    (λ e. rw e (by-test (body-wrong t f) (λ e. rw e (λ n. refl))
     (λ e. rw e (by-test (not (rising (file-records f))) (λ e. rw e (λ n. refl))
     (λ e. rw e (by-test (side-short s (file-records f)) (λ e. rw e (λ n. refl)) (λ e. rw e (λ n. absurd (n refl)))))))))))))))
 
@@ -302,11 +302,12 @@ refused-save t ledger w target =
     (λ e. rw e (by-test (not (all (λ x. x) (eqb w (work-length s) ∷ eqb (length ledger) (ledger-length s) ∷ []))) (λ e. rw e (λ n. refl))
     (λ e. rw e (by-test (ledger-invalid s ledger) (λ e. rw e (λ n. refl))
     (λ e. rw e (by-test (side-short s l) (λ e. rw e (λ n. refl))
-    (λ e. rw e (by-test (not (eqb (length target) (16 + record-size s * length l))) (λ e. rw e (λ n. refl)) (λ e. rw e (λ n. absurd (n refl)))))))))))
+    (λ e. rw e (by-test (not (eqb (length target) (head-size (first-count t) + record-size s * length l))) (λ e. rw e (λ n. refl))
+    (λ e. rw e (λ n. absurd (n refl)))))))))))
 
 pub refused-packet : RefusedPacket
 unfolding read-packet
 refused-packet q buffer =
-    by-test (not (eqb (length buffer) key-width)) (λ e. rw e (λ n. refl))
+    by-test (not (eqb (length buffer) ipv4-width)) (λ e. rw e (λ n. refl))
     (λ e. rw e (by-test (header-wrong q) (λ e. rw e (λ n. refl))
     (λ e. rw e (by-test (ports-cut q) (λ e. rw e (λ n. refl)) (λ e. rw e (λ n. absurd (n refl)))))))

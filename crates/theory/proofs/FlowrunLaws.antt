@@ -12,7 +12,7 @@ use lib.ListN.{length, take, drop, getD, length-append, length-drop}
 use lib.Seq.{take-append-le, drop-append-le}
 use Rattle.theory.specs.Lists.{All, flat}
 use Rattle.theory.specs.Records.{Record, of-bytes}
-use Rattle.theory.specs.Settings.{in-ranges, allowed, Card, card-of, work-length}
+use Rattle.theory.specs.Settings.{ipv4-width, in-ranges, allowed, Card, card-of, work-length}
 use Rattle.theory.specs.Layout.{Areas, layout}
 use Rattle.theory.specs.Ledger.{Call, clear}
 use Rattle.theory.specs.Calls.{call, perform}
@@ -139,7 +139,7 @@ small-call : (b : List ℕ) → All Byte b → SmallCall (call-in b)
 unfolding call-in
 small-call b h =
     by-test (eqb (length b) 18)
-    (λ e. rw e (small-letter (getD b 0 0) (take 13 (drop 1 b)) (of-bytes (take 4 (drop 14 b)))
+    (λ e. rw e (small-letter (getD b 0 0) (take ipv4-width (drop 1 b)) (of-bytes (take 4 (drop 14 b)))
     (number-below (drop 14 b) (all-drop Byte 14 b h) 4 (rw length-drop (omega (arith, eqb-true (length b) 18 e))))))
     (λ e. rw e tt)
 

@@ -1,17 +1,18 @@
 -- Laws of settings: allowed settings make a sound card.
 use mathlib.Core.Path.{_≡_}
 use mathlib.Core.Bool.{true}
+use mathlib.Core.Logic.{inl, inr}
 use mathlib.Core.List.{List, [], map}
 use Prim.Native.Nat.{ℕ, zero, suc, _*_, _/_, _%_, _^_, _≤_, _<_}
 use native.Mathlib.Nat.{mod-lt}
 use native.Mathlib.Omega.{arith}
-use lib.Dec.{leb}
+use lib.Dec.{leb, eqb}
 use lib.Pow.{pow-pos}
-use borrow.Author.Tests.{leb-true}
+use borrow.Author.Tests.{leb-true, eqb-true}
 use Rattle.theory.specs.Lists.{upto}
 use Rattle.theory.specs.Hash.{H, hash, numbers-of}
-use Rattle.theory.specs.Settings.{Settings, in-range, in-ranges, allowed, Card, card-of}
-use Rattle.theory.proofs.ListLaws.{All, all-every, all-each, all-of-map, and-left, and-right}
+use Rattle.theory.specs.Settings.{Settings, ipv4-width, ipv6-width, width-allowed, KeyWidth, in-range, in-ranges, allowed, Card, card-of}
+use Rattle.theory.proofs.ListLaws.{by-test, All, all-every, all-each, all-of-map, and-left, and-right}
 use Rattle.theory.proofs.BucketNumberLaws.{distinct, fresh-all, fresh-distinct}
 
 -- the limits as facts
@@ -27,6 +28,9 @@ pub record Ranges (t : Settings) : Type 0 where
   pub capacity-low : 1 ≤ t .capacity
   pub capacity-high : t .capacity ≤ 4096
   pub side-high : t .side-places ≤ 64
+  pub width-one : KeyWidth (t .width)
+  pub width-low : ipv4-width ≤ t .width
+  pub width-high : t .width ≤ ipv6-width
 
 within-low : (low high n : ℕ) → in-range low high n ≡ true → low ≤ n
 within-low low high n e = leb-true low n (and-left (leb low n) (leb n high) e)
@@ -34,10 +38,23 @@ within-low low high n e = leb-true low n (and-left (leb low n) (leb n high) e)
 within-high : (low high n : ℕ) → in-range low high n ≡ true → n ≤ high
 within-high low high n e = leb-true n high (and-right (leb low n) (leb n high) e)
 
+-- a width is one of the two, so it lies between them
+pub width-of : (n : ℕ) → width-allowed n ≡ true → KeyWidth n
+width-of n e = by-test (eqb n ipv4-width) (λ q. inl (eqb-true n ipv4-width q)) (λ q. inr (eqb-true n ipv6-width (rw q at e)))
+
+pub width-from : (n : ℕ) → KeyWidth n → ipv4-width ≤ n
+width-from n (inl e) = omega arith
+width-from n (inr e) = omega arith
+
+pub width-up-to : (n : ℕ) → KeyWidth n → n ≤ ipv6-width
+width-up-to n (inl e) = omega arith
+width-up-to n (inr e) = omega arith
+
 pub ranges : (t : Settings) → allowed t ≡ true → Ranges t
 unfolding allowed in-ranges
 ranges t e =
     let h = all-each (λ x. x) (in-ranges t) e in
+    let one = width-of (t .width) (h .1 .1 .1 .1 .1 .1 .0) in
     record {
       p-low = within-low 4 12 (t .p) (h .0);
       p-high = within-high 4 12 (t .p) (h .0);
@@ -50,6 +67,9 @@ ranges t e =
       capacity-low = within-low 1 4096 (t .capacity) (h .1 .1 .1 .1 .0);
       capacity-high = within-high 1 4096 (t .capacity) (h .1 .1 .1 .1 .0);
       side-high = within-high 0 64 (t .side-places) (h .1 .1 .1 .1 .1 .0);
+      width-one = one;
+      width-low = width-from (t .width) one;
+      width-high = width-up-to (t .width) one;
     }
 
 -- the limits as far as the laws of placing, layout and search need them

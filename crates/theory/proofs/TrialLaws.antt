@@ -11,7 +11,7 @@ use lib.ListN.{length, drop}
 use lib.Seq.{drop-drop}
 use Rattle.theory.specs.Lists.{All}
 use Rattle.theory.specs.Records.{Record, count-of}
-use Rattle.theory.specs.Settings.{Settings, settings-of, allowed, Card, card-of, record-size, bucket-size}
+use Rattle.theory.specs.Settings.{Settings, settings-of, ipv4-width, allowed, Card, card-of, record-size, bucket-size}
 use Rattle.theory.specs.Settings.{ledger-length, true-length, clipped-length, buckets-length, side-length, work-length}
 use Rattle.theory.specs.Placing.{true-count, side-need, side-records}
 use Rattle.theory.specs.Layout.{Areas, layout, layout-by, side-bytes}
@@ -75,10 +75,10 @@ unfolding load-calls draws
 small-calls flows zero g = tt
 small-calls flows (suc n) g = (small-call flows (draw g), small-calls flows n (after-call g))
 
--- ---- settings stand in a trial's bytes as in a snapshot after its first count
-pub as-in-snapshot : (f : List ℕ) → trial-settings (drop 2 f) ≡ file-settings f
+-- ---- settings stand in a trial's bytes as in a snapshot of six settings after its first count
+pub as-in-snapshot : (f : List ℕ) → count-of f ≡ 6 → trial-settings (drop 2 f) ≡ file-settings f
 unfolding trial-settings file-settings
-as-in-snapshot f = rw (drop-drop 2 2 f, drop-drop 4 2 f, drop-drop 6 2 f, drop-drop 8 2 f, drop-drop 10 2 f)
+as-in-snapshot f six = rw (six, drop-drop 2 2 f, drop-drop 4 2 f, drop-drop 6 2 f, drop-drop 8 2 f, drop-drop 10 2 f)
 
 -- ---- the answer: 14 first, then 1, then 2
 module _ (b : List ℕ) where
@@ -149,8 +149,9 @@ within-64k s e =
 
 -- which settings are at the limit: N 3,854 and 3,855; p 11 with B 1 and 2; p 10 with B 3 and 4; p 12
 pub at-64-kib : map (λ (t : Settings). area-above (card-of t))
+    (map (λ (f : ℕ → Settings). f ipv4-width)
     (settings-of 4 1 1 2 3854 0 ∷ settings-of 4 1 1 2 3855 0 ∷ settings-of 11 1 1 2 1 0 ∷ settings-of 11 1 2 2 1 0 ∷ settings-of 10 1 3 2 1 0
-    ∷ settings-of 10 1 4 2 1 0 ∷ settings-of 12 1 1 2 1 0 ∷ [])
+    ∷ settings-of 10 1 4 2 1 0 ∷ settings-of 12 1 1 2 1 0 ∷ []))
     ≡ false ∷ true ∷ false ∷ true ∷ false ∷ true ∷ true ∷ []
 unfolding area-above area-bytes card-of ledger-length true-length clipped-length buckets-length side-length work-length record-size bucket-size
 at-64-kib = refl

@@ -6,7 +6,7 @@ use Prim.Native.Nat.{ℕ, zero, suc, _+_, _/_, _%_}
 use lib.Dec.{ltb, eqb}
 use lib.ListN.{length, take, drop, getD}
 use Rattle.theory.specs.Records.{Record, of-bytes}
-use Rattle.theory.specs.Settings.{Settings, card-of, work-length}
+use Rattle.theory.specs.Settings.{Settings, ipv4-width, card-of, work-length}
 use Rattle.theory.specs.Layout.{Areas, layout}
 use Rattle.theory.specs.Lookup.{Answer, bare}
 use Rattle.theory.specs.Ledger.{Call, clear, add, change, remove, search, fetch, tally, Reply, answered, handed, totalled, plain}
@@ -14,7 +14,7 @@ use Rattle.theory.specs.Calls.{perform}
 
 -- "Settings 6, 3, 2, 4, 128, 8 in the order above"
 unfoldable pub flowrun-settings : Settings
-flowrun-settings = record { p = 6; k = 3; room = 2; top = 4; capacity = 128; side-places = 8 }
+flowrun-settings = record { p = 6; k = 3; room = 2; top = 4; capacity = 128; side-places = 8; width = ipv4-width }
 
 -- ---- text
 -- a number in decimal, the highest digit first; the first argument bounds how many digits are split off, and n is more than enough
@@ -66,7 +66,7 @@ letter-call letter key class =
 -- none for another letter, and for bytes left over
 unfoldable pub call-in : List ℕ → Option Call
 call-in b =
-    cond (not (eqb (length b) 18)) none (letter-call (getD b 0 0) (take 13 (drop 1 b)) (of-bytes (take 4 (drop 14 b))))
+    cond (not (eqb (length b) 18)) none (letter-call (getD b 0 0) (take ipv4-width (drop 1 b)) (of-bytes (take 4 (drop 14 b))))
 
 -- the answer with the class that was written: of an accepted add or change
 unfoldable pub written : ℕ → Answer → Answer

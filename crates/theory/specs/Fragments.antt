@@ -6,7 +6,7 @@ use mathlib.Core.List.{List, [], _∷_, _++_}
 use Prim.Native.Nat.{ℕ, _%_}
 use lib.Dec.{ltb, eqb}
 use lib.ListN.{length, take, drop, getD, set}
-use Rattle.theory.specs.Settings.{key-width}
+use Rattle.theory.specs.Settings.{ipv4-width}
 use Rattle.theory.specs.Packet.{protocol, fragment-offset, header-wrong, after-header, read-packet}
 
 -- "The key of all other packets is as before": at offset zero, number and buffer are by document 01 alone, whose expression this is
@@ -16,7 +16,7 @@ FirstAsBefore =
     → read-packet q buffer
     ≡ (let has : Bool = eqb (protocol q) 6 || eqb (protocol q) 17 in
     let ports : List ℕ = cond has (take 4 (after-header q)) (0 ∷ 0 ∷ 0 ∷ 0 ∷ []) in
-    cond (not (eqb (length buffer) key-width)) (record { number = 3; buffer = buffer })
+    cond (not (eqb (length buffer) ipv4-width)) (record { number = 3; buffer = buffer })
     (cond (header-wrong q) (record { number = 10; buffer = buffer })
     (cond (has && ltb (length (after-header q)) 4) (record { number = 11; buffer = buffer })
     (record { number = 0; buffer = take 4 (drop 12 q) ++ take 4 (drop 16 q) ++ ports ++ (protocol q ∷ []) }))))
@@ -26,7 +26,7 @@ abbrev pub LaterAnswer : Type 0
 LaterAnswer =
     (q buffer : List ℕ) → fragment-offset q ≢ 0
     → read-packet q buffer
-    ≡ cond (not (eqb (length buffer) key-width)) (record { number = 3; buffer = buffer })
+    ≡ cond (not (eqb (length buffer) ipv4-width)) (record { number = 3; buffer = buffer })
     (cond (header-wrong q) (record { number = 10; buffer = buffer })
     (record { number = 0; buffer = take 4 (drop 12 q) ++ take 4 (drop 16 q) ++ (0 ∷ 0 ∷ 0 ∷ 0 ∷ []) ++ (protocol q ∷ []) }))
 

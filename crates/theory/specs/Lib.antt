@@ -13,6 +13,7 @@ pub mod CallAreas
 pub mod Listing
 pub mod Snapshot
 pub mod Packet
+pub mod Packet6
 pub mod Fragments
 pub mod Flowrun
 pub mod BenchLoad

@@ -1,4 +1,4 @@
--- Document 01, 'Snapshot': a file of settings and records, saved from a ledger area and loaded into every area.
+-- Document 01, 'Snapshot', with the files of document 02, U7: a file of settings and records, saved from a ledger area and loaded into every area.
 use mathlib.Core.Bool.{Bool, cond, not, _||_}
 use mathlib.Core.List.{List, [], _∷_, _++_}
 use Prim.Native.Nat.{ℕ, _+_, _*_}
@@ -6,7 +6,7 @@ use lib.Dec.{ltb, eqb}
 use lib.ListN.{length, take, drop}
 use Rattle.theory.specs.Lists.{all, flat}
 use Rattle.theory.specs.Records.{Record, to-bytes, of-bytes, count-of, record-bytes, records, rising}
-use Rattle.theory.specs.Settings.{Settings, allowed, card-of, record-size, ledger-length, work-length}
+use Rattle.theory.specs.Settings.{Settings, ipv4-width, allowed, card-of, record-size, ledger-length, work-length}
 use Rattle.theory.specs.Layout.{Areas, layout}
 use Rattle.theory.specs.Ledger.{side-short}
 use Rattle.theory.specs.Calls.{ledger-records, ledger-invalid, all-lengths}
@@ -16,22 +16,26 @@ unfoldable pub section : {A : Type 0} → (A → List ℕ) → List A → List �
 section f l = to-bytes 2 (length l) ++ flat f l
 
 abbrev pub settings-list : Settings → List ℕ
-settings-list t = t .p ∷ t .k ∷ t .room ∷ t .top ∷ t .capacity ∷ t .side-places ∷ []
+settings-list t = t .p ∷ t .k ∷ t .room ∷ t .top ∷ t .capacity ∷ t .side-places ∷ t .width ∷ []
 
--- "two sections, each after its two-byte count: 6 settings of two bytes .., then the records; 16 + 17 × n bytes": how many settings; where the second
--- count stands, after the first and the settings; and the bytes of the head, up to the first record
 abbrev pub settings-count : ℕ
-settings-count = 6
+settings-count = 7
 
-abbrev pub second-count-at : ℕ
-second-count-at = 2 + 2 * settings-count
+-- "two sections, each after its two-byte count: 6 settings of two bytes .., then the records": how many settings a file has. Those of width 13 are saved with
+-- first count 6, without the width; those of width 37 with 7, the width last
+unfoldable pub first-count : Settings → ℕ
+first-count t = cond (eqb (t .width) ipv4-width) 6 settings-count
 
-abbrev pub head-size : ℕ
-head-size = second-count-at + 2
+-- with so many settings: where the second count stands, after the first and the settings; and the bytes of the head, up to the first record
+abbrev pub second-count-at : ℕ → ℕ
+second-count-at c = 2 + 2 * c
+
+abbrev pub head-size : ℕ → ℕ
+head-size c = second-count-at c + 2
 
 -- the settings, then the records
 unfoldable pub snapshot : Settings → List Record → List ℕ
-snapshot t l = section (to-bytes 2) (settings-list t) ++ section record-bytes l
+snapshot t l = section (to-bytes 2) (take (first-count t) (settings-list t)) ++ section record-bytes l
 
 -- ---- save: the answer's number, and the target buffer after the call; 1, 2, 4, 9, 12
 pub record Saved : Type 0 where
@@ -46,7 +50,7 @@ save t ledger w target =
     (cond (not (all (λ x. x) (eqb w (work-length s) ∷ eqb (length ledger) (ledger-length s) ∷ []))) (record { number = 2; target = target })
     (cond (ledger-invalid s ledger) (record { number = 4; target = target })
     (cond (side-short s l) (record { number = 9; target = target })
-    (cond (not (eqb (length target) (head-size + record-size s * length l))) (record { number = 12; target = target })
+    (cond (not (eqb (length target) (head-size (first-count t) + record-size s * length l))) (record { number = 12; target = target })
     (record { number = 0; target = snapshot t l })))))
 
 -- ---- load: the answer's number, the settings handed back, and the areas after the call
@@ -55,7 +59,7 @@ pub record Loaded : Type 0 where
   pub settings : Settings
   pub areas : Areas
 
--- setting i of a file, from 0; and all six
+-- setting i of a file, from 0; and all: a file of six has keys of 13 bytes
 abbrev pub setting : List ℕ → ℕ → ℕ
 setting f i = of-bytes (take 2 (drop (2 + 2 * i) f))
 
@@ -68,24 +72,29 @@ file-settings f =
       top = setting f 3;
       capacity = setting f 4;
       side-places = setting f 5;
+      width = cond (eqb (count-of f) 6) ipv4-width (setting f 6);
     }
 
 -- the second count, and the records after it
 unfoldable pub file-count : List ℕ → ℕ
-file-count f = count-of (drop second-count-at f)
+file-count f = count-of (drop (second-count-at (count-of f)) f)
 
 unfoldable pub file-records : List ℕ → List Record
-file-records f = records (card-of (file-settings f) .width) (file-count f) (drop head-size f)
+file-records f = records (card-of (file-settings f) .width) (file-count f) (drop (head-size (count-of f)) f)
 
--- "12, a cut .. file, a first count not 6": no allowed first count, its settings and the second count are there, and nothing else is judged
+-- "12, a cut .. file, a first count not" 6 or 7: no allowed first count, its settings and the second count are there, and nothing else is judged
 unfoldable pub head-wrong : List ℕ → Bool
-head-wrong f = ltb (length f) head-size || not (eqb (count-of f) settings-count)
+head-wrong f = not (eqb (count-of f) 6 || eqb (count-of f) 7) || ltb (length f) (head-size (count-of f))
+
+-- 12 also for a first count that these settings are not saved with, a 7 with width 13, and for a cut or overlong file
+unfoldable pub body-wrong : Settings → List ℕ → Bool
+body-wrong t f = not (eqb (count-of f) (first-count t)) || not (eqb (length f) (head-size (count-of f) + record-size (card-of t) * file-count f))
 
 -- refused: settings handed back are zeros, areas unaltered
 abbrev pub not-loaded : ℕ → Areas → Loaded
-not-loaded n a = record { number = n; settings = record { p = 0; k = 0; room = 0; top = 0; capacity = 0; side-places = 0 }; areas = a }
+not-loaded n a = record { number = n; settings = record { p = 0; k = 0; room = 0; top = 0; capacity = 0; side-places = 0; width = 0 }; areas = a }
 
--- 12 for the head; then 1, 2, 8, 12 for a cut or overlong file, 13, and 9 only when nothing else applies
+-- 12 for the head; then 1, 2, 8, 12 for a 7 with width 13 and for a cut or overlong file, 13, and 9 only when nothing else applies
 unfoldable pub load : List ℕ → ℕ → Areas → Loaded
 load f w a =
     let t = file-settings f in
@@ -94,6 +103,6 @@ load f w a =
     (cond (not (allowed t)) (not-loaded 1 a)
     (cond (not (all (λ x. x) (eqb w (work-length s) ∷ all-lengths s a))) (not-loaded 2 a)
     (cond (ltb (t .capacity) (file-count f)) (not-loaded 8 a)
-    (cond (not (eqb (length f) (head-size + record-size s * file-count f))) (not-loaded 12 a)
+    (cond (body-wrong t f) (not-loaded 12 a)
     (cond (not (rising (file-records f))) (not-loaded 13 a)
     (cond (side-short s (file-records f)) (not-loaded 9 a) (record { number = 0; settings = t; areas = layout s (file-records f) })))))))

@@ -9,7 +9,7 @@ use lib.Dec.{ltb, eqb}
 use lib.ListN.{length, take, drop}
 use Rattle.theory.specs.Lists.{any, All}
 use Rattle.theory.specs.Records.{Record, of-bytes, count-of}
-use Rattle.theory.specs.Settings.{Settings, settings-of, allowed, Card, card-of}
+use Rattle.theory.specs.Settings.{Settings, settings-of, ipv4-width, allowed, Card, card-of}
 use Rattle.theory.specs.Settings.{ledger-length, true-length, clipped-length, buckets-length, side-length, work-length}
 use Rattle.theory.specs.Layout.{Areas}
 use Rattle.theory.specs.Ledger.{Call, clear, Reply, Step, side-need-of, plain}
@@ -64,13 +64,13 @@ tried s = counted-all (plain s) (side-need-of s)
 unfoldable pub played : Card → List Call → Areas → Numbers → Numbers
 played s = counted-all (call s) (λ a. count-of (a .side-store))
 
--- ---- "six two-byte settings for each trial", in document 01's order and as in a snapshot, high byte first
+-- ---- "six two-byte settings for each trial", in document 01's order and as in a snapshot, high byte first; keys of 13 bytes
 abbrev pub trial-setting : List ℕ → ℕ → ℕ
 trial-setting b i = of-bytes (take 2 (drop (2 * i) b))
 
 unfoldable pub trial-settings : List ℕ → Settings
 trial-settings b =
-    settings-of (trial-setting b 0) (trial-setting b 1) (trial-setting b 2) (trial-setting b 3) (trial-setting b 4) (trial-setting b 5)
+    settings-of (trial-setting b 0) (trial-setting b 1) (trial-setting b 2) (trial-setting b 3) (trial-setting b 4) (trial-setting b 5) ipv4-width
 
 -- the bytes of document 01's six areas; true counts and work have two for each number
 unfoldable pub area-bytes : Card → List ℕ
