@@ -8,7 +8,8 @@ use native.Mathlib.Omega.{arith}
 use lib.Pow.{pow-mono}
 use Rattle.theory.specs.Settings as plain
 use Rattle.theory.specs.Settings.{allowed, card-of, record-size, bucket-size, ledger-length, true-length, clipped-length, buckets-length, side-length}
-use Rattle.theory.specs.Settings.{work-length}
+use Rattle.theory.specs.Settings.{work-length, ipv6-width, KeyWidth}
+use Rattle.theory.specs.Records.{class-width}
 use Rattle.theory.proofs.SettingsLaws.{ranges, sound}
 use Rattle.settings.specs.declared.Settings.{Settings}
 use Rattle.settings.specs.declared.Checked.{Checked}
@@ -37,9 +38,13 @@ module _ (t : plain.Settings) (r : Checked) (answered : r ≡ checked-of t) wher
 
 -- ---- the card of settings, its sizes and its lengths
 module _ (t : plain.Settings) where
-  pub width-is : card-of t .width ≡ 13
+  pub width-is : card-of t .width ≡ t .width
   unfolding card-of
   width-is = refl
+
+  -- a key of the width is an IPv4 flow's or an IPv6 flow's
+  pub key-width : allowed t ≡ true → {n : ℕ} → n ≡ card-of t .width → KeyWidth n
+  key-width ok e = rw (e, width-is) (ranges t ok .width-one)
 
   pub buckets-are : card-of t .buckets ≡ 2 ^ t .p
   unfolding card-of
@@ -61,24 +66,16 @@ module _ (t : plain.Settings) where
   unfolding card-of
   side-places-are = refl
 
-  pub record-size-is : record-size (card-of t) ≡ 17
+  pub record-size-is : record-size (card-of t) ≡ t .width + class-width
   unfolding record-size card-of
   record-size-is = refl
 
-  -- a record, and so a key, has at most 64 bytes
-  pub record-most : record-size (card-of t) ≤ 64
-  record-most = omega (arith, record-size-is)
-
-  pub width-most : card-of t .width ≤ 64
-  unfolding record-size
-  width-most = omega (arith, record-most)
-
-  pub bucket-size-is : bucket-size (card-of t) ≡ 1 + 17 * t .room
-  unfolding bucket-size record-size card-of
+  pub bucket-size-is : bucket-size (card-of t) ≡ 1 + record-size (card-of t) * t .room
+  unfolding bucket-size card-of
   bucket-size-is = refl
 
-  pub ledger-length-is : ledger-length (card-of t) ≡ 2 + 17 * t .capacity
-  unfolding ledger-length record-size card-of
+  pub ledger-length-is : ledger-length (card-of t) ≡ 2 + record-size (card-of t) * t .capacity
+  unfolding ledger-length card-of
   ledger-length-is = refl
 
   pub true-length-is : true-length (card-of t) ≡ card-of t .buckets
@@ -93,8 +90,8 @@ module _ (t : plain.Settings) where
   unfolding buckets-length
   buckets-length-is = refl
 
-  pub side-length-is : side-length (card-of t) ≡ 2 + 17 * t .side-places
-  unfolding side-length record-size card-of
+  pub side-length-is : side-length (card-of t) ≡ 2 + record-size (card-of t) * t .side-places
+  unfolding side-length card-of
   side-length-is = refl
 
   pub work-length-is : work-length (card-of t) ≡ 2 * card-of t .buckets
@@ -110,15 +107,18 @@ module _ (t : plain.Settings) where
     pub buckets-least : 16 ≤ card-of t .buckets
     pub buckets-most : card-of t .buckets ≤ 4096
     pub buckets-even : card-of t .buckets % 2 ≡ 0
+    pub width-most : card-of t .width ≤ ipv6-width
+    pub record-least : 17 ≤ record-size (card-of t)
+    pub record-most : record-size (card-of t) ≤ 41
     pub bucket-size-least : 18 ≤ bucket-size (card-of t)
-    pub bucket-size-most : bucket-size (card-of t) ≤ 69
+    pub bucket-size-most : bucket-size (card-of t) ≤ 165
     pub ledger-least : 19 ≤ ledger-length (card-of t)
-    pub ledger-most : ledger-length (card-of t) ≤ 69634
+    pub ledger-most : ledger-length (card-of t) ≤ 167938
     pub true-most : true-length (card-of t) ≤ 4096
     pub clipped-most : clipped-length (card-of t) ≤ 2048
-    pub buckets-length-most : buckets-length (card-of t) ≤ 282624
+    pub buckets-length-most : buckets-length (card-of t) ≤ 675840
     pub side-least : 2 ≤ side-length (card-of t)
-    pub side-most : side-length (card-of t) ≤ 1090
+    pub side-most : side-length (card-of t) ≤ 2626
     pub work-most : work-length (card-of t) ≤ 8192
 
   pub bounds : allowed t ≡ true → Bounds
@@ -126,19 +126,30 @@ module _ (t : plain.Settings) where
       let limits = ranges t e in
       let least : 16 ≤ card-of t .buckets = rw buckets-are (pow-mono {i = 4} (limits .p-low)) in
       let most : card-of t .buckets ≤ 4096 = rw buckets-are (pow-mono {j = 12} (limits .p-high)) in
-      let size : bucket-size (card-of t) ≤ 69 = rw bucket-size-is (omega arith) in
+      let wide : card-of t .width ≤ ipv6-width = rw width-is (limits .width-high) in
+      let small : 17 ≤ record-size (card-of t) = rw record-size-is (omega (arith, limits .width-low)) in
+      let large : record-size (card-of t) ≤ 41 = rw record-size-is (omega (arith, limits .width-high)) in
+      let room-least : 17 * 1 ≤ record-size (card-of t) * t .room = mul-le-mul small (limits .room-low) in
+      let room-most : record-size (card-of t) * t .room ≤ 41 * 4 = mul-le-mul large (limits .room-high) in
+      let capacity-least : 17 * 1 ≤ record-size (card-of t) * t .capacity = mul-le-mul small (limits .capacity-low) in
+      let capacity-most : record-size (card-of t) * t .capacity ≤ 41 * 4096 = mul-le-mul large (limits .capacity-high) in
+      let side-most : record-size (card-of t) * t .side-places ≤ 41 * 64 = mul-le-mul large (limits .side-high) in
+      let size : bucket-size (card-of t) ≤ 165 = rw bucket-size-is (omega (arith, room-most)) in
       record {
         buckets-least = least;
         buckets-most = most;
         buckets-even = sound t e .even;
-        bucket-size-least = rw bucket-size-is (omega arith);
+        width-most = wide;
+        record-least = small;
+        record-most = large;
+        bucket-size-least = rw bucket-size-is (omega (arith, room-least));
         bucket-size-most = size;
-        ledger-least = rw ledger-length-is (omega arith);
-        ledger-most = rw ledger-length-is (omega arith);
+        ledger-least = rw ledger-length-is (omega (arith, capacity-least));
+        ledger-most = rw ledger-length-is (omega (arith, capacity-most));
         true-most = rw true-length-is most;
         clipped-most = rw clipped-length-is (omega arith);
         buckets-length-most = rw buckets-length-is (mul-le-mul most size);
         side-least = rw side-length-is (omega arith);
-        side-most = rw side-length-is (omega arith);
+        side-most = rw side-length-is (omega (arith, side-most));
         work-most = rw work-length-is (omega arith);
       }

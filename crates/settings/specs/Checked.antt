@@ -1,4 +1,4 @@
--- The settings of the code and those of the paper, field by field, and what checking six numbers answers.
+-- The settings of the code and those of the paper, field by field, and what checking seven numbers answers.
 use mathlib.Core.Bool.{cond}
 use Prim.Native.Nat.{ℕ}
 use Rattle.theory.specs.Settings as plain
@@ -8,18 +8,18 @@ use Rattle.settings.specs.declared.Checked.{Checked}
 use Rattle.settings.specs.declared.Checked.the-variants.{Allowed, Refused}
 
 abbrev pub paper : Settings → plain.Settings
-paper c = record { p = c .p; k = c .k; room = c .room; top = c .top; capacity = c .capacity; side-places = c .«side_places» }
+paper c = record { p = c .p; k = c .k; room = c .room; top = c .top; capacity = c .capacity; side-places = c .«side_places»; width = c .width }
 
 -- the card of the code's settings
 abbrev pub card : Settings → plain.Card
 card c = plain.card-of (paper c)
 
 abbrev pub code : plain.Settings → Settings
-code t = record { p = t .p; k = t .k; room = t .room; top = t .top; capacity = t .capacity; «side_places» = t .side-places }
+code t = record { p = t .p; k = t .k; room = t .room; top = t .top; capacity = t .capacity; «side_places» = t .side-places; width = t .width }
 
 -- the settings that a caller's numbers say
 abbrev pub given-of : Given → plain.Settings
-given-of g = record { p = g .p; k = g .k; room = g .room; top = g .top; capacity = g .capacity; side-places = g .«side_places» }
+given-of g = record { p = g .p; k = g .k; room = g .room; top = g .top; capacity = g .capacity; side-places = g .«side_places»; width = g .width }
 
 -- settings in their ranges are handed over; others are refusal 1
 abbrev pub checked-of : plain.Settings → Checked

@@ -3,13 +3,13 @@ ghost use mathlib.Core.Path.{_≡_};
 ghost use mathlib.Core.Bool.{true};
 ghost use Prim.Native.Nat.{_+_, _*_, _≤_};
 ghost use Rattle.theory.specs.Settings.{allowed, record-size, bucket-size, ledger-length, true-length, clipped-length, buckets-length, side-length};
-ghost use Rattle.theory.specs.Settings.{work-length};
+ghost use Rattle.theory.specs.Settings.{width-allowed, work-length};
 ghost use Rattle.settings.specs.Checked.{paper, given-of, checked-of, card};
 
 pub mod counts; // counts.rt: true counts and clipped counts, each a type of its own
 pub mod lengths; // lengths.rt: the lengths of the areas that a call is lent
 
-// In the paper's order and letters: p, k, B, T, N, S.
+// In the paper's order and letters: p, k, B, T, N, S, the key width.
 pub struct Settings {
     pub p: usize,
     pub k: usize,
@@ -17,6 +17,7 @@ pub struct Settings {
     pub top: usize,
     pub capacity: usize,
     pub side_places: usize,
+    pub width: usize,
 }
 
 // The same as a caller gives them, or as a file says them: 64 bits each, so that no number is cut off before its range is judged.
@@ -27,6 +28,7 @@ pub struct Given {
     pub top: u64,
     pub capacity: u64,
     pub side_places: u64,
+    pub width: u64,
 }
 
 pub enum Checked {
@@ -62,10 +64,22 @@ impl Settings {
 
     pub const SIDE_PLACES_MOST: u64 = 64;
 
-    // "A key is 13 bytes, a class an unsigned 32-bit number"
-    pub const KEY_WIDTH: usize = 13;
+    // The key width, a seventh: "A key is 13 bytes, a class an unsigned 32-bit number"; an IPv6 flow's key is 37 (document 02, U7).
+    pub const IPV4_WIDTH: usize = 13;
+
+    pub const IPV6_WIDTH: usize = 37;
 
     pub const CLASS_WIDTH: usize = 4;
+
+    // "13 or 37": whether a number is a key width.
+    pub fn width_allowed(width: u64) -> bool
+        ensures { λ r. ⌜ r ≡ width-allowed width ⌝ }
+    {
+        if width == Settings::IPV4_WIDTH as u64 {
+            return true;
+        }
+        width == Settings::IPV6_WIDTH as u64
+    }
 
     pub fn new(given: Given) -> Checked
         ensures { λ r. ⌜ r ≡ checked-of (given-of given) ⌝ }
@@ -76,6 +90,7 @@ impl Settings {
         let top = given.top;
         let capacity = given.capacity;
         let side_places = given.side_places;
+        let width = given.width;
         let p_within = (Settings::P_LEAST <= p) & (p <= Settings::P_MOST);
         let k_within = (Settings::K_LEAST <= k) & (k <= Settings::K_MOST);
         let room_within = (Settings::ROOM_LEAST <= room) & (room <= Settings::ROOM_MOST);
@@ -84,8 +99,11 @@ impl Settings {
             & (capacity <= Settings::CAPACITY_MOST);
         let side_places_within = (Settings::SIDE_PLACES_LEAST <= side_places)
             & (side_places <= Settings::SIDE_PLACES_MOST);
+        let width_within = Settings::width_allowed(width);
         if p_within
-            & (k_within & (room_within & (top_within & (capacity_within & side_places_within))))
+            & (k_within
+                & (room_within
+                    & (top_within & (capacity_within & (side_places_within & width_within)))))
         {
             Checked::Allowed(Settings {
                 p: p as usize,
@@ -94,13 +112,14 @@ impl Settings {
                 top: top as usize,
                 capacity: capacity as usize,
                 side_places: side_places as usize,
+                width: width as usize,
             })
         } else {
             Checked::Refused
         }
     }
 
-    // "hands them back": the same six numbers, as a caller has them.
+    // "hands them back": the same seven numbers, as a caller has them.
     pub fn given(self) -> Given
         ensures { λ r. ⌜ given-of r ≡ paper self ⌝ }
     {
@@ -111,6 +130,7 @@ impl Settings {
             top: self.top as u64,
             capacity: self.capacity as u64,
             side_places: self.side_places as u64,
+            width: self.width as u64,
         }
     }
 
@@ -126,25 +146,26 @@ impl Settings {
     pub fn width(self) -> usize
         ensures { λ r. ⌜ r ≡ card self .width ⌝ }
     {
-        Settings::KEY_WIDTH
+        self.width
     }
 
-    // "a record 17 bytes: the key, then the class"
+    // "a record 17 bytes: the key, then the class": four bytes longer than the key
     pub fn record_size(self) -> usize
+        requires { ⌜ allowed (paper self) ≡ true ⌝ }
         ensures { λ r. ⌜ r ≡ record-size (card self) ⌝ }
     {
-        Settings::KEY_WIDTH + Settings::CLASS_WIDTH
+        self.width + Settings::CLASS_WIDTH
     }
 
     // So many bytes, then places for so many records.
     fn with_records(self, bytes: usize, count: usize) -> usize
-        requires { ⌜ (bytes ≤ 2) × (count ≤ 4096) ⌝ }
+        requires { ⌜ (allowed (paper self) ≡ true) × (bytes ≤ 2) × (count ≤ 4096) ⌝ }
         ensures { λ r. ⌜ r ≡ bytes + record-size (card self) * count ⌝ }
     {
         bytes + self.record_size() * count
     }
 
-    // "one bucket of 1 + 17 × B bytes, a mark, then record places"
+    // "one bucket of 1 + 17 × B bytes, a mark, then record places", with records of 17 bytes
     pub fn bucket_size(self) -> usize
         requires { ⌜ allowed (paper self) ≡ true ⌝ }
         ensures { λ r. ⌜ r ≡ bucket-size (card self) ⌝ }

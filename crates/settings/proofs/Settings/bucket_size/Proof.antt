@@ -11,4 +11,4 @@ unfolding bucket-size card-of
 returns c = c .with-records .ensures
 
 pub bucket-size-spec : {M : Type 1} → statement M
-bucket-size-spec = tie.close (tie.spec (λ c κs. let limits = ranges (paper (c .args .self)) (c .pre) in (omega arith, omega arith)) returns)
+bucket-size-spec = tie.close (tie.spec (λ c κs. let limits = ranges (paper (c .args .self)) (c .pre) in (c .pre, omega arith, omega arith)) returns)

@@ -1,4 +1,4 @@
--- `Settings::buckets_length` meets its contract: the product is the length, which is at most 282,624.
+-- `Settings::buckets_length` meets its contract: the product is the length, which is at most 675,840.
 use borrow.Author.Needs.{needs}
 use native.Mathlib.Omega.{arith}
 use Rattle.theory.specs.Settings.{buckets-length}

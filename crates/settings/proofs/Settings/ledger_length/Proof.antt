@@ -11,4 +11,4 @@ unfolding ledger-length card-of
 returns c = c .with-records .ensures
 
 pub ledger-length-spec : {M : Type 1} → statement M
-ledger-length-spec = tie.close (tie.spec (λ c κs. let limits = ranges (paper (c .args .self)) (c .pre) in (omega arith, omega arith)) returns)
+ledger-length-spec = tie.close (tie.spec (λ c κs. let limits = ranges (paper (c .args .self)) (c .pre) in (c .pre, omega arith, omega arith)) returns)

@@ -1,7 +1,9 @@
--- `Settings::record_size` meets its contract: the card's keys have 13 bytes, and a class has 4.
-use borrow.Author.Needs.{needs}
+-- `Settings::record_size` meets its contract: a key has at most 37 bytes, and a class has 4.
 use mathlib.Core.Path.{refl}
+use native.Mathlib.Omega.{arith}
 use Rattle.theory.specs.Settings.{card-of, record-size}
+use Rattle.theory.proofs.SettingsLaws.{ranges}
+use Rattle.settings.specs.Checked.{paper}
 use Rattle.settings.proofs.Settings.record_size.Statement.{statement}
 use Rattle.settings.proofs.Settings.record_size.Tie as tie
 
@@ -10,4 +12,4 @@ unfolding record-size card-of
 returns c = refl
 
 pub record-size-spec : {M : Type 1} → statement M
-record-size-spec = tie.close (tie.spec (λ c. search needs) returns)
+record-size-spec = tie.close (tie.spec (λ c. omega (arith, ranges (paper (c .before .args .self)) (c .before .pre) .width-high)) returns)

@@ -11,4 +11,4 @@ unfolding side-length card-of
 returns c = c .with-records .ensures
 
 pub side-length-spec : {M : Type 1} → statement M
-side-length-spec = tie.close (tie.spec (λ c κs. let limits = ranges (paper (c .args .self)) (c .pre) in (omega arith, omega arith)) returns)
+side-length-spec = tie.close (tie.spec (λ c κs. let limits = ranges (paper (c .args .self)) (c .pre) in (c .pre, omega arith, omega arith)) returns)

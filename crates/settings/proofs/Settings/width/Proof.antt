@@ -1,4 +1,4 @@
--- `Settings::width` meets its contract: the card's keys have 13 bytes.
+-- `Settings::width` meets its contract: the card has the settings' width.
 use mathlib.Core.Path.{refl}
 use Rattle.theory.specs.Settings.{card-of}
 use Rattle.settings.proofs.Settings.width.Statement.{statement}
