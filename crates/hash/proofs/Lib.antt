@@ -1,8 +1,11 @@
 pub mod Constants
 pub mod Xor
+pub mod SplitLaws
 pub mod RowLaws
 pub mod Doubling
 pub mod DigitLaws
 pub mod TableLaws
+pub mod LentTableLaws
+pub mod MadeLaws
 pub mod KeyHashLaws
 pub mod NumberingLaws

@@ -1,14 +1,16 @@
 -- A list whose numbers follow one another by xorshift64 is the rows from some row on: one test of the list, and what it gives.
 use mathlib.Core.Path.{_≡_, refl, sym, ap, ap₂, _∙_, subst}
 use mathlib.Core.Bool.{Bool, true, _&&_}
-use mathlib.Core.List.{List, [], _∷_}
-use Prim.Native.Nat.{ℕ, zero, suc, _+_, _/_, _%_, _≤_}
-use native.Mathlib.Nat.{le-of-suc-le-suc, add-zero, suc-add, add-suc}
+use mathlib.Core.List.{List, [], _∷_, map}
+use Prim.Native.Nat.{ℕ, zero, suc, _+_, _*_, _/_, _%_, _≤_}
+use native.Mathlib.Nat.{le-of-suc-le-suc, zero-add, add-zero, suc-add, add-suc}
 use native.Mathlib.Omega.{arith}
 use lib.Dec.{eqb}
 use lib.Bits.{bitXor}
-use lib.ListN.{length, take, drop}
+use lib.ListN.{length, take, drop, length-drop}
 use borrow.Author.Tests.{eqb-true}
+use Rattle.theory.specs.Lists.{upto}
+use Rattle.theory.specs.Settings.{ipv6-width}
 use Rattle.theory.specs.Hash.{xorshift64, start, row, if-set, rows-of}
 use Rattle.theory.proofs.ListLaws.{and-left, and-right}
 use Rattle.hash.specs.Table.{xor-set}
@@ -60,6 +62,20 @@ pub rows-from : From 0 rows
 unfolding rows follow xorshift64
 rows-from = refl
 
-pub length-rows : length rows ≡ 104
+pub length-rows : length rows ≡ 8 * ipv6-width
 unfolding rows
 length-rows = refl
+
+from-is : (i : ℕ) (rs : List ℕ) → From i rs → rs ≡ map row (upto i (length rs))
+from-is i [] e = refl
+from-is i (r ∷ rs) e = ap₂ (λ (x : ℕ) (xs : List ℕ). x ∷ xs) (first i r rs e) (from-is (suc i) rs (rest i r rs e))
+
+pub rows-are : rows ≡ map row (upto 0 (8 * ipv6-width))
+rows-are = from-is 0 rows rows-from ∙ ap (λ (n : ℕ). map row (upto 0 n)) length-rows
+
+-- the eight rows of byte a of a key
+pub byte-is : (a : ℕ) → 8 * a + 8 ≤ length rows → (v : ℕ) → xor-set (take 8 (drop (8 * a) rows)) v ≡ rows-of 8 (8 * a) v
+byte-is a within v =
+    let eight : 8 ≤ length (drop (8 * a) rows) = rw length-drop (omega arith) in
+    let here : From (8 * a) (drop (8 * a) rows) = rw zero-add at (from-drop (8 * a) 0 rows (omega arith) rows-from) in
+    xor-set-rows 8 (8 * a) (drop (8 * a) rows) eight here v

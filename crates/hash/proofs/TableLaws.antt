@@ -1,16 +1,18 @@
--- The constant table is the table of the definitions, by one computed test over it; and which length a lent table has.
-use mathlib.Core.Path.{_≡_, refl, sym, ap₂, _∙_}
-use mathlib.Core.Bool.{Bool, true, false, _&&_, false≢true, or-false}
+-- The two constant tables are the tables of the definitions, each by one computed test over it.
+use mathlib.Core.Path.{_≡_, refl, ap₂, _∙_}
+use mathlib.Core.Bool.{Bool, true, false, _&&_, false≢true}
 use mathlib.Core.List.{List, [], _∷_}
-use Prim.Native.Nat.{ℕ}
-use lib.Dec.{eqb, lit≤}
+use Prim.Native.Nat.{ℕ, _*_, _≤_}
+use native.Mathlib.Nat.{mul-zero}
+use native.Mathlib.Omega.{arith}
+use lib.Dec.{eqb}
+use lib.ListN.{length}
 use borrow.Author.Tests.{eqb-true}
-use Rattle.theory.specs.Lists.{has}
+use Rattle.theory.specs.Settings.{ipv4-width, ipv6-width}
 use Rattle.theory.proofs.ListLaws.{and-left, and-right}
-use Rattle.hash.specs.Digits.{table-length, table-entries}
-use Rattle.hash.specs.Table.{table-lengths}
-use Rattle.hash.proofs.Constants.{rows, table}
-use Rattle.hash.proofs.RowLaws.{rows-from}
+use Rattle.hash.specs.Digits.{table-entries}
+use Rattle.hash.proofs.Constants.{rows, table, half-table}
+use Rattle.hash.proofs.RowLaws.{rows-from, length-rows}
 use Rattle.hash.proofs.Doubling.{doubled, block, built, built-is}
 
 -- the test: two lists have the same numbers
@@ -28,20 +30,22 @@ same-is (x ∷ xs) [] e = absurd (false≢true e)
 same-is (x ∷ xs) (y ∷ ys) e =
     ap₂ (λ (z : ℕ) (zs : List ℕ). z ∷ zs) (eqb-true x y (and-left (eqb x y) (same xs ys) e)) (same-is xs ys (and-right (eqb x y) (same xs ys) e))
 
--- antt computes it over the whole table
-tested : same table (built 8 13 rows) ≡ true
+-- a list that passes the test against the table built of the rows is the table of the definitions
+tested-is : (bits places : ℕ) (t : List ℕ) → bits * places ≤ length rows → same t (built bits places rows) ≡ true → t ≡ table-entries bits places
+unfolding table-entries
+tested-is bits places t h e = same-is t (built bits places rows) e ∙ built-is bits places 0 rows h (rw mul-zero rows-from)
+
+-- antt computes the test over each whole table
+tested : same table (built 8 ipv4-width rows) ≡ true
 unfolding table rows same built block doubled
 tested = refl
 
-pub table-is : table ≡ table-entries 8 13
-unfolding rows table-entries
-table-is = same-is table (built 8 13 rows) tested ∙ built-is 8 13 0 rows (lit≤ tt) rows-from
+half-tested : same half-table (built 4 (2 * ipv6-width) rows) ≡ true
+unfolding half-table rows same built block doubled
+half-tested = refl
 
--- ---- a lent table of n entries, for keys of w bytes: its length is allowed when it is the one that there is
-module _ (n w : ℕ) where
-  pub length-allowed : has n (table-lengths w) ≡ eqb n (table-length 8 w)
-  unfolding table-lengths
-  length-allowed = or-false (eqb n (table-length 8 w))
+pub table-is : table ≡ table-entries 8 ipv4-width
+table-is = tested-is 8 ipv4-width table (omega (arith, length-rows)) tested
 
-  pub lent-length : has n (table-lengths w) ≡ true → n ≡ table-length 8 w
-  lent-length e = eqb-true n (table-length 8 w) (sym length-allowed ∙ e)
+pub half-table-is : half-table ≡ table-entries 4 (2 * ipv6-width)
+half-table-is = tested-is 4 (2 * ipv6-width) half-table (omega (arith, length-rows)) half-tested

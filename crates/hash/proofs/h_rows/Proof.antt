@@ -1,55 +1,68 @@
--- `hash::h_rows` meets its contract: from the last byte to the first, h is H of the bytes from there on.
+-- `hash::h_rows` meets its contract: H of a key is the xor of what its parts give.
+use mathlib.Core.Path.{_≡_, sym, ap, _∙_}
+use mathlib.Core.List.{List}
+use mathlib.Core.Logic.{⊎-elim}
+use Prim.Native.Nat.{ℕ, _-_, _<_, _≤_}
 use native.Mathlib.Omega.{arith}
-use lib.Dec.{lit<}
-use Rattle.theory.specs.Hash.{H}
-use Rattle.hash.proofs.Constants.{rows}
-use Rattle.hash.proofs.KeyHashLaws.{byte-last, byte-more}
 use borrow.Author.Needs.{needs}
+use lib.Bits.{bitXor}
+use lib.ListN.{length, take, drop, length-drop}
+use lib.Seq.{length-take-le, take-all, drop-drop}
+use Rattle.theory.specs.Hash.{H-from, H}
+use Rattle.theory.specs.Settings.{ipv4-width, ipv6-width}
+use Rattle.hash.proofs.SplitLaws.{h-cut}
 use Rattle.hash.proofs.h_rows.Statement.{statement}
 use Rattle.hash.proofs.h_rows.Tie as tie
 
--- ---- eight bytes are done
-abbrev start : tie.After-shared-slice-known10 → tie.Start
-start c =
-    let half = c .before .before .before .before .before .before .before .before .before in
-    half .before .before .before .before .before .before .before .before .before
+-- 13 bytes, 12, and the rest
+parts : (key : List ℕ) → length key ≡ ipv6-width → H key
+    ≡ bitXor (H-from 0 (take ipv4-width key)) (bitXor (H-from ipv4-width (take 12 (drop ipv4-width key))) (H-from 25 (take (length key - 25) (drop 25 key))))
+unfolding H
+parts key e =
+    let rest : length (drop 25 key) ≤ length key - 25 = omega (arith, length-drop 25 key) in
+    h-cut 0 ipv4-width key (omega arith)
+    ∙ ap (bitXor (H-from 0 (take ipv4-width key))) (h-cut ipv4-width 12 (drop ipv4-width key) (omega (arith, length-drop ipv4-width key))
+    ∙ ap (λ (l : List ℕ). bitXor (H-from ipv4-width (take 12 (drop ipv4-width key))) (H-from 25 l))
+    (drop-drop 12 ipv4-width key ∙ sym (take-all (length key - 25) (drop 25 key) rest)))
+
+-- ---- the start: a key of 13 bytes or of 37
+module _ (c : tie.Start) where
+  abbrev key : List ℕ
+  key = c .args .key .now
+
+  some : ipv4-width ≤ length key
+  some = ⊎-elim (λ e. omega arith) (λ e. omega arith) (c .pre)
+
+  short : length key < ipv6-width → length key ≡ ipv4-width
+  short h = ⊎-elim (λ e. e) (λ e. absurd (omega arith)) (c .pre)
+
+  long : ipv6-width ≤ length key → length key ≡ ipv6-width
+  long h = ⊎-elim (λ e. absurd (omega arith)) (λ e. e) (c .pre)
 
 returns : tie.Need-returns
-unfolding rows H
+unfolding H
 returns c =
-    let c12 = c .before .before in
-    let c11 = c12 .before .before in
-    let c10 = c11 .before .before in
-    let c9 = c10 .before .before in
-    let c8 = c9 .before .before in
-    let c7 = c8 .before .before in
-    let c6 = c7 .before .before in
-    let c5 = c6 .before .before in
-    let c4 = c5 .before .before in
-    let c3 = c4 .before .before in
-    let c2 = c3 .before .before in
-    let c1 = c2 .before .before in
-    let s = c1 .before .before .before in
-    let key = s .args .key .now in
-    let e12 = byte-last key (s .pre) (c1 .byte-rows .ensures) in
-    let e11 = byte-more key (s .pre) 11 (lit< tt) (c2 .byte-rows2 .ensures) e12 in
-    let e10 = byte-more key (s .pre) 10 (lit< tt) (c3 .byte-rows3 .ensures) e11 in
-    let e9 = byte-more key (s .pre) 9 (lit< tt) (c4 .byte-rows4 .ensures) e10 in
-    let e8 = byte-more key (s .pre) 8 (lit< tt) (c5 .byte-rows5 .ensures) e9 in
-    let e7 = byte-more key (s .pre) 7 (lit< tt) (c6 .byte-rows6 .ensures) e8 in
-    let e6 = byte-more key (s .pre) 6 (lit< tt) (c7 .byte-rows7 .ensures) e7 in
-    let e5 = byte-more key (s .pre) 5 (lit< tt) (c8 .byte-rows8 .ensures) e6 in
-    let e4 = byte-more key (s .pre) 4 (lit< tt) (c9 .byte-rows9 .ensures) e5 in
-    let e3 = byte-more key (s .pre) 3 (lit< tt) (c10 .byte-rows10 .ensures) e4 in
-    let e2 = byte-more key (s .pre) 2 (lit< tt) (c11 .byte-rows11 .ensures) e3 in
-    let e1 = byte-more key (s .pre) 1 (lit< tt) (c12 .byte-rows12 .ensures) e2 in
-    byte-more key (s .pre) 0 (lit< tt) (c .byte-rows13 .ensures) e1
+    let start = c .before .before .before .before in
+    let e = short start (c .if1 .taken) in
+    c .before .first-bytes .ensures ∙ ap (H-from 0) (take-all ipv4-width (key start) (omega arith))
+
+last-bytes-requires : tie.Need-last-bytes-requires
+last-bytes-requires c κs =
+    let at = c .before .before .before in
+    let start = at .before .before .before .before in
+    let e = long start (omega arith) in
+    let rest = length-drop 25 (key start) in
+    length-take-le (length (key start) - 25) (drop 25 (key start)) (omega arith) ∙ omega arith
+
+returns-2 : tie.Need-returns-2
+returns-2 c =
+    let middle = c .before .before in
+    let at = middle .before .before in
+    let start = at .before .before .before .before in
+    rw (at .before .first-bytes .ensures, middle .middle-bytes .ensures, c .last-bytes .ensures) (sym (parts (key start) (long start (omega arith))))
 
 pub h-rows-spec : {M : Type 1} → statement M
 h-rows-spec =
-    tie.close (tie.spec (λ c. search needs) (λ c κs. tt) (λ c. search needs) (λ c κs. tt) (λ c. search needs) (λ c κs. tt) (λ c. search needs) (λ c κs. tt)
-    (λ c. search needs) (λ c κs. tt) (λ c. search needs) (λ c κs. tt) (λ c. search needs) (λ c κs. tt) (λ c. search needs) (λ c κs. tt)
-    (λ c. omega (arith, start c .pre)) (λ c κs. tt) (λ c. omega (arith, start (c .before .before) .pre)) (λ c κs. tt)
-    (λ c. omega (arith, start (c .before .before .before .before) .pre)) (λ c κs. tt)
-    (λ c. omega (arith, start (c .before .before .before .before .before .before) .pre)) (λ c κs. tt)
-    (λ c. omega (arith, start (c .before .before .before .before .before .before .before .before) .pre)) (λ c κs. tt) returns)
+    tie.close (tie.spec (λ c. sym (length-take-le ipv4-width (key (c .before .before)) (some (c .before .before))))
+    (λ c κs. length-take-le ipv4-width (key (c .before .before)) (some (c .before .before))) returns (λ c. search needs) (λ c. search needs)
+    (λ c. search needs) (λ c κs. search needs) (λ c. search needs) (λ c. search needs) (λ c. search needs) last-bytes-requires returns-2)

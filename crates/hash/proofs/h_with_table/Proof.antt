@@ -1,48 +1,71 @@
--- `hash::h_with_table` meets its contract: at byte i, h xor what the table gives for the bytes from i is what it gives for the key.
-use mathlib.Core.Path.{_≡_, refl, ap, _∙_}
-use Prim.Native.Nat.{ℕ, _+_, _*_, _≤_, _-_}
+-- `hash::h_with_table` meets its contract: the table's length says which way it is read, and at 13 bytes there is one way.
+use mathlib.Core.Path.{_≡_, refl, sym, ap, _∙_}
+use mathlib.Core.Bool.{true}
+use mathlib.Core.List.{List}
+use mathlib.Core.Logic.{⊎-elim}
+use Prim.Native.Nat.{ℕ}
 use native.Mathlib.Omega.{arith}
 use borrow.Author.Needs.{needs}
-use lib.Bits.{bitXor}
-use lib.ListN.{length, drop, getD}
-use Rattle.hash.specs.Table.{H-by-from, H-by}
-use Rattle.hash.proofs.KeyHashLaws.{by-more, by-end, by-right}
+use lib.ListN.{length}
+use Rattle.theory.specs.Hash.{H}
+use Rattle.theory.specs.Lists.{has}
+use Rattle.hash.specs.Table.{table-lengths, TableFor, H-by}
+use Rattle.hash.proofs.LentTableLaws.{lent-length, half-length}
+use Rattle.hash.proofs.KeyHashLaws.{ipv4-key, ipv4-fits, ipv4-gives, by-byte-is, by-half-is, by-right}
 use Rattle.hash.proofs.h_with_table.Statement.{statement}
 use Rattle.hash.proofs.h_with_table.Tie as tie
 
-abbrev Inv-loop : tie.InvT-loop
-Inv-loop t key h₀ i₀ h i = (i ≤ length key) × (bitXor h (H-by-from t i (drop i key)) ≡ H-by t key)
+-- ---- the start: what is given is all there is to prove
+module _ (c : tie.After-shared-slice-known2) where
+  abbrev start : tie.Start
+  start = c .before .before
 
-abbrev μ-loop : tie.MeasureT-loop
-μ-loop t key h₀ i₀ h i = length key - i
+  abbrev table : List ℕ
+  table = start .args .table .now
 
-loop-holds : tie.Need-loop-holds Inv-loop μ-loop
-unfolding H-by
-loop-holds c = (omega arith, refl)
+  abbrev key : List ℕ
+  key = start .args .key .now
 
-loop-again : tie.Need-loop-again Inv-loop μ-loop
-loop-again c =
-    let test = c .before .before .before in
-    let start = test .before .before .before .before in
-    let l = test .before .loop in
-    let table = start .args .table .now in (
-      omega arith,
-      by-more table (start .args .key .now) (l .i) (l .h) _ (test .loop-test .taken)
-          (ap (λ (v : ℕ). getD table (l .i * 256 + v) 0) (c .before .wide .ensures .0)) (l .inv .1),
-    )
+  gives : (r : ℕ) → r ≡ H-by table key → (r ≡ H-by table key) × (TableFor (length key) table → r ≡ H key)
+  gives r e = (e, λ right. e ∙ by-right (length key) table right (start .pre) key refl (λ j. omega (arith, c .shared-slice-known2 .given j)))
 
-returns : tie.Need-returns Inv-loop μ-loop
+-- ---- the key has 13 bytes
+module _ (c : tie.Then1) where
+  abbrev given : tie.After-shared-slice-known2
+  given = c .before
+
+  allows : has (length (table given)) (table-lengths (length (key given))) ≡ true
+  allows = start given .pre
+
+returns : tie.Need-returns
 returns c =
-    let start = c .before .before .before .before in
-    let key = start .args .key .now in
-    let l = c .before .loop in
-    let is = by-end (start .args .table .now) key (l .i) (l .h) (c .loop-test .left) (l .inv .1) in (
-      is,
-      λ right. is ∙ by-right (length key) (start .args .table .now) right key (omega arith)
-          (λ j. omega (arith, c .before .before .shared-slice-known2 .given j)),
-    )
+    let at = c .before .before in
+    gives (given at) _ (ipv4-gives (table (given at)) (key (given at)) (allows at) (at .if1 .taken) (c .by-bytes .ensures .0))
+
+-- ---- another width
+few : tie.Need-mul-if2
+few c =
+    let at = c .before in
+    ⊎-elim (λ e. search needs) (λ e. search needs) (lent-length (length (table at)) (length (key at)) (start at .pre))
+
+returns-2 : tie.Need-returns-2
+returns-2 c =
+    let at = c .before .before .before in
+    gives at _ (c .by-bytes2 .ensures .0 ∙ sym (by-byte-is (table at) (key at) (c .before .if2 .taken)))
+
+returns-3 : tie.Need-returns-3
+returns-3 c =
+    let at = c .before .before .before in
+    gives at _ (c .by-halves .ensures ∙ sym (by-half-is (table at) (key at) (c .before .if2 .left)))
+
+by-halves-requires : tie.Need-by-halves-requires
+by-halves-requires c κs =
+    let at = c .before .before in
+    let e = half-length (length (table at)) (length (key at)) (start at .pre) (c .if2 .left) in omega arith
 
 pub h-with-table-spec : {M : Type 1} → statement M
 h-with-table-spec =
-    tie.close (tie.spec Inv-loop μ-loop loop-holds (λ c. search needs) (λ c. search needs) (λ c κs. search needs) (λ c. search needs) (λ c. search needs)
-    (λ c. search needs) (λ c. search needs) (λ c. search needs) loop-again returns)
+    tie.close (tie.spec
+    (λ c. let at = c .before in sym (ap length (ipv4-key (table (given at)) (key (given at)) (allows at) (at .if1 .taken)) ∙ at .if1 .taken))
+    (λ c κs. let at = c .before in ipv4-fits (table (given at)) (key (given at)) (allows at) (at .if1 .taken)) returns few
+    (λ c κs. search needs) by-halves-requires returns-2 returns-3)

@@ -1,9 +1,9 @@
--- `hash::if_set` meets its contract: the bit is 0 or it is not.
+-- `hash::by_rows::if_set` meets its contract: the bit is 0 or it is not.
 use mathlib.Core.Path.{_≡_, refl, sym, ap}
 use Prim.Native.Nat.{ℕ, zero, suc}
 use Rattle.theory.specs.Hash.{if-set}
-use Rattle.hash.proofs.if_set.Statement.{statement}
-use Rattle.hash.proofs.if_set.Tie as tie
+use Rattle.hash.proofs.by_rows.if_set.Statement.{statement}
+use Rattle.hash.proofs.by_rows.if_set.Tie as tie
 
 unset : (b r : ℕ) → b ≡ 0 → 0 ≡ if-set b r
 unfolding if-set

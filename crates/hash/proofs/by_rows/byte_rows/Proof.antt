@@ -1,8 +1,8 @@
--- `hash::byte_rows` meets its contract: each bit's row, one inside the other; the last is xor 0.
+-- `hash::by_rows::byte_rows` meets its contract: each bit's row, one inside the other; the last is xor 0.
 use lib.Bits.{xor-zero-r}
 use Rattle.hash.specs.Table.{xor-set}
-use Rattle.hash.proofs.byte_rows.Statement.{statement}
-use Rattle.hash.proofs.byte_rows.Tie as tie
+use Rattle.hash.proofs.by_rows.byte_rows.Statement.{statement}
+use Rattle.hash.proofs.by_rows.byte_rows.Tie as tie
 
 returns : tie.Need-returns
 unfolding xor-set
