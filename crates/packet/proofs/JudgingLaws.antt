@@ -1,79 +1,70 @@
--- What judging a packet gives: the facts that reading counts on, and the answer of `read-packet` at each outcome.
-use mathlib.Core.Path.{_≡_, refl}
-use mathlib.Core.Bool.{Bool, true, false, cond}
+-- What judging a packet gives: the facts that reading counts on, and the answer at each outcome.
+use mathlib.Core.Path.{_≡_, ap}
+use mathlib.Core.Bool.{Bool, false}
 use mathlib.Core.List.{List}
+use mathlib.Core.Logic.{_≢_}
 use Prim.Native.Nat.{ℕ, _-_, _≤_}
 use native.Mathlib.Omega.{arith}
-use lib.ListN.{length, take, drop, replicate}
+use lib.ListN.{length, take, drop}
 use borrow.Author.Tests.{ltb-false, eq-eqb, ne-eqb}
-use Rattle.theory.specs.Packet.{header-length, has-ports, header-wrong, after-header, ports-cut, ports, packet-key, Keyed, read-packet}
-use Rattle.theory.proofs.PacketLaws.{fixed-there, header-within}
+use Rattle.theory.specs.Packet.{header-length, has-ports, header-wrong, after-header, ports-cut, cut-in, reading, Reading, Keyed, keyed}
+use Rattle.theory.specs.Packet6.{has-ports6, ports6-cut, reading6}
+use Rattle.theory.proofs.ListLaws.{by-test}
+use Rattle.theory.proofs.PacketLaws.{fixed-there, header-within, header6-there}
 use Rattle.memory.proofs.SliceLaws.{tail-is}
-use Rattle.packet.specs.Judging.{refusal-of, HeaderRight, Right}
+use Rattle.packet.specs.Judging.{refusal-of, PortsThere, HeaderRight, Right, Right6}
 
 -- an answer, and the buffer with it
 abbrev pub kept : ℕ → List ℕ → Keyed
 kept n buffer = record { number = n; buffer = buffer }
 
+-- ---- any packet, by what is read of it
+ports-there : (has : Bool) (after : List ℕ) → cut-in has after ≡ false → PortsThere has after
+ports-there has after whole some = ltb-false (length after) 4 (rw some at whole)
+
+module _ (r : Reading) where
+  -- no refusal: neither test holds
+  neither : r .header-number ≢ 0 → refusal-of r ≡ 0 → (r .wrong ≡ false) × (r .cut ≡ false)
+  unfolding refusal-of
+  neither some zero =
+      by-test (r .wrong) (λ e. absurd (some (rw e at zero)))
+      (λ right. by-test (r .cut) (λ e. absurd (omega (arith, rw (right, e) at zero))) (λ whole. (right, whole)))
+
+  module _ (buffer : List ℕ) where
+    pub keyed-3 : length buffer ≢ r .width → kept 3 buffer ≡ keyed r buffer
+    keyed-3 other = rw (ne-eqb (length buffer) (r .width) other)
+
+    module _ (right-length : length buffer ≡ r .width) where
+      pub keyed-refused : (n : ℕ) → n ≡ refusal-of r → n ≢ 0 → kept n buffer ≡ keyed r buffer
+      unfolding refusal-of
+      keyed-refused n e some =
+          rw (eq-eqb (length buffer) (r .width) right-length)
+          (by-test (r .wrong) (λ wrong. rw wrong (ap (λ (m : ℕ). kept m buffer) (rw wrong at e)))
+          (λ right. by-test (r .cut) (λ cut. rw (right, cut) (ap (λ (m : ℕ). kept m buffer) (rw (right, cut) at e)))
+          (λ whole. absurd (some (rw (right, whole) at e)))))
+
+      pub keyed-0 : r .header-number ≢ 0 → refusal-of r ≡ 0 → kept 0 (r .key) ≡ keyed r buffer
+      keyed-0 some zero = let told = neither some zero in rw (eq-eqb (length buffer) (r .width) right-length, told .0, told .1)
+
+-- ---- IPv4
 module _ (q : List ℕ) where
   pub header-right : header-wrong q ≡ false → HeaderRight q
   header-right e = record { fixed = fixed-there q e; within = header-within q e }
 
-  pub ports-there : ports-cut q ≡ false → has-ports q ≡ true → 4 ≤ length (after-header q)
+  pub unrefused-right : refusal-of (reading q) ≡ 0 → Right q
   unfolding ports-cut
-  ports-there whole has = ltb-false (length (after-header q)) 4 (rw has at whole)
+  unrefused-right zero =
+      let told = neither (reading q) (omega arith) zero in
+      record { header = header-right (told .0); ports = ports-there (has-ports q) (after-header q) (told .1) }
 
-  -- no refusal: neither test holds
-  neither : refusal-of q ≡ 0 → (header-wrong q ≡ false) × (ports-cut q ≡ false)
-  unfolding refusal-of
-  neither e = go (header-wrong q) (ports-cut q) e
-    where
-      go : (wrong cut : Bool) → _≡_ {A = ℕ} (cond wrong 10 (cond cut 11 0)) 0 → (wrong ≡ false) × (cut ≡ false)
-      go true cut e = absurd (omega arith)
-      go false true e = absurd (omega arith)
-      go false false e = (refl, refl)
-
-  pub unrefused-right : refusal-of q ≡ 0 → Right q
-  unrefused-right e = let n = neither e in record { header = header-right (n .0); ports = ports-there (n .1) }
-
-  pub no-ports : has-ports q ≡ false → replicate 4 0 ≡ ports q
-  unfolding ports
-  no-ports e = rw e
-
-  module _ (buffer : List ℕ) where
-    pub keyed-3 : (length buffer ≡ 13 → ⊥) → kept 3 buffer ≡ read-packet q buffer
-    unfolding read-packet
-    keyed-3 wrong = rw (ne-eqb (length buffer) 13 wrong)
-
-    module _ (right-length : length buffer ≡ 13) where
-      pub keyed-refused : (n : ℕ) → n ≡ refusal-of q → (n ≡ 0 → ⊥) → kept n buffer ≡ read-packet q buffer
-      unfolding read-packet refusal-of
-      keyed-refused n e some = rw (eq-eqb (length buffer) 13 right-length) (go (header-wrong q) (ports-cut q) e)
-        where
-          go : (wrong cut : Bool) → n ≡ cond wrong 10 (cond cut 11 0)
-              → kept n buffer ≡ cond wrong (kept 10 buffer) (cond cut (kept 11 buffer) (kept 0 (packet-key q)))
-          go true cut e = rw e
-          go false true e = rw e
-          go false false e = absurd (some e)
-
-      pub keyed-0 : refusal-of q ≡ 0 → kept 0 (packet-key q) ≡ read-packet q buffer
-      unfolding read-packet
-      keyed-0 e = let n = neither e in rw (eq-eqb (length buffer) 13 right-length, n .0, n .1)
-
--- ---- a packet that has ports: they stand in the part that is lent from the header's end on
-pub record PortsRead (q : List ℕ) (r : ℕ) : Type 0 where
-  pub right : Right q
-  pub has : has-ports q ≡ true
-  pub end : r ≡ header-length q
-
-module _ {q : List ℕ} {r : ℕ} (p : PortsRead q r) where
-  after-lent : take (length q - r) (drop r q) ≡ after-header q
+  -- what is lent to the port reader, from the header's end on
+  pub after-lent : (end : ℕ) → end ≡ header-length q → header-length q ≤ length q → take (length q - end) (drop end q) ≡ after-header q
   unfolding after-header
-  after-lent = rw (p .end) (tail-is (header-length q) q (p .right .header .within))
+  after-lent end is-end within = rw is-end (tail-is (header-length q) q within)
 
-  pub ports-fit : 4 ≤ length (take (length q - r) (drop r q))
-  ports-fit = rw after-lent (p .right .ports (p .has))
-
-  pub ports-lent : take 4 (take (length q - r) (drop r q)) ≡ ports q
-  unfolding ports
-  ports-lent = rw (after-lent, p .has)
+-- ---- IPv6
+pub unrefused-right6 : (q : List ℕ) → refusal-of (reading6 q) ≡ 0 → Right6 q
+unfolding ports6-cut
+unrefused-right6 q zero =
+    let told = neither (reading6 q) (omega arith) zero in
+    record { header = header6-there q (told .0); ports = ports-there (has-ports6 q) (drop 40 q) (told .1) }

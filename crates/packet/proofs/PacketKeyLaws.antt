@@ -35,3 +35,8 @@ key-written {w} {key} {source} {destination} {ports} p x =
     rw (next-part w w source (drop w key) destination (p .source-long), next-part (w + w) 4 (source ++ destination) left ports both-long)
     (ap (λ (end : List ℕ). set (((source ++ destination) ++ ports) ++ end) (w + w + 4) x) one-left
     ∙ set-at ((source ++ destination) ++ ports) (getD left 4 0) [] x (w + w + 4) all-long ∙ simp append-assoc)
+
+-- what is written is what each part should be
+pub parts-are : {source destination ports a b p : List ℕ} {x y : ℕ} → source ≡ a → destination ≡ b → ports ≡ p → x ≡ y
+    → source ++ destination ++ ports ++ (x ∷ []) ≡ a ++ b ++ p ++ (y ∷ [])
+parts-are source-is destination-is ports-is x-is = rw (source-is, destination-is, ports-is, x-is)

@@ -7,8 +7,9 @@ ghost use lib.ListN.{length};
 ghost use Rattle.theory.specs.Packet.{header-length, fragment-offset, has-ports, header-wrong};
 ghost use Rattle.theory.specs.Packet as packets;
 
-fn version(packet: &[u8]) -> u8
-    requires { ⌜ 20 ≤ length (now packet) ⌝ }
+// Of IPv4 and of IPv6: the high four bits of the first byte.
+pub fn version(packet: &[u8]) -> u8
+    requires { ⌜ 1 ≤ length (now packet) ⌝ }
     ensures { λ r. ⌜ r ≡ packets.version (now (packet .entry)) ⌝ }
 {
     packet[0] / 16

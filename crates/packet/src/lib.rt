@@ -5,15 +5,16 @@ use header::header_length;
 use header::header_wrong;
 use header::protocol;
 use memory::parts::copy;
-use memory::parts::zero_fill;
 use ports::read_ports;
 use settings::Settings;
 ghost use mathlib.Core.Path.{_≡_};
 ghost use lib.ListN.{length};
-ghost use Rattle.theory.specs.Packet.{ports-cut, ports, packet-key, Keyed, read-packet};
+ghost use Rattle.theory.specs.Settings.{ipv4-width};
+ghost use Rattle.theory.specs.Packet.{ports-cut, packet-key, reading, Keyed, read-packet};
 ghost use Rattle.packet.specs.Judging.{refusal-of, HeaderRight, Right};
 
 pub mod header; // header.rt: what the header says, and whether it is wrong
+pub mod ipv6; // ipv6.rt: the key of an IPv6 packet
 pub mod ports; // ports.rt: which protocols have ports, and where they stand
 
 // "11, protocol 6 or 17 with under 4 bytes after the header", and no later fragment.
@@ -26,7 +27,7 @@ fn ports_cut(packet: &[u8]) -> bool
 
 // 10, 11; else 0.
 fn refusal(packet: &[u8]) -> u32
-    ensures { λ r. ⌜ r ≡ refusal-of (now (packet .entry)) ⌝ }
+    ensures { λ r. ⌜ r ≡ refusal-of (reading (now (packet .entry))) ⌝ }
 {
     if header_wrong(packet) {
         return 10;
@@ -37,27 +38,15 @@ fn refusal(packet: &[u8]) -> u32
     0
 }
 
-// "Ports come from the part after the header, options skipped, for protocols 6 and 17; for others they are zero", and for later fragments.
-fn write_ports(packet: &[u8], to: &mut [u8])
-    requires { ⌜ Right (now packet) × (length (now to) ≡ 4) ⌝ }
-    ensures { λ _. ⌜ now (to .exit) ≡ ports (now (packet .entry)) ⌝ }
-{
-    if !has_ports(packet) {
-        zero_fill(to);
-        return;
-    }
-    let end = header_length(packet);
-    read_ports(&packet[end..], to);
-}
-
-// "source address, destination address, source port, destination port, protocol"
+// "Ports come from the part after the header, options skipped": "source address, destination address, source port, destination port, protocol"
 fn write_key(packet: &[u8], key: &mut [u8])
-    requires { ⌜ Right (now packet) × (length (now key) ≡ 13) ⌝ }
+    requires { ⌜ Right (now packet) × (length (now key) ≡ ipv4-width) ⌝ }
     ensures { λ _. ⌜ now (key .exit) ≡ packet-key (now (packet .entry)) ⌝ }
 {
     copy(&mut key[..4], &packet[12..16]);
     copy(&mut key[4..8], &packet[16..20]);
-    write_ports(packet, &mut key[8..12]);
+    let end = header_length(packet);
+    read_ports(&packet[end..], has_ports(packet), &mut key[8..12]);
     key[12] = protocol(packet);
 }
 
@@ -65,7 +54,7 @@ fn write_key(packet: &[u8], key: &mut [u8])
 pub fn read_packet_key(packet: &[u8], buffer: &mut [u8]) -> u32
     ensures { λ r. ⌜ _≡_ {A = Keyed} (record { number = r; buffer = now (buffer .exit) }) (read-packet (now (packet .entry)) (now (buffer .entry))) ⌝ }
 {
-    if buffer.len() != Settings::KEY_WIDTH {
+    if buffer.len() != Settings::IPV4_WIDTH {
         return 3;
     }
     let number = refusal(packet);
