@@ -11,7 +11,7 @@ use borrow.Author.Tests.{ne-eqb}
 use lib.ListN.{length, take, drop, set, replicate, length-set}
 use lib.Seq.{length-take-le, take-all}
 use Rattle.theory.specs.Records.{to-bytes, record-bytes}
-use Rattle.theory.specs.Settings.{in-range}
+use Rattle.theory.specs.Settings.{in-range, ipv4-width}
 use Rattle.theory.specs.BenchLoad.{Generator, draw, after-call, load-class, call-letter, load-key, load-call, call-bytes}
 use Rattle.theory.specs.BenchLoad.{draws, load-bytes, after-calls, load-in, load-asked, load-written}
 use Rattle.theory.proofs.BenchLoadLaws.{length-call, length-load, bytes-more, after-more, load-right, flows-allowed}
@@ -28,8 +28,8 @@ unfolding load-call
 search-letter flows first second a b c = rw (ne-eqb (first % 4) 0 a, ne-eqb (first % 4) 1 b, ne-eqb (first % 4) 2 c)
 
 -- a key is eight bytes at the front of a part and zeros after them
-module _ (to eight : List ℕ) (size : length to ≡ 13) (e : length eight ≡ 8) where
-  front-long : length (eight ++ drop 8 to) ≡ 13
+module _ (to eight : List ℕ) (size : length to ≡ ipv4-width) (e : length eight ≡ 8) where
+  front-long : length (eight ++ drop 8 to) ≡ ipv4-width
   front-long = front-length 8 to eight (omega arith) e ∙ size
 
   pub zeros-lent : length (take (length (eight ++ drop 8 to) - 8) (drop 8 (eight ++ drop 8 to))) ≡ 5
@@ -55,7 +55,7 @@ abbrev pub lettered : List ℕ → ℕ → List ℕ
 lettered to letter = set to 0 letter
 
 abbrev pub keyed : List ℕ → ℕ → List ℕ → List ℕ
-keyed to letter key = back 1 13 (lettered to letter) key
+keyed to letter key = back 1 ipv4-width (lettered to letter) key
 
 module _ (to : List ℕ) (letter : ℕ) (size : length to ≡ 18) where
   pub lettered-long : length (lettered to letter) ≡ 18
@@ -65,14 +65,14 @@ module _ (to : List ℕ) (letter : ℕ) (size : length to ≡ 18) where
   letter-first [] h = absurd (omega arith)
   letter-first (x ∷ xs) h = refl
 
-  module _ (key : List ℕ) (e : length key ≡ 13) where
+  module _ (key : List ℕ) (e : length key ≡ ipv4-width) where
     pub keyed-long : length (keyed to letter key) ≡ 18
-    keyed-long = length-back 1 13 (lettered to letter) key (omega (arith, lettered-long)) e ∙ lettered-long
+    keyed-long = length-back 1 ipv4-width (lettered to letter) key (omega (arith, lettered-long)) e ∙ lettered-long
 
     pub call-back : (class : List ℕ) → back 14 (length (keyed to letter key) - 14) (keyed to letter key) class ≡ letter ∷ (key ++ class)
     call-back class =
         rw (tail-back 14 (keyed to letter key) class (omega (arith, keyed-long)))
-        (rw (take-back 1 13 (lettered to letter) key (omega (arith, lettered-long)) e, letter-first to size, append-assoc))
+        (rw (take-back 1 ipv4-width (lettered to letter) key (omega (arith, lettered-long)) e, letter-first to size, append-assoc))
 
 -- ---- a buffer of n bytes up to `at`: so many calls from g, and the generator after them
 pub record Filled (flows : ℕ) (g : Generator) (n : ℕ) (to : List ℕ) (now : Generator) (at : ℕ) : Type 0 where

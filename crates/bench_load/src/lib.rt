@@ -6,7 +6,7 @@ use memory::records::write_class;
 ghost use mathlib.Core.Path.{_≡_};
 ghost use Prim.Native.Nat.{ℕ, _/_, _%_, _<_, min};
 ghost use lib.ListN.{length};
-ghost use Rattle.theory.specs.Settings.{in-range};
+ghost use Rattle.theory.specs.Settings.{in-range, ipv4-width};
 ghost use Rattle.theory.specs.BenchLoad.{stepped, next-number, draw, after-call, load-class, call-letter, load-key, load-call, call-bytes};
 ghost use Rattle.theory.specs.BenchLoad.{load-bytes, after-calls, load-asked};
 ghost use Rattle.bench_load.specs.Loads.{generator-of, drawn, asked-of, Cut};
@@ -51,7 +51,7 @@ fn letter(first: u64) -> u8
 
 // "the key is the second mod F in eight bytes, high byte first, then five zero bytes"
 pub fn write_key(to: &mut [u8], flows: u64, second: u64)
-    requires { ⌜ (length (now to) ≡ 13) × (0 < flows) ⌝ }
+    requires { ⌜ (length (now to) ≡ ipv4-width) × (0 < flows) ⌝ }
     ensures { λ _. ⌜ ((first : ℕ) → now (to .exit) ≡ load-key flows (drawn first second)) ⌝ }
 {
     write_eight(&mut to[..8], second % flows);

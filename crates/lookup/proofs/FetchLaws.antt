@@ -7,12 +7,13 @@ use lib.Dec.{eqb}
 use borrow.Author.Tests.{eqb-true, eqb-false}
 use lib.ListN.{length, take, drop}
 use denote.Ref.{RefT, now}
-use Rattle.theory.specs.Settings.{Settings, card-of, buckets-length, side-length}
+use Rattle.theory.specs.Settings.{Settings, card-of, record-size, buckets-length, side-length}
+use Rattle.theory.specs.Records.{class-width}
 use Rattle.theory.specs.Lookup.{RecordPlace, search-areas, fetch-areas, record-place}
 use Rattle.theory.proofs.ListLaws.{by-test}
 use Rattle.theory.proofs.SettingsLaws.{sound}
 use Rattle.theory.proofs.RecordPlaceLaws.{held-bytes, held-area, not-held, held-inside}
-use Rattle.settings.proofs.Laws.{record-size-is}
+use Rattle.settings.proofs.Laws.{width-is, record-size-is}
 use Rattle.lookup.specs.declared.locating.Located.{Located}
 use Rattle.lookup.specs.declared.judging.Judged.{Judged}
 use Rattle.lookup.specs.declared.judging.Judged.the-variants.{Ready, Refused}
@@ -42,6 +43,7 @@ module _ {t : Settings} {clipped buckets side key : List ℕ} {r : Located} (cal
   -- ---- somewhere: the key is held, and its record lies there
   record Held : Type 0 where
     checked : CheckedLookup t clipped buckets side
+    wide : length key ≡ card-of t .width
     held : number ≡ 0
     there : lies-at r ≡ record-place (card-of t) clipped buckets side key
     passed : refused-or t clipped buckets side key (λ n. []) fetched ≡ fetched
@@ -53,6 +55,7 @@ module _ {t : Settings} {clipped buckets side key : List ℕ} {r : Located} (cal
       let at = call .lies ∙ place-ready t clipped buckets side key c e in
       record {
         checked = rw (good .same) at (good .checked);
+        wide = rw (good .same) at (good .wide);
         held = by-test (eqb number 0) (λ z. eqb-true number 0 z)
             (λ z. let away = not-held (card-of t) clipped buckets side key (eqb-false number 0 z) .0 in
             absurd (some (ap (λ (x : RecordPlace). x .area) (at ∙ away))));
@@ -96,20 +99,25 @@ module _ {t : Settings} {clipped : List ℕ} {buckets side : RefT (List ℕ)} {k
   lent-area true = refl
   lent-area false = refl
 
-  pub record-inside : r .start + 17 ≤ length (now (one-of g buckets side))
+  -- a record is four bytes longer than its key
+  pub size-is : length key + class-width ≡ record-size (card-of t)
+  size-is = rw (here .wide, record-size-is t, width-is t)
+
+  pub record-inside : r .start + record-size (card-of t) ≤ length (now (one-of g buckets side))
   record-inside =
-      rw (start-is, ← lent-length g, ← area-is, ← record-size-is t)
+      rw (start-is, ← lent-length g, ← area-is)
       (held-inside (card-of t) clipped (now buckets) (now side) key (sound t (here .checked .ok)) (here .held))
 
-  pub fetched-there : {x : RefT (List ℕ)} → PartAt 17 (r .start) (one-of g buckets side) x → FetchedCall t clipped buckets side key x
+  pub fetched-there : {x : RefT (List ℕ)} → PartAt (record-size (card-of t)) (r .start) (one-of g buckets side) x → FetchedCall t clipped buckets side key x
   fetched-there {x} part =
-      let bytes = rw (record-size-is t) at (held-bytes (card-of t) clipped (now buckets) (now side) key (here .held)) in
+      let size = record-size (card-of t) in
+      let bytes = held-bytes (card-of t) clipped (now buckets) (now side) key (here .held) in
       record {
         is = fetch-performs t clipped (now buckets) (now side) key (now x)
             (here .passed ∙ bytes
-            ∙ ap (λ (b : Bool). take 17 (drop (lies .start) (cond b (now buckets) (now side)))) area-is
-            ∙ ap (λ (l : List ℕ). take 17 (drop (lies .start) l)) (lent-area g)
-            ∙ ap (λ (n : ℕ). take 17 (drop n (now (one-of g buckets side)))) (sym start-is)
+            ∙ ap (λ (b : Bool). take size (drop (lies .start) (cond b (now buckets) (now side)))) area-is
+            ∙ ap (λ (l : List ℕ). take size (drop (lies .start) l)) (lent-area g)
+            ∙ ap (λ (n : ℕ). take size (drop n (now (one-of g buckets side)))) (sym start-is)
             ∙ sym (part .bytes));
-        lies = λ _. rw (area-is, ← start-is, record-size-is t) part;
+        lies = λ _. rw (area-is, ← start-is) part;
       }

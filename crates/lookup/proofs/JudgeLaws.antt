@@ -16,9 +16,7 @@ use Rattle.theory.specs.Lookup.{Answer, bare, search-areas, fetch-areas, driver
 use Rattle.theory.specs.Ledger.{search, fetch, Step, answered, handed, key-wrong}
 use Rattle.theory.specs.Calls.{call, lookup-lengths, lent-lengths, perform}
 use Rattle.theory.proofs.ListLaws.{and-left, and-right, by-test, all-each}
-use Rattle.hash.specs.Digits.{table-length}
 use Rattle.hash.specs.Table.{table-lengths}
-use Rattle.hash.proofs.TableLaws.{length-allowed, lent-length}
 use Rattle.settings.specs.declared.Settings.{Settings}
 use Rattle.settings.specs.Checked.{paper, code, card}
 use Rattle.lookup.specs.declared.judging.Judged.{Judged}
@@ -128,11 +126,9 @@ module _ {t : plain.Settings} {clipped buckets side key : List ℕ} {c : Setting
       ∙ ap (λ (u : plain.Settings). search-areas (card-of u) clipped buckets side key) (u .same)))
 
 -- ---- with a lent table, whose length is judged by the width of the code's settings
-pub table-right : (table : List ℕ) {t : plain.Settings} {s : Settings} {w : ℕ} → paper s ≡ t → w ≡ card s .width
-    → has (length table) (table-lengths (card-of t .width)) ≡ eqb (length table) (w * 256)
-table-right table same wide =
-    length-allowed _ _
-    ∙ ap (λ (w : ℕ). eqb (length table) (w * 256)) (ap (λ (u : plain.Settings). card-of u .width) (sym same) ∙ sym wide)
+pub table-right : (table : List ℕ) {t : plain.Settings} {s : Settings} {w : ℕ} {r : Bool} → paper s ≡ t → w ≡ card s .width
+    → r ≡ has (length table) (table-lengths w) → has (length table) (table-lengths (card-of t .width)) ≡ r
+table-right table same wide told = rw (← same, ← wide) (sym told)
 
 module _ (table : List ℕ) (t : plain.Settings) (clipped buckets side key : List ℕ) where
   abbrev long : Bool
@@ -151,11 +147,9 @@ module _ (table : List ℕ) (t : plain.Settings) (clipped buckets side key : Lis
       (λ l. let e′ = rw (a, l) at e in let z : _≡_ {A = ℕ} 0 1 = cc in absurd (omega arith)))
       (λ a. let e′ = rw a at e in let z : _≡_ {A = ℕ} 0 1 = cc in absurd (omega arith))
 
-  -- and the table is long enough to hash the key with
-  pub lent-long : (c : Settings) → judged-with-table table t clipped buckets side key ≡ Ready c → table-length 8 (length key) ≤ length table
-  lent-long c e =
-      let fine = lent-unrefused c e in
-      omega (arith, lent-length _ _ (fine .0), fine .1 .wide, ap (λ (u : plain.Settings). card-of u .width) (fine .1 .same))
+  -- and the table is of a length to hash the key with
+  pub lent-long : (c : Settings) → judged-with-table table t clipped buckets side key ≡ Ready c → has (length table) (table-lengths (length key)) ≡ true
+  lent-long c e = let fine = lent-unrefused c e in rw (fine .1 .wide, fine .1 .same) (fine .0)
 
 -- ---- a burst of n keys
 pub record UnrefusedBurst (table : List ℕ) (t : plain.Settings) (clipped buckets side keys : List ℕ) (n : ℕ) (c : Settings) : Type 0 where

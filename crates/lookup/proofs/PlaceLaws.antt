@@ -3,7 +3,7 @@ use mathlib.Core.Path.{_≡_, refl, sym, ap, _∙_, subst}
 use mathlib.Core.Bool.{Bool, true, false, not, _&&_}
 use mathlib.Core.List.{List, [], _∷_}
 use Prim.Native.Nat.{ℕ, zero, suc, _+_, _-_, _*_, _≤_, _<_}
-use native.Mathlib.Nat.{add-zero}
+use native.Mathlib.Nat.{add-zero, mul-comm, mul-le-mul-right}
 use native.Mathlib.Omega.{arith}
 use lib.Dec.{eqb}
 use borrow.Author.Tests.{lt-ltb, le-ltb, eq-eqb, ne-eqb}
@@ -11,7 +11,7 @@ use lib.ListN.{length, take, drop, getD, length-drop}
 use lib.Seq.{getD-take, getD-drop, drop-drop}
 use Rattle.theory.specs.Lists.{least}
 use Rattle.theory.specs.Hash.{H}
-use Rattle.theory.specs.Records.{count-of}
+use Rattle.theory.specs.Records.{class-width, count-of}
 use Rattle.theory.specs.Settings.{Settings, Card, allowed, card-of, record-size, bucket-size, buckets-length}
 use Rattle.theory.specs.Placing.{all-top, least-count, chosen}
 use Rattle.theory.specs.Lookup as plain
@@ -21,8 +21,8 @@ use Rattle.theory.proofs.ListLaws.{by-test}
 use Rattle.theory.proofs.SettingsLaws.{ranges, Sound, sound, numbers-of-below}
 use Rattle.theory.proofs.PlacingLaws.{all-top-least, chosen-below}
 use Rattle.theory.proofs.LookupLaws.{by-least}
-use Rattle.memory.proofs.SliceLaws.{length-part}
-use Rattle.settings.proofs.Laws.{width-is, room-is, bucket-size-is, side-length-is, bounds}
+use Rattle.memory.proofs.SliceLaws.{length-part, lent-is}
+use Rattle.settings.proofs.Laws.{width-is, room-is, record-size-is, bucket-size-is, side-length-is, bounds}
 use Rattle.lookup.specs.declared.counters.KeyCounters.{KeyCounters}
 use Rattle.lookup.specs.Scanning.{Scannable, AllScannable}
 use Rattle.lookup.specs.Choosing.{card-at, KeyCountersOf}
@@ -105,16 +105,23 @@ module _ {t : Settings} {buckets : List ℕ} {b at : ℕ} (m : MarkAt t buckets 
             goes = (rw (mark-is, ne-eqb (getD buckets at 0) 255 ne), ap (λ (x : ℕ). x + 1) (m .start));
           }
 
+-- ---- a bucket after its mark, as it is lent
+pub bucket-lent : (t : Settings) (from : ℕ) (buckets : List ℕ) {size : ℕ} → size ≡ bucket-size (card-of t)
+    → take (from + (size - 1) - from) (drop from buckets) ≡ take (bucket-size (card-of t) - 1) (drop from buckets)
+bucket-lent t from buckets e = lent-is from _ _ _ buckets _ refl (ap (λ (z : ℕ). z - 1) e) refl
+
 -- ---- what is compared may be scanned: a bucket after its mark, and the side store after its count
 pub bucket-scannable : {t : Settings} {buckets key : List ℕ} {from n : ℕ} → InBucket t buckets key from n
     → AllScannable (take (bucket-size (card-of t) - 1) (drop from buckets)) n (t .room) key
 bucket-scannable {t} {buckets} {key} {from} p =
-    let wide : length key ≡ 13 = p .wide ∙ width-is t in
+    let wide = p .wide ∙ width-is t in
     let r = ranges t (p .ok) in
+    let size : record-size (card-of t) ≡ length key + class-width = record-size-is t ∙ rw wide in
     record {
-      fits = rw (length-part from (bucket-size (card-of t) - 1) buckets (p .inside), wide, bucket-size-is t) (omega arith);
-      long = omega (arith, wide);
-      short = omega (arith, wide);
+      fits = rw (length-part from (bucket-size (card-of t) - 1) buckets (p .inside), bucket-size-is t, size, mul-comm (length key + class-width) (t .room))
+          (omega arith);
+      long = omega (arith, wide, r .width-low);
+      short = omega (arith, wide, r .width-high);
       few = p .few;
       some = r .room-low;
       most = omega (arith, r .room-high);
@@ -126,10 +133,13 @@ module _ {t : Settings} {side key : List ℕ} {n : ℕ} (p : InSide t side key n
 
   pub side-scannable : Scannable (drop 2 side) n key × (n ≤ 4096)
   side-scannable =
-      let wide : length key ≡ 13 = p .wide ∙ width-is t in
-      let size = p .side-size ∙ side-length-is t in
+      let wide = p .wide ∙ width-is t in
+      let one : record-size (card-of t) ≡ length key + class-width = record-size-is t ∙ rw wide in
+      let size : length side ≡ 2 + t .side-places * (length key + class-width) =
+      p .side-size ∙ side-length-is t ∙ rw (one, mul-comm (length key + class-width) (t .side-places)) in
       let r = ranges t (p .ok) in
-      (record { fits = rw (length-drop, wide, size) (omega (arith, p .few)); short = omega (arith, wide) }, omega (arith, p .few))
+      let there : n * (length key + class-width) ≤ t .side-places * (length key + class-width) = mul-le-mul-right (length key + class-width) (p .few) in
+      (record { fits = rw (length-drop, size) (omega (arith, there)); short = omega (arith, wide, r .width-high) }, omega (arith, p .few, r .side-high))
 
 -- ---- by the counters
 module _ (t : Settings) (ok : allowed t ≡ true) (h : ℕ) where

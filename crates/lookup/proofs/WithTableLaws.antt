@@ -57,7 +57,7 @@ module _ (table : List ℕ) (t : plain.Settings) (clipped buckets side key : Lis
     performs (Ready c) e =
         let u = lent-unrefused table t clipped buckets side key c e .1 in
         let wide : length key ≡ card-of t .width = u .wide ∙ ap (λ (v : plain.Settings). card-of v .width) (u .same) in
-        search-answered u (H-by table key) (by-right (card-of t .width) table right key (omega (arith, wide)) bytes) _
+        search-answered u (H-by table key) (by-right (card-of t .width) table right long key wide bytes) _
         (sym (with-ready c e (paper c) (u .same) (H-by table key) refl))
 
     pub with-performs : Searched t clipped buckets side key (search-with table t clipped buckets side key)

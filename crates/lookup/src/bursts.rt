@@ -10,9 +10,12 @@ use crate::places::Place;
 use crate::places::place_by;
 use crate::searching::Answer;
 use crate::searching::bare;
-use crate::searching::compare_bucket;
+use crate::searching::compare_ipv4_bucket;
 use crate::searching::compare_side;
+use crate::searching::compare_wide_bucket;
 use crate::searching::driver_number;
+use hash::by_table::by_bytes;
+use hash::h_with_table;
 use memory::picks::pick64;
 use memory::records::key_at;
 use settings::Given;
@@ -64,7 +67,13 @@ fn search_chosen(
     match place {
         Place::Invalid => bare(5),
         Place::Nowhere => bare(100),
-        Place::Bucket { from, records } => compare_bucket(s, buckets, from, records, key),
+        Place::Bucket { from, records } => {
+            if s.width == Settings::IPV4_WIDTH {
+                compare_ipv4_bucket(s, buckets, from, records, key)
+            } else {
+                compare_wide_bucket(s, &buckets[..], from, records, &key[..])
+            }
+        }
         Place::Side { records, read } => compare_side(s, side, records, read, key),
     }
 }
@@ -79,7 +88,12 @@ fn hash_all(s: Settings, table: &[u64], keys: &[u8], answers: &mut [u64])
     let width = s.width();
     let mut i: usize = 0;
     while i < answers.len() {
-        answers[i] = hash::h_with_table(table, key_at(keys, i, width, width));
+        let one = key_at(keys, i, width, width);
+        answers[i] = if width == Settings::IPV4_WIDTH {
+            by_bytes(table, &one[..Settings::IPV4_WIDTH])
+        } else {
+            h_with_table(&table[..], &one[..])
+        };
         i += 1;
     }
 }

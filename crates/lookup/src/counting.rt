@@ -7,8 +7,11 @@ use crate::places::Place;
 use crate::places::place_by;
 use crate::searching::Answer;
 use crate::searching::bare;
-use crate::searching::compare_bucket;
+use crate::searching::compare_ipv4_bucket;
 use crate::searching::compare_side;
+use crate::searching::compare_wide_bucket;
+use hash::by_table::by_bytes;
+use hash::h_with_table;
 use settings::Given;
 use settings::Settings;
 ghost use mathlib.Core.Path.{_≡_};
@@ -35,7 +38,13 @@ fn counted_at(
     match place {
         Place::Invalid => bare(5),
         Place::Nowhere => bare(100),
-        Place::Bucket { from, records } => compare_bucket(s, buckets, from, records, key),
+        Place::Bucket { from, records } => {
+            if s.width == Settings::IPV4_WIDTH {
+                compare_ipv4_bucket(s, buckets, from, records, key)
+            } else {
+                compare_wide_bucket(s, &buckets[..], from, records, &key[..])
+            }
+        }
         Place::Side { records, read } => compare_side(s, side, records, read, key),
     }
 }
@@ -55,7 +64,11 @@ pub fn search_counted(
     match judged {
         Judged::Refused(number) => bare(number),
         Judged::Ready(s) => {
-            let h = hash::h_with_table(table, key);
+            let h = if s.width() == Settings::IPV4_WIDTH {
+                by_bytes(table, &key[..Settings::IPV4_WIDTH])
+            } else {
+                h_with_table(&table[..], &key[..])
+            };
             counted_at(s, h, clipped, buckets, side, key)
         }
     }

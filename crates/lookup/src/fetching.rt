@@ -5,7 +5,8 @@ use settings::Settings;
 ghost use Rattle.settings.specs.Checked.{given-of};
 ghost use Rattle.lookup.specs.Parts.{FetchedCall};
 
-// The second search call: "hands back the 17 bytes themselves, out of the buckets or out of the side store, and an empty part when absent or refused".
+// The second search call: "hands back the 17 bytes themselves", the bytes of the record, "out of the buckets or out of the side store, and an empty part when
+// absent or refused".
 pub fn fetch<'a, 'b>(
     given: Given,
     clipped: &'b [u8],
@@ -22,7 +23,7 @@ pub fn fetch<'a, 'b>(
         return &buckets[..0];
     }
     let start = found.start as usize;
-    let end = start + (Settings::KEY_WIDTH + Settings::CLASS_WIDTH);
+    let end = start + (key.len() + Settings::CLASS_WIDTH);
     if area == 1 {
         return &buckets[start..end];
     }

@@ -65,7 +65,7 @@ pub fn judge_with_table(
     let Checked::Allowed(s) = checked else {
         return Judged::Refused(1);
     };
-    if table.len() != s.width() * 256 {
+    if !hash::table_length_right(table.len(), s.width()) {
         return Judged::Refused(2);
     }
     judge_areas(s, clipped, buckets, side, key)
@@ -88,7 +88,7 @@ pub fn judge_burst(
         return Judged::Refused(1);
     };
     let width = s.width();
-    let table_right = table.len() == width * 256;
+    let table_right = hash::table_length_right(table.len(), width);
     if !(table_right & areas_right(s, clipped, buckets, side)) {
         return Judged::Refused(2);
     }

@@ -6,13 +6,15 @@ use crate::places::Place;
 use crate::places::find_place;
 use crate::scanning::scan;
 use crate::scanning::scan_all;
+use hash::by_table::by_bytes;
+use hash::h_with_table;
 use memory::picks::pick32;
 use settings::Given;
 use settings::Settings;
 ghost use mathlib.Core.Path.{_≡_};
 ghost use Prim.Native.Nat.{_-_, _≤_};
 ghost use lib.ListN.{length, take, drop};
-ghost use Rattle.theory.specs.Settings.{bucket-size};
+ghost use Rattle.theory.specs.Settings.{ipv4-width, bucket-size};
 ghost use Rattle.theory.specs.Lookup as plain;
 ghost use Rattle.theory.specs.Layout.{Areas};
 ghost use Rattle.theory.specs.Ledger.{Step, answered};
@@ -96,16 +98,45 @@ fn compare_all(place: &[u8], n: usize, room: usize, key: &[u8], read: u32, side:
     }
 }
 
-// The records of a bucket, which start after its mark.
-pub fn compare_bucket(s: Settings, buckets: &[u8], from: usize, n: usize, key: &[u8]) -> Answer
+// The records of a bucket, which start after its mark, with the width of an IPv4 flow's key as a constant, which the compiler knows. The searches that are
+// to be fast ask for the width themselves, and call this one or the next: the compiler then makes one piece of it and its caller.
+pub fn compare_ipv4_bucket(s: Settings, buckets: &[u8], from: usize, n: usize, key: &[u8]) -> Answer
+    requires { ⌜ InBucket (paper s) (now buckets) (now key) from n × (s .width ≡ ipv4-width) ⌝ }
+    ensures { λ r. ⌜ answer-of r ≡ plain.answer-at (card s) (now (key .entry))
+        (plain.among (take (bucket-size (card s) - 1) (drop from (now (buckets .entry)))) n 1 0) ⌝ }
+{
+    let end = from + (s.bucket_size() - 1);
+    compare_all(
+        &buckets[from..end],
+        n,
+        s.room,
+        &key[..Settings::IPV4_WIDTH],
+        1,
+        0,
+    )
+}
+
+// The same with a key of any width.
+pub fn compare_wide_bucket(s: Settings, buckets: &[u8], from: usize, n: usize, key: &[u8]) -> Answer
     requires { ⌜ InBucket (paper s) (now buckets) (now key) from n ⌝ }
     ensures { λ r. ⌜ answer-of r ≡ plain.answer-at (card s) (now (key .entry))
         (plain.among (take (bucket-size (card s) - 1) (drop from (now (buckets .entry)))) n 1 0) ⌝ }
 {
     let end = from + (s.bucket_size() - 1);
-    // the width as the settings have it, which the compiler knows
-    let width = s.width();
-    compare_all(&buckets[from..end], n, s.room, &key[..width], 1, 0)
+    compare_all(&buckets[from..end], n, s.room, key, 1, 0)
+}
+
+// The one or the other.
+pub fn compare_bucket(s: Settings, buckets: &[u8], from: usize, n: usize, key: &[u8]) -> Answer
+    requires { ⌜ InBucket (paper s) (now buckets) (now key) from n ⌝ }
+    ensures { λ r. ⌜ answer-of r ≡ plain.answer-at (card s) (now (key .entry))
+        (plain.among (take (bucket-size (card s) - 1) (drop from (now (buckets .entry)))) n 1 0) ⌝ }
+{
+    if s.width == Settings::IPV4_WIDTH {
+        compare_ipv4_bucket(s, buckets, from, n, key)
+    } else {
+        compare_wide_bucket(s, buckets, from, n, key)
+    }
 }
 
 // The records of the side store, which start after its count.
@@ -133,7 +164,13 @@ pub fn search_at(
     match place {
         Place::Invalid => bare(5),
         Place::Nowhere => bare(100),
-        Place::Bucket { from, records } => compare_bucket(s, buckets, from, records, key),
+        Place::Bucket { from, records } => {
+            if s.width == Settings::IPV4_WIDTH {
+                compare_ipv4_bucket(s, buckets, from, records, key)
+            } else {
+                compare_wide_bucket(s, &buckets[..], from, records, &key[..])
+            }
+        }
         Place::Side { records, read } => compare_side(s, side, records, read, key),
     }
 }
@@ -168,7 +205,12 @@ pub fn search_with_table(
     match judged {
         Judged::Refused(number) => bare(number),
         Judged::Ready(s) => {
-            let h = hash::h_with_table(table, key);
+            // the width of an IPv4 flow's key as a constant, which the compiler knows
+            let h = if s.width() == Settings::IPV4_WIDTH {
+                by_bytes(table, &key[..Settings::IPV4_WIDTH])
+            } else {
+                h_with_table(&table[..], &key[..])
+            };
             search_at(s, h, clipped, buckets, side, key)
         }
     }

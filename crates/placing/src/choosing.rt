@@ -1,4 +1,6 @@
 // Where each key of a list goes, by its true counts: to the side if all are top or more, else to the bucket that it chooses.
+use hash::by_table::by_bytes;
+use hash::h_with_table;
 use memory::picks::pick;
 use memory::records::key_at;
 use settings::Settings;
@@ -59,7 +61,12 @@ fn choose(s: Settings, table: &[u64], counts: &[u16], key: &[u8]) -> Choice
     ensures { λ r. ⌜ (r .«all_top» ≡ all-top (card s) (nth (now (counts .entry))) (now (key .entry)))
         × (r .bucket ≡ chosen (card s) (nth (now (counts .entry))) (now (key .entry))) ⌝ }
 {
-    let h = hash::h_with_table(table, key);
+    // the width of an IPv4 flow's key as a constant, which the compiler knows
+    let h = if s.width == Settings::IPV4_WIDTH {
+        by_bytes(table, &key[..Settings::IPV4_WIDTH])
+    } else {
+        h_with_table(table, key)
+    };
     choose_at(s, h, counts)
 }
 

@@ -1,4 +1,6 @@
 // How many keys of a list have each bucket among theirs: its true counts.
+use hash::by_table::by_bytes;
+use hash::h_with_table;
 use memory::picks::pick;
 use memory::records::key_at;
 use settings::Settings;
@@ -49,7 +51,13 @@ pub fn count_more(s: Settings, table: &[u64], counts: &mut [u16], area: &[u8], n
     let size = s.record_size();
     let mut i: usize = 0;
     while i < n {
-        let h = hash::h_with_table(table, key_at(area, i, size, width));
+        let key = key_at(area, i, size, width);
+        // the width of an IPv4 flow's key as a constant, which the compiler knows
+        let h = if width == Settings::IPV4_WIDTH {
+            by_bytes(table, &key[..Settings::IPV4_WIDTH])
+        } else {
+            h_with_table(table, key)
+        };
         raise_at(s, h, counts);
         i += 1;
     }

@@ -97,7 +97,7 @@ module _ {t : Settings} {buckets : List ℕ} {m size : ℕ} (r : Rows t buckets 
       (map-cong (λ b. getD (bucket-part (card-of t) buckets b) 0 0) (mark-at buckets (bucket-size (card-of t))) (upto 0 (card-of t .buckets))
       (all-every (λ b. mark-is {t = t} {buckets = buckets} {b = b} (record { ok = r .ok; start = refl })) (upto 0 (card-of t .buckets))))
 
-  pub mark-there : (b : ℕ) → b < m → (b * size < length buckets) × (b * size ≤ 282624)
+  pub mark-there : (b : ℕ) → b < m → (b * size < length buckets) × (b * size ≤ 675840)
   mark-there b lt =
       let bound = bounds t (r .ok) in
       let within = bucket-within t b (omega (arith, r .m-is)) in

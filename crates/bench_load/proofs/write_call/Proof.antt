@@ -5,6 +5,7 @@ use Prim.Native.Nat.{ℕ}
 use native.Mathlib.Omega.{arith}
 use lib.ListN.{length}
 use borrow.Author.Needs.{needs}
+use Rattle.theory.specs.Settings.{ipv4-width}
 use Rattle.theory.proofs.BenchLoadLaws.{length-load-key, length-call}
 use Rattle.memory.proofs.SliceLaws.{length-tail}
 use Rattle.bench_load.proofs.LoadLaws.{lettered, lettered-long, keyed, keyed-long, call-back, call-written}
@@ -32,7 +33,7 @@ module _ (c : tie.After-write-key) where
   abbrev key : List ℕ
   key = c .write-key .last .0
 
-  key-long : length key ≡ 13
+  key-long : length key ≡ ipv4-width
   key-long = ap length (c .write-key .ensures 0) ∙ length-load-key _ _
 
   long-2 : length (keyed (to at-letter) (letter at-letter) key) ≡ 18

@@ -21,9 +21,14 @@ module _ (c : tie.After-place-by) where
 pub search-chosen-spec : {M : Type 1} → statement M
 search-chosen-spec =
     tie.close (tie.spec (λ c κs. let pre = c .before .before .before .pre in (pre .checked, pre .fits)) (λ c. search needs) (λ c κs. search needs)
-    (λ c. search needs) (λ c κs. search needs) (λ c. search needs) (λ c κs. in-bucket (looking (c .before .before .before)) (c .before .place .given .1))
+    (λ c. search needs) (λ c κs. search needs) (λ c. search needs)
+    (λ c κs. (in-bucket (looking (c .before .before .before .before .before)) (c .before .before .before .place .given .1), c .if1 .taken))
+    (λ c κs. in-bucket (looking (c .before .before .before .before .before)) (c .before .before .before .place .given .1))
     (λ c. search needs) (λ c κs. in-side (looking (c .before .before .before)) (c .before .place2 .given .1))
     (λ c. c .bare .ensures ∙ answer-refused (looking (c .before .before .before)) (c .before .enum-told .given .1))
     (λ c. c .bare2 .ensures ∙ answer-absent (looking (c .before .before .before)) (c .before .enum-told2 .given .1))
-    (λ c. c .compare-bucket .ensures ∙ answer-in (looking (c .before .before .before .before)) _ (c .before .before .place .given .1))
+    (λ c. let arm = c .before .before .before .before in
+    c .compare-ipv4-bucket .ensures ∙ answer-in (looking (arm .before .before)) _ (arm .place .given .1))
+    (λ c. let arm = c .before .before .before .before in
+    c .compare-wide-bucket .ensures ∙ answer-in (looking (arm .before .before)) _ (arm .place .given .1))
     (λ c. c .compare-side .ensures ∙ answer-in (looking (c .before .before .before .before)) _ (c .before .before .place2 .given .1)))

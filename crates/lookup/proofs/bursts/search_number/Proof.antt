@@ -7,7 +7,7 @@ use borrow.Author.Needs.{needs}
 use lib.ListN.{length, getD}
 use Rattle.settings.specs.declared.Settings.{Settings}
 use Rattle.settings.specs.Checked.{paper, given-of, card}
-use Rattle.settings.proofs.Laws.{width-is}
+use Rattle.settings.proofs.Laws.{key-width}
 use Rattle.lookup.proofs.BurstLaws.{by-packed, numbered, one-number, refused-number}
 use Rattle.lookup.proofs.JudgeLaws.{Unrefused, unrefused}
 use Rattle.lookup.proofs.bursts.search_number.Statement.{statement}
@@ -59,6 +59,6 @@ returns-2 c =
 pub search-number-spec : {M : Type 1} → statement M
 search-number-spec =
     tie.close (tie.spec (λ c κs. search needs) (λ c. search needs) (λ c κs. search needs) (λ c κs. search needs) (λ c. search needs)
-    (λ c κs. right (c .before) .wide ∙ width-is (paper (s (c .before)))) (λ c. search needs) (λ c. search needs)
+    (λ c κs. let fine = right (c .before) in key-width (paper (s (c .before))) (fine .checked .ok) (fine .wide)) (λ c. search needs) (λ c. search needs)
     (λ c κs. let right = right (c .before .before .before) in (right .checked .ok, right .checked .clipped-size)) (λ c. search needs) answer-all-requires
     (λ c. search needs) returns returns-2)

@@ -10,11 +10,12 @@ use lib.Dec.{eqb}
 use lib.ListN.{length}
 use Rattle.theory.specs.Lists.{has}
 use Rattle.theory.specs.Settings as plain
-use Rattle.theory.specs.Settings.{allowed, card-of}
+use Rattle.theory.specs.Settings.{KeyWidth, allowed, card-of}
+use Rattle.theory.proofs.SettingsLaws.{width-from}
 use Rattle.hash.specs.Table.{table-lengths}
 use Rattle.settings.specs.declared.Settings.{Settings}
 use Rattle.settings.specs.Checked.{paper, code, given-of}
-use Rattle.settings.proofs.Laws.{allowed-arm, refused-arm, width-is}
+use Rattle.settings.proofs.Laws.{allowed-arm, refused-arm, key-width}
 use Rattle.lookup.specs.declared.judging.Judged.the-variants.{Ready}
 use Rattle.lookup.specs.Bursts.{judged-burst}
 use Rattle.lookup.proofs.BurstLaws.{whole-keys}
@@ -42,19 +43,22 @@ module _ (c : tie.After-width) where
   arm : (allowed t ≡ true) × (paper s ≡ t)
   arm = let new = checked .before .before .new in allowed-arm t (new .result) (new .ensures) s (checked .checked .given .1)
 
-  w-is : c .width .result ≡ 13
-  w-is = c .width .ensures ∙ width-is (paper s)
+  one : KeyWidth (c .width .result)
+  one = key-width (paper s) (rw (arm .1) (arm .0)) (c .width .ensures)
 
   whole : eqb (length keys) (start .args .n * card-of t .width)
       ≡ (eqb (length keys % c .width .result) 0 && eqb (length keys / c .width .result) (start .args .n))
   whole =
       ap (λ (w : ℕ). eqb (length keys) (start .args .n * w)) (ap (λ (u : plain.Settings). card-of u .width) (sym (arm .1)) ∙ sym (c .width .ensures))
-      ∙ sym (whole-keys (c .width .result) (length keys) (start .args .n) (omega (arith, w-is)))
+      ∙ sym (whole-keys (c .width .result) (length keys) (start .args .n) (omega (arith, width-from _ one)))
 
 -- ---- the lengths are judged
 module _ (c : tie.After-areas-right) where
+  abbrev judged : tie.After-table-length-right
+  judged = c .before
+
   abbrev known : tie.After-width
-  known = c .before
+  known = judged .before
 
   abbrev table : List ℕ
   table = start known .args .table .now
@@ -63,9 +67,9 @@ module _ (c : tie.After-areas-right) where
   right u = lengths-right u (start known .args .clipped .now) (start known .args .buckets .now) (start known .args .side .now)
 
   lengths : (has (length table) (table-lengths (card-of (t known) .width)) && right (t known))
-      ≡ (eqb (length table) (known .width .result * 256) && c .areas-right .result)
+      ≡ (judged .table-length-right .result && c .areas-right .result)
   lengths =
-      ap₂ (λ (long r : Bool). long && r) (table-right table {s = s known} (arm known .1) (known .width .ensures))
+      ap₂ (λ (long r : Bool). long && r) (table-right table {s = s known} (arm known .1) (known .width .ensures) (judged .table-length-right .ensures))
       (ap right (sym (arm known .1)) ∙ sym (c .areas-right .ensures))
 
 returns : tie.Need-returns
@@ -91,6 +95,6 @@ returns-4 c =
 
 pub judge-burst-spec : {M : Type 1} → statement M
 judge-burst-spec =
-    tie.close (tie.spec (λ c κs. search needs) (λ c. search needs) (λ c. search needs) returns (λ c κs. search needs) (λ c. omega (arith, w-is c))
-    (λ c κs. rw (arm c .1) (arm c .0)) returns-2 (λ c. omega (arith, w-is (known (c .before)))) (λ c. omega (arith, w-is (known (c .before)))) returns-3
-    returns-4)
+    tie.close (tie.spec (λ c κs. search needs) (λ c. search needs) (λ c. search needs) returns (λ c κs. search needs) (λ c κs. one c)
+    (λ c κs. let at = c .before in rw (arm at .1) (arm at .0)) returns-2 (λ c. omega (arith, width-from _ (one (known (c .before)))))
+    (λ c. omega (arith, width-from _ (one (known (c .before))))) returns-3 returns-4)

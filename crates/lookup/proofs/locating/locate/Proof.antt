@@ -3,7 +3,7 @@ use mathlib.Core.Path.{sym, _∙_}
 use borrow.Author.Needs.{needs}
 use Rattle.settings.specs.declared.Settings.{Settings}
 use Rattle.settings.specs.Checked.{paper, given-of}
-use Rattle.settings.proofs.Laws.{width-is}
+use Rattle.settings.proofs.Laws.{key-width}
 use Rattle.lookup.proofs.JudgeLaws.{Unrefused, unrefused}
 use Rattle.lookup.proofs.LocateLaws.{call-nowhere, call-located}
 use Rattle.lookup.proofs.locating.locate.Statement.{statement}
@@ -28,5 +28,6 @@ returns c =
 pub locate-spec : {M : Type 1} → statement M
 locate-spec =
     tie.close (tie.spec (λ c κs. search needs) (λ c. search needs) (λ c κs. search needs) (λ c κs. search needs) (λ c. search needs)
-    (λ c κs. right (c .before) .wide ∙ width-is (paper (s (c .before)))) (λ c κs. let at = c .before .before in (right at .checked, right at .wide)) returns
+    (λ c κs. let fine = right (c .before) in key-width (paper (s (c .before))) (fine .checked .ok) (fine .wide))
+    (λ c κs. let at = c .before .before in (right at .checked, right at .wide)) returns
     (λ c. call-located (right (c .before .before .before)) _ (c .before .h-rows .ensures) (c .locate-at .ensures)))

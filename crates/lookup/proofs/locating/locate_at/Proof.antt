@@ -2,7 +2,7 @@
 use mathlib.Core.Path.{_≡_, refl, _∙_, subst}
 use mathlib.Core.Bool.{true, false}
 use mathlib.Core.List.{List}
-use Prim.Native.Nat.{ℕ}
+use Prim.Native.Nat.{ℕ, _≤_}
 use native.Mathlib.Omega.{arith}
 use borrow.Author.Needs.{needs}
 use Rattle.theory.specs.Settings as plain
@@ -10,7 +10,7 @@ use Rattle.theory.specs.Settings.{Card, card-of}
 use Rattle.theory.specs.Placing.{chosen}
 use Rattle.theory.specs.Lookup.{counter, goes-to-bucket, place}
 use Rattle.settings.specs.Checked.{paper}
-use Rattle.settings.proofs.Laws.{bounds, record-size-is}
+use Rattle.settings.proofs.Laws.{bounds}
 use Rattle.lookup.specs.declared.places.Place.{Place}
 use Rattle.lookup.specs.Choosing.{card-at}
 use Rattle.lookup.specs.Places.{Goes, LooksAt}
@@ -54,8 +54,8 @@ module _ (c : tie.After-place-by) where
   goes : (x : Place) → c .place-by .result ≡ x → Goes (card-of t) (chosen own (counter clipped) key) (goes-to-bucket own clipped buckets key) x
   goes x e = subst (Goes (card-of t) (chosen own (counter clipped) key) (goes-to-bucket own clipped buckets key)) e (looks .goes)
 
-  size-is : c .before .before .record-size .result ≡ 17
-  size-is = c .before .before .record-size .ensures ∙ record-size-is t
+  size-most : c .before .before .record-size .result ≤ 41
+  size-most = omega (arith, c .before .before .record-size .ensures, bounds t (start .pre .0 .ok) .record-most)
 
 place-by-requires : tie.Need-place-by-requires
 place-by-requires c κs =
@@ -69,13 +69,13 @@ with-place-requires c κs =
     record {
       counted = one-compared (card-of (t at)) (key at) _ _ (c .compare-bucket .ensures);
       near = omega (arith, inside .inside, inside .buckets-size, bounds (t at) (inside .ok) .buckets-length-most);
-      small = omega (arith, size-is at);
+      small = omega (arith, size-most at);
     }
 
 with-place-requires-2 : tie.Need-with-place-requires-2
 with-place-requires-2 c κs =
     let at = c .before .before .before .before in
-    record { counted = one-compared (card-of (t at)) (key at) _ _ (c .compare-side .ensures); near = omega arith; small = omega (arith, size-is at) }
+    record { counted = one-compared (card-of (t at)) (key at) _ _ (c .compare-side .ensures); near = omega arith; small = omega (arith, size-most at) }
 
 returns : tie.Need-returns
 returns c =

@@ -42,7 +42,7 @@ module _ (c : tie.After-bucket-size) where
   some : 18 ≤ bucket-size (card-of t)
   some = bounds t (start .pre .0 .ok) .bucket-size-least
 
-  few : length buckets ≤ 282624
+  few : length buckets ≤ 675840
   few = omega (arith, bounds t (start .pre .0 .ok) .buckets-length-most, start .pre .0 .buckets-size)
 
   mark : MarkAt t buckets bucket at

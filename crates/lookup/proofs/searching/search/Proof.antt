@@ -3,7 +3,7 @@ use mathlib.Core.Path.{sym, _∙_}
 use borrow.Author.Needs.{needs}
 use Rattle.settings.specs.declared.Settings.{Settings}
 use Rattle.settings.specs.Checked.{paper, given-of}
-use Rattle.settings.proofs.Laws.{width-is}
+use Rattle.settings.proofs.Laws.{key-width}
 use Rattle.lookup.proofs.JudgeLaws.{Unrefused, unrefused, search-refused, search-answered}
 use Rattle.lookup.proofs.searching.search.Statement.{statement}
 use Rattle.lookup.proofs.searching.search.Tie as tie
@@ -22,6 +22,7 @@ module _ (c : tie.After-judged2) where
 pub search-spec : {M : Type 1} → statement M
 search-spec =
     tie.close (tie.spec (λ c κs. search needs) (λ c. search needs) (λ c κs. search needs) (λ c. search needs)
-    (λ c κs. right (c .before) .wide ∙ width-is (paper (s (c .before)))) (λ c κs. let at = c .before .before in (right at .checked, right at .wide))
+    (λ c κs. let fine = right (c .before) in key-width (paper (s (c .before))) (fine .checked .ok) (fine .wide))
+    (λ c κs. let at = c .before .before in (right at .checked, right at .wide))
     (λ c. let at = c .before .before in search-refused _ _ _ _ _ _ (sym (at .before .before .judge .ensures) ∙ at .judged .given .1) _ (c .bare .ensures))
     (λ c. search-answered (right (c .before .before .before)) _ (c .before .h-rows .ensures) _ (c .search-at .ensures)))

@@ -18,9 +18,13 @@ module _ (c : tie.After-find-place) where
 pub search-at-spec : {M : Type 1} → statement M
 search-at-spec =
     tie.close (tie.spec (λ c κs. search needs) (λ c. search needs) (λ c κs. search needs) (λ c. search needs) (λ c κs. search needs) (λ c. search needs)
-    (λ c κs. in-bucket (at (c .before .before .before) .looking) (c .before .place .given .1)) (λ c. search needs)
+    (λ c κs. (in-bucket (at (c .before .before .before .before .before) .looking) (c .before .before .before .place .given .1), c .if1 .taken))
+    (λ c κs. in-bucket (at (c .before .before .before .before .before) .looking) (c .before .before .before .place .given .1)) (λ c. search needs)
     (λ c κs. in-side (at (c .before .before .before) .looking) (c .before .place2 .given .1))
     (λ c. c .bare .ensures ∙ answer-refused (at (c .before .before .before) .looking) (c .before .enum-told .given .1))
     (λ c. c .bare2 .ensures ∙ answer-absent (at (c .before .before .before) .looking) (c .before .enum-told2 .given .1))
-    (λ c. c .compare-bucket .ensures ∙ answer-in (at (c .before .before .before .before) .looking) _ (c .before .before .place .given .1))
+    (λ c. let arm = c .before .before .before .before in
+    c .compare-ipv4-bucket .ensures ∙ answer-in (at (arm .before .before) .looking) _ (arm .place .given .1))
+    (λ c. let arm = c .before .before .before .before in
+    c .compare-wide-bucket .ensures ∙ answer-in (at (arm .before .before) .looking) _ (arm .place .given .1))
     (λ c. c .compare-side .ensures ∙ answer-in (at (c .before .before .before .before) .looking) _ (c .before .before .place2 .given .1)))

@@ -1,6 +1,7 @@
 -- `placing::counting::count_more` meets its contract: after i records each count is what it was and the true count of these.
 use mathlib.Core.Path.{_≡_, refl, sym, ap, _∙_}
-use mathlib.Core.Bool.{cond}
+use mathlib.Core.Bool.{true, cond}
+use mathlib.Core.Logic.{⊎-elim}
 use mathlib.Core.List.{List}
 use Prim.Native.Nat.{ℕ, _+_, _-_, _*_, _≤_}
 use native.Mathlib.Nat.{add-zero}
@@ -9,10 +10,13 @@ use borrow.Author.Needs.{needs}
 use lib.ListN.{length, take, drop}
 use Rattle.theory.specs.Lists.{has}
 use Rattle.theory.specs.Records.{records}
-use Rattle.theory.specs.Settings.{Card}
+use Rattle.theory.specs.Hash.{H}
+use Rattle.theory.specs.Settings.{ipv4-width, Card}
 use Rattle.theory.specs.Placing.{true-count}
 use Rattle.settings.specs.Checked.{card}
 use Rattle.settings.specs.declared.Settings.{Settings}
+use Rattle.hash.specs.Table.{table-lengths}
+use Rattle.hash.proofs.KeyHashLaws.{ipv4-key, ipv4-fits, ipv4-hash}
 use Rattle.placing.specs.Worked.{nth}
 use Rattle.memory.proofs.RecordPartLaws.{Sizes, key-inside, key-length, key-is}
 use Rattle.placing.proofs.RecordCountLaws.{count-none, count-bound, count-more}
@@ -63,6 +67,20 @@ module _ (c : tie.After-key-at Inv-loop μ-loop) where
   key-here : key ≡ take (s sized .width) (drop (loop .loop .i * (s sized .width + 4)) (area sized))
   key-here = c .key-at .ensures ∙ key-is (sizes sized) (loop .loop .i) (area sized)
 
+  long : has (length (start sized .args .table .now)) (table-lengths (length key)) ≡ true
+  long = long-for _ _ (start sized .pre .ready) key key-long
+
+  narrow : sized .before .width .result ≡ ipv4-width → length key ≡ ipv4-width
+  narrow e = key-long ∙ sym (sized .before .width .ensures) ∙ e
+
+-- ---- it is hashed
+hashed : (c : tie.Joined1 Inv-loop μ-loop) → c .if1 .h ≡ H (key (c .before))
+hashed c =
+    let at = c .before in
+    let right = right-for _ _ (start (sized at) .pre .ready) (key at) (key-long at) in
+    ⊎-elim (λ w. w .3 ∙ ipv4-hash (start (sized at) .args .table .now) (key at) (long at) (narrow at (w .0 .taken)) right (w .2 .ensures .1))
+    (λ w. w .2 ∙ w .1 .ensures .1 right) (c .if1 .came)
+
 loop-holds : tie.Need-loop-holds Inv-loop μ-loop
 loop-holds c = record { within = omega arith; same = refl; counted = λ b. sym (rw (count-none (s c) (s c .width) (area c) b) (add-zero _)) }
 
@@ -80,12 +98,12 @@ raise-at-requires c κs =
 loop-again : tie.Need-loop-again Inv-loop μ-loop
 loop-again c =
     let raised = c .before .before .raise-at in
-    let hashed = c .before .before .before .before in
-    let read = hashed .before in
+    let joined = c .before .before .before .before in
+    let read = joined .before in
     let whole = sized read in
     let so-far = loop read .loop .inv in
     let old = start whole .args .counts .now in
-    let by-key = raised .ensures (key read) (hashed .h-with-table .ensures .1 (right-for _ _ (start whole .pre .ready) (key read) (key-long read))) in
+    let by-key = raised .ensures (key read) (hashed joined) in
     record {
       within = omega (arith, read .before .loop-test .taken);
       same = raised .kept .1 .1 .0 ∙ so-far .same;
@@ -103,5 +121,9 @@ pub count-more-spec : {M : Type 1} → statement M
 count-more-spec =
     tie.close (tie.spec Inv-loop μ-loop (λ c κs. search needs) (λ c κs. search needs) loop-holds
     (λ c κs. key-inside (sizes (c .before .before)) _ _ (area (c .before .before)) (start (c .before .before) .pre .there) (c .loop-test .taken))
-    (λ c κs. long-for _ _ (start (sized c) .pre .ready) (key c) (key-long c)) raise-at-requires (λ c. omega arith) (λ c. omega arith) loop-again
+    (λ c. let then = c .before in let at = then .before in let e = narrow at (then .if1 .taken) in
+    sym (ap length (ipv4-key (start (sized at) .args .table .now) (key at) (long at) e) ∙ e))
+    (λ c κs. let then = c .before in let at = then .before in
+    ipv4-fits (start (sized at) .args .table .now) (key at) (long at) (narrow at (then .if1 .taken)))
+    (λ c κs. long (c .before)) raise-at-requires (λ c. omega arith) (λ c. omega arith) loop-again
     (λ c. c .before .loop .inv .same) returns)
