@@ -15,7 +15,7 @@ use Rattle.theory.specs.Settings.{allowed, record-size, ledger-length, work-len
 use Rattle.theory.specs.Records.{to-bytes, record-bytes, records, rising}
 use Rattle.theory.specs.Ledger.{side-need-of, side-short}
 use Rattle.theory.specs.Layout.{Areas, places, counted-places, layout}
-use Rattle.theory.specs.Snapshot.{file-settings, file-count, file-records, head-wrong, not-loaded, load}
+use Rattle.theory.specs.Snapshot.{file-settings, file-count, file-records, head-wrong, body-wrong, not-loaded, load}
 use Rattle.theory.proofs.ListLaws.{All, by-test}
 use Rattle.theory.proofs.ByteLaws.{Byte, length-to-bytes, length-records, write-records}
 use Rattle.theory.proofs.Demands.{all-lengths-right}
@@ -109,7 +109,7 @@ loads-2 f whole j e = let q = sym (tested-is j) ∙ e in rw (whole, j .settings 
 module _ {s : Settings} {table f work : List ℕ} {a : Areas} (g : Loading s table f work a) where
   loads-on : load f (length work) a
       ≡ cond (ltb (s .capacity) (file-count f)) (not-loaded 8 a)
-      (cond (not (eqb (length f) (16 + record-size (card s) * file-count f))) (not-loaded 12 a)
+      (cond (body-wrong (paper s) f) (not-loaded 12 a)
       (cond (not (rising (listed (paper s) f))) (not-loaded 13 a)
       (cond (side-short (card s) (listed (paper s) f)) (not-loaded 9 a)
       (record { number = 0; settings = paper s; areas = layout (card s) (listed (paper s) f) }))))
@@ -127,7 +127,7 @@ module _ {s : Settings} {table f work : List ℕ} {a : Areas} (g : Loading s tab
       let by-keys = by-test (rising (listed (paper s) f)) in
       loads-on
       ∙ by-test (ltb (s .capacity) (file-count f)) (λ e. rw e)
-      (λ e. rw e (by-test (eqb (length f) (16 + record-size (card s) * file-count f)) (λ q. rw q (by-keys (λ r. rw r) (λ r. rw r))) (λ q. rw q)))
+      (λ e. rw e (by-test (body-wrong (paper s) f) (λ q. rw q) (λ q. rw q (by-keys (λ r. rw r) (λ r. rw r)))))
 
   pub loads-refused : {n : ℕ} → n ≡ by-file (paper s) f → (n ≡ 0 → ⊥) → not-loaded n a ≡ load f (length work) a
   loads-refused {n} e some = rw (loads-by, ← e, ne-eqb n 0 some)

@@ -1,4 +1,4 @@
--- Laws of saving: eight numbers put one after the other are the head, with the records' bytes the snapshot; and each answer is `save`'s.
+-- Laws of saving: numbers put one after the other are the head, with the records' bytes the snapshot; and each answer is `save`'s.
 use mathlib.Core.Path.{_≡_, refl, sym, ap, _∙_}
 use mathlib.Core.Bool.{true, false, cond, not, _&&_, and-true}
 use mathlib.Core.List.{List, [], _∷_, _++_, append-assoc, append-nil}
@@ -15,10 +15,10 @@ use Rattle.theory.specs.Settings.{allowed, record-size, ledger-length, work-len
 use Rattle.theory.specs.Records.{to-bytes, record-bytes, records}
 use Rattle.theory.specs.Ledger.{side-need-of, side-short}
 use Rattle.theory.specs.Calls.{ledger-records, ledger-invalid}
-use Rattle.theory.specs.Snapshot.{Saved, snapshot, save}
+use Rattle.theory.specs.Snapshot.{settings-count, first-count, head-size, Saved, snapshot, save}
 use Rattle.theory.proofs.ListLaws.{All, all-drop, length-drop-past}
 use Rattle.theory.proofs.ByteLaws.{Byte, length-to-bytes, write-records}
-use Rattle.theory.proofs.SnapshotLaws.{head, snapshot-is, length-head}
+use Rattle.theory.proofs.SnapshotLaws.{head, snapshot-is, length-head, head-long}
 use Rattle.settings.specs.declared.Settings.{Settings}
 use Rattle.settings.specs.Checked.{paper, card}
 use Rattle.memory.proofs.SliceLaws.{back, tail-is, tail-back, length-tail}
@@ -49,16 +49,21 @@ puts (n ∷ ns) done rest at e =
     let size : length (done ++ to-bytes 2 n) ≡ at + 2 = rw (length-append, length-to-bytes, e) in
     rw (put-here done rest at n e, puts ns (done ++ to-bytes 2 n) (drop 2 rest) (at + 2) size, drop-drop (2 * length ns) 2 rest, two) (simp append-assoc)
 
-head-put : (t : plain.Settings) (n : ℕ) (xs : List ℕ) → length xs ≡ 16 → put-all 0 (head t n) xs ≡ flat (to-bytes 2) (head t n)
-head-put t n xs e =
-    let short : length xs ≤ 16 = omega (arith, e) in
-    puts (head t n) [] xs 0 refl ∙ rw (drop-of-length-le xs short, append-nil (flat (to-bytes 2) (head t n)))
+module _ (t : plain.Settings) (n : ℕ) (xs : List ℕ) (e : length xs ≡ head-size (first-count t)) where
+  head-put : put-all 0 (head t n) xs ≡ flat (to-bytes 2) (head t n)
+  head-put =
+      let short : length xs ≤ 2 * length (head t n) = omega (arith, e, length-head t n) in
+      puts (head t n) [] xs 0 refl ∙ rw (drop-of-length-le xs short, append-nil (flat (to-bytes 2) (head t n)))
 
--- as the code puts them
-pub head-written : (t : plain.Settings) (n : ℕ) (xs : List ℕ) {x₁ x₂ x₃ x₄ x₅ x₆ x₇ x₈ : List ℕ} → length xs ≡ 16
-    → x₁ ≡ put-at 0 6 xs → x₂ ≡ put-at 2 (t .p) x₁ → x₃ ≡ put-at 4 (t .k) x₂ → x₄ ≡ put-at 6 (t .room) x₃ → x₅ ≡ put-at 8 (t .top) x₄
-    → x₆ ≡ put-at 10 (t .capacity) x₅ → x₇ ≡ put-at 12 (t .side-places) x₆ → x₈ ≡ put-at 14 n x₇ → x₈ ≡ flat (to-bytes 2) (head t n)
-head-written t n xs e e₁ e₂ e₃ e₄ e₅ e₆ e₇ e₈ = rw (e₈, e₇, e₆, e₅, e₄, e₃, e₂, e₁) (head-put t n xs e)
+  -- as the code puts them: the first count c and six settings, then the count of the records, or the width and then that count
+  module _ {c : ℕ} (first : c ≡ first-count t) {x₁ x₂ x₃ x₄ x₅ x₆ x₇ : List ℕ} (e₁ : x₁ ≡ put-at 0 c xs) (e₂ : x₂ ≡ put-at 2 (t .p) x₁)
+      (e₃ : x₃ ≡ put-at 4 (t .k) x₂) (e₄ : x₄ ≡ put-at 6 (t .room) x₃) (e₅ : x₅ ≡ put-at 8 (t .top) x₄) (e₆ : x₆ ≡ put-at 10 (t .capacity) x₅)
+      (e₇ : x₇ ≡ put-at 12 (t .side-places) x₆) where
+    pub head-of-six : c ≡ 6 → {x₈ : List ℕ} → x₈ ≡ put-at 14 n x₇ → x₈ ≡ flat (to-bytes 2) (head t n)
+    head-of-six six e₈ = let known = sym first ∙ six in rw (e₈, e₇, e₆, e₅, e₄, e₃, e₂, e₁, six, known) (rw known at head-put)
+
+    pub head-of-seven : c ≡ settings-count → {x₈ x₉ : List ℕ} → x₈ ≡ put-at 14 (t .width) x₇ → x₉ ≡ put-at 16 n x₈ → x₉ ≡ flat (to-bytes 2) (head t n)
+    head-of-seven seven e₈ e₉ = let known = sym first ∙ seven in rw (e₉, e₈, e₇, e₆, e₅, e₄, e₃, e₂, e₁, seven, known) (rw known at head-put)
 
 -- ---- a ledger area within the rules, and its count n
 module _ {s : Settings} {a : List ℕ} {n : ℕ} (k : CountedLedger s a n) where
@@ -84,25 +89,26 @@ module _ {s : Settings} {a : List ℕ} {n : ℕ} (k : CountedLedger s a n) where
         let room = records-room (card s) a (k .valid .size) n many in
         rw (long, ← records-are (card s) a n (k .count)) (sym (write-records (card s .width) n (drop 2 a) room (all-drop Byte 2 a bytes)))
 
-    -- what is written: h, the head, and ys, the records' bytes
-    module _ (target : List ℕ) {h : List ℕ} (room : length target ≡ 16 + record-size (card s) * n) (is : h ≡ flat (to-bytes 2) (head (paper s) n)) where
-      head-long : length h ≡ 16
-      head-long = ap length is ∙ length-head (head (paper s) n)
+    -- what is written: h, the head, of z bytes, and ys, the records' bytes
+    module _ (target : List ℕ) {h : List ℕ} {z : ℕ} (z-is : z ≡ head-size (first-count (paper s)))
+        (room : length target ≡ head-size (first-count (paper s)) + record-size (card s) * n) (is : h ≡ flat (to-bytes 2) (head (paper s) n)) where
+      h-long : length h ≡ z
+      h-long = ap length is ∙ head-long (paper s) n ∙ sym z-is
 
-      joined-long : length (h ++ drop 16 target) ≡ 16 + size * n
-      joined-long = rw (length-append, length-drop, head-long, sized) (omega (arith, room))
+      joined-long : length (h ++ drop z target) ≡ z + size * n
+      joined-long = rw (length-append, length-drop, h-long, sized) (omega (arith, room, z-is))
 
-      pub same-room : length (take (length (h ++ drop 16 target) - 16) (drop 16 (h ++ drop 16 target))) ≡ length (take (2 + size * n - 2) (drop 2 a))
+      pub same-room : length (take (length (h ++ drop z target) - z) (drop z (h ++ drop z target))) ≡ length (take (2 + size * n - 2) (drop 2 a))
       same-room =
           let fits : 2 + size * n - 2 ≤ length (drop 2 a) = rw length-drop (omega (arith, end-within)) in
-          rw (length-tail 16 (h ++ drop 16 target) (omega (arith, joined-long)), joined-long, length-take-le (2 + size * n - 2) (drop 2 a) fits) (omega arith)
+          rw (length-tail z (h ++ drop z target) (omega (arith, joined-long)), joined-long, length-take-le (2 + size * n - 2) (drop 2 a) fits) (omega arith)
 
       pub snapshot-written : All Byte a → {ys : List ℕ} → ys ≡ take (2 + size * n - 2) (drop 2 a)
-          → back 16 (length (h ++ drop 16 target) - 16) (h ++ drop 16 target) ys ≡ snapshot (paper s) (ledger-records (card s) a)
+          → back z (length (h ++ drop z target) - z) (h ++ drop z target) ys ≡ snapshot (paper s) (ledger-records (card s) a)
       snapshot-written bytes {ys} copy =
-          tail-back 16 (h ++ drop 16 target) ys (omega (arith, joined-long))
+          tail-back z (h ++ drop z target) ys (omega (arith, joined-long))
           ∙ rw (
-            take-at h (drop 16 target) 16 head-long,
+            take-at h (drop z target) z h-long,
             is,
             copy,
             copied bytes,
@@ -131,7 +137,7 @@ module _ {s : Settings} {table work ledger : List ℕ} (g : Saving s table work 
   saves-on : save (paper s) ledger (length work) target
       ≡ cond (ledger-invalid (card s) ledger) (answer 4 target)
       (cond (side-short (card s) (ledger-records (card s) ledger)) (answer 9 target)
-      (cond (not (eqb (length target) (16 + record-size (card s) * length (ledger-records (card s) ledger)))) (answer 12 target)
+      (cond (not (eqb (length target) (head-size (first-count (paper s)) + record-size (card s) * length (ledger-records (card s) ledger)))) (answer 12 target)
       (answer 0 (snapshot (paper s) (ledger-records (card s) ledger)))))
   unfolding save
   saves-on = rw (g .ready .ok, eq-eqb (length work) (work-length (card s)) (g .words), eq-eqb (length ledger) (ledger-length (card s)) (g .whole))
@@ -143,17 +149,17 @@ module _ {s : Settings} {table work ledger : List ℕ} (g : Saving s table work 
     pub saves-9 : card s .side-places < need → answer 9 target ≡ save (paper s) ledger (length work) target
     saves-9 h = rw (saves-on, k .valid .rules, short-by _ _ is, lt-ltb (card s .side-places) need h)
 
-    module _ (h : need ≤ card s .side-places) {size : ℕ} (sized : size ≡ record-size (card s)) where
+    module _ (h : need ≤ card s .side-places) {z : ℕ} (z-is : z ≡ head-size (first-count (paper s))) {size : ℕ} (sized : size ≡ record-size (card s)) where
       -- what is left once 9 is judged
       saves-by : save (paper s) ledger (length work) target
-          ≡ cond (not (eqb (length target) (16 + size * n))) (answer 12 target) (answer 0 (snapshot (paper s) (ledger-records (card s) ledger)))
+          ≡ cond (not (eqb (length target) (z + size * n))) (answer 12 target) (answer 0 (snapshot (paper s) (ledger-records (card s) ledger)))
       saves-by =
           let count = listed (card s) ledger (k .valid .size) (k .valid .rules) ∙ sym (k .count) in
-          rw (saves-on, k .valid .rules, short-by _ _ is, le-ltb (card s .side-places) need h, count, sized)
+          rw (saves-on, k .valid .rules, short-by _ _ is, le-ltb (card s .side-places) need h, count, sized, z-is)
 
-      pub saves-12 : (length target ≡ 16 + size * n → ⊥) → answer 12 target ≡ save (paper s) ledger (length work) target
-      saves-12 other = rw (saves-by, ne-eqb (length target) (16 + size * n) other)
+      pub saves-12 : (length target ≡ z + size * n → ⊥) → answer 12 target ≡ save (paper s) ledger (length work) target
+      saves-12 other = rw (saves-by, ne-eqb (length target) (z + size * n) other)
 
-      pub saves-0 : length target ≡ 16 + size * n → {new : List ℕ} → new ≡ snapshot (paper s) (ledger-records (card s) ledger)
+      pub saves-0 : length target ≡ z + size * n → {new : List ℕ} → new ≡ snapshot (paper s) (ledger-records (card s) ledger)
           → answer 0 new ≡ save (paper s) ledger (length work) target
-      saves-0 e written = rw (saves-by, eq-eqb (length target) (16 + size * n) e, written)
+      saves-0 e written = rw (saves-by, eq-eqb (length target) (z + size * n) e, written)

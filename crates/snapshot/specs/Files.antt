@@ -3,7 +3,7 @@ use mathlib.Core.Path.{_≡_}
 use mathlib.Core.Bool.{true, false, cond, not}
 use mathlib.Core.List.{List, _++_}
 use Prim.Native.Nat.{ℕ, _+_, _*_, _≤_, _<_}
-use lib.Dec.{ltb, eqb}
+use lib.Dec.{ltb}
 use lib.ListN.{length, take, drop}
 use Rattle.theory.specs.Settings as plain
 use Rattle.theory.specs.Settings.{allowed, card-of, record-size, ledger-length, work-length}
@@ -11,7 +11,7 @@ use Rattle.theory.specs.Records.{Record, to-bytes, count-of, class-width, recor
 use Rattle.theory.specs.Layout.{Areas}
 use Rattle.theory.specs.Ledger.{side-need-of}
 use Rattle.theory.specs.Snapshot as snapshots
-use Rattle.theory.specs.Snapshot.{head-size, file-settings, file-count, head-wrong}
+use Rattle.theory.specs.Snapshot.{settings-count, first-count, head-size, file-settings, file-count, head-wrong, body-wrong}
 use Rattle.theory.proofs.CallLaws.{Sized}
 use Rattle.settings.specs.declared.Settings.{Settings}
 use Rattle.settings.specs.Checked.{paper, given-of, card}
@@ -19,6 +19,7 @@ use Rattle.ledger.specs.Edits.{ValidLedger}
 use Rattle.placing.specs.Ready.{Ready}
 use Rattle.writing.specs.Laying.{Laying}
 use Rattle.snapshot.specs.declared.loading.Loaded.{Loaded}
+use Rattle.snapshot.specs.declared.reading.Head.{Head}
 
 -- a number in the two bytes from a place on
 abbrev pub put-at : ℕ → ℕ → List ℕ → List ℕ
@@ -28,9 +29,17 @@ put-at at n l = take at l ++ (to-bytes 2 n ++ drop (at + 2) l)
 abbrev pub loaded-of : Loaded → Areas → snapshots.Loaded
 loaded-of r a = record { number = r .number; settings = given-of (r .settings); areas = a }
 
+-- what the head of a file says, as the code holds it, and that the head is there
+pub record HeadOf (f : List ℕ) (r : Head) : Type 0 where
+  pub settings : r .settings ≡ count-of f
+  pub size : r .size ≡ head-size (count-of f)
+  pub count : r .count ≡ file-count f
+  pub few : count-of f ≤ settings-count
+  pub there : r .size ≤ length f
+
 -- the records of a file under settings
 abbrev pub listed : plain.Settings → List ℕ → List Record
-listed t f = records (card-of t .width) (file-count f) (drop head-size f)
+listed t f = records (card-of t .width) (file-count f) (drop (head-size (count-of f)) f)
 
 -- what placing n records of an area asks, with room in work and kept
 pub record PlacingArea (s : Settings) (table : List ℕ) (m : ℕ) (work kept area : List ℕ) (n : ℕ) : Type 0 where
@@ -49,12 +58,12 @@ by-head f = cond (head-wrong f) 12 (cond (not (allowed (file-settings f))) 1 0)
 unfoldable pub by-file : plain.Settings → List ℕ → ℕ
 by-file t f =
     cond (ltb (t .capacity) (file-count f)) 8
-    (cond (not (eqb (length f) (head-size + record-size (card-of t) * file-count f))) 12 (cond (not (rising (listed t f))) 13 0))
+    (cond (body-wrong t f) 12 (cond (not (rising (listed t f))) 13 0))
 
 -- ---- saving: a head, a ledger area within the rules with its count, and what is asked once settings and lengths are judged
 pub record WritingHead (s : Settings) (to : List ℕ) (n : ℕ) : Type 0 where
   pub ok : allowed (paper s) ≡ true
-  pub long : length to ≡ head-size
+  pub long : length to ≡ head-size (first-count (paper s))
   pub small : n < 65536
 
 pub record CountedLedger (s : Settings) (ledger : List ℕ) (n : ℕ) : Type 0 where

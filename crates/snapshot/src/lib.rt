@@ -1,10 +1,12 @@
 // Document 01, 'Snapshot': save and load. Both judge first, with the side need of the records in work, and then write.
 use settings::Settings;
 ghost use mathlib.Core.Path.{_≡_};
+ghost use Prim.Native.Nat.{_≤_};
 ghost use lib.ListN.{take};
 ghost use Rattle.theory.specs.Records.{records};
 ghost use Rattle.theory.specs.Ledger.{side-need-of};
-ghost use Rattle.settings.specs.Checked.{card};
+ghost use Rattle.theory.specs.Snapshot.{settings-count, first-count, head-size};
+ghost use Rattle.settings.specs.Checked.{paper, card};
 ghost use Rattle.placing.specs.Worked.{Placed};
 ghost use Rattle.snapshot.specs.Files.{PlacingArea};
 
@@ -12,12 +14,35 @@ pub mod loading; // loading.rt: a file into every area
 pub mod reading; // reading.rt: what a file says, and the refusals that it alone decides
 pub mod saving; // saving.rt: settings and ledger into a file
 
-// "two sections, each after its two-byte count: 6 settings of two bytes": the first count, the place of the second, and the bytes before the first record.
-pub const SETTINGS: usize = 6;
+// How many settings there are; and how many a file has for keys of 13 bytes, which does not say the width.
+pub const SETTINGS: usize = 7;
 
-pub const SECOND_COUNT_AT: usize = 2 + 2 * SETTINGS;
+pub const SETTINGS_WITHOUT_WIDTH: usize = 6;
 
-pub const HEAD: usize = SECOND_COUNT_AT + 2;
+// "two sections, each after its two-byte count": the first count that settings are saved with.
+fn first_count(s: Settings) -> usize
+    ensures { λ r. ⌜ r ≡ first-count (paper s) ⌝ }
+{
+    if s.width() == Settings::IPV4_WIDTH {
+        return SETTINGS_WITHOUT_WIDTH;
+    }
+    SETTINGS
+}
+
+// The bytes of a head with so many settings: both counts and these, two bytes each.
+fn head_size(settings: usize) -> usize
+    requires { ⌜ settings ≤ settings-count ⌝ }
+    ensures { λ r. ⌜ r ≡ head-size settings ⌝ }
+{
+    2 + 2 * settings + 2
+}
+
+// The bytes of the head that settings are saved with.
+fn saved_head_size(s: Settings) -> usize
+    ensures { λ r. ⌜ r ≡ head-size (first-count (paper s)) ⌝ }
+{
+    head_size(first_count(s))
+}
 
 // The side need of the first `count` records of an area, their work area and their choices.
 fn place_area(

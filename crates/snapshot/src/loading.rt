@@ -1,9 +1,9 @@
 // A file into every area: its settings are handed back, its list's layout is written.
 use crate::place_area;
 use crate::reading::head_wrong;
+use crate::reading::read_head;
 use crate::reading::read_settings;
 use crate::reading::refusal_by_file;
-use memory::numbers::count_at;
 use memory::numbers::write_number;
 use memory::parts::copy;
 use memory::parts::zero_fill;
@@ -40,6 +40,7 @@ fn not_loaded(number: u32) -> Loaded
             top: 0,
             capacity: 0,
             side_places: 0,
+            width: 0,
         },
     }
 }
@@ -107,13 +108,15 @@ fn load_checked(
         ≡ plain.load (now (file .entry)) (length (now (work .entry)))
         (entry-areas ledger «true_counts» clipped buckets side) ⌝ }
 {
-    let number = refusal_by_file(s, file);
+    let head = read_head(file);
+    let number = refusal_by_file(s, head, file);
     if number != 0 {
         return not_loaded(number);
     }
-    let count = count_at(&file[crate::SECOND_COUNT_AT..]);
+    let count = head.count;
+    let size = head.size;
     let m = s.buckets();
-    let area = &file[crate::HEAD..];
+    let area = &file[size..];
     let mut kept = [0u16; Settings::CAPACITY_MOST as usize];
     let need = place_area(s, table, m, work, &mut kept[..], area, count);
     if s.side_places < need {
@@ -170,7 +173,22 @@ pub fn load(
     if !((work.len() == s.work_length()) & lengths_right(s, lengths)) {
         return not_loaded(2);
     }
-    let table = hash::table();
+    // each table where it is read: one that is handed over is copied
+    if s.width == Settings::IPV4_WIDTH {
+        let table = hash::table();
+        return load_checked(
+            s,
+            &table[..],
+            file,
+            ledger,
+            true_counts,
+            clipped,
+            buckets,
+            side,
+            work,
+        );
+    }
+    let table = hash::half_table();
     load_checked(
         s,
         &table[..],

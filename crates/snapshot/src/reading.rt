@@ -1,30 +1,76 @@
-// What a file says: its settings, and the refusals that it decides alone.
+// What a file says: its head, its settings, and the refusals that it decides alone.
 use ledger::keys::keys_rise;
 use memory::numbers::count_at;
 use settings::Checked;
 use settings::Given;
 use settings::Settings;
 ghost use mathlib.Core.Path.{_≡_};
-ghost use mathlib.Core.Bool.{true};
-ghost use Prim.Native.Nat.{_≤_, _<_};
+ghost use mathlib.Core.Bool.{true, false};
+ghost use Prim.Native.Nat.{_+_, _≤_, _<_};
 ghost use lib.ListN.{length};
 ghost use Rattle.theory.specs.Settings.{allowed};
 ghost use Rattle.theory.specs.Snapshot as plain;
 ghost use Rattle.theory.specs.Snapshot.{settings-count, head-size, file-settings, head-wrong};
 ghost use Rattle.settings.specs.Checked.{paper, checked-of};
-ghost use Rattle.snapshot.specs.Files.{by-head, by-file};
+ghost use Rattle.snapshot.specs.Files.{HeadOf, by-head, by-file};
+
+// What the head of a file says beside its settings: how many these are, its bytes, and the second count.
+pub struct Head {
+    pub settings: usize,
+    pub size: usize,
+    pub count: usize,
+}
+
+// 12: without an allowed first count, its settings and the second count.
+pub fn head_wrong(file: &[u8]) -> bool
+    ensures { λ r. ⌜ r ≡ head-wrong (now (file .entry)) ⌝ }
+{
+    if file.len() < 2 {
+        return true;
+    }
+    let first = count_at(file);
+    if !((first == crate::SETTINGS_WITHOUT_WIDTH) | (first == crate::SETTINGS)) {
+        return true;
+    }
+    file.len() < crate::head_size(first)
+}
+
+pub fn read_head(file: &[u8]) -> Head
+    requires { ⌜ head-wrong (now file) ≡ false ⌝ }
+    ensures { λ r. ⌜ HeadOf (now (file .entry)) r ⌝ }
+{
+    let settings = count_at(file);
+    let size = crate::head_size(settings);
+    let second = size - 2;
+    Head {
+        settings,
+        size,
+        count: count_at(&file[second..]),
+    }
+}
 
 // Setting i of a file, from 0.
 fn setting(file: &[u8], i: usize) -> u64
-    requires { ⌜ (head-size ≤ length (now file)) × (i < settings-count) ⌝ }
+    requires { ⌜ (i < settings-count) × (head-size i + 2 ≤ length (now file)) ⌝ }
     ensures { λ r. ⌜ r ≡ plain.setting (now (file .entry)) i ⌝ }
 {
     let at = 2 + 2 * i;
     count_at(&file[at..]) as u64
 }
 
+// A file of six settings has keys of 13 bytes.
+fn width(file: &[u8]) -> u64
+    requires { ⌜ head-wrong (now file) ≡ false ⌝ }
+    ensures { λ r. ⌜ r ≡ file-settings (now (file .entry)) .width ⌝ }
+{
+    if count_at(file) == crate::SETTINGS_WITHOUT_WIDTH {
+        return Settings::IPV4_WIDTH as u64;
+    }
+    setting(file, 6)
+}
+
 pub fn read_settings(file: &[u8]) -> Checked
-    requires { ⌜ head-size ≤ length (now file) ⌝ }
+    requires { ⌜ head-wrong (now file) ≡ false ⌝ }
     ensures { λ r. ⌜ r ≡ checked-of (file-settings (now (file .entry))) ⌝ }
 {
     Settings::new(Given {
@@ -34,17 +80,8 @@ pub fn read_settings(file: &[u8]) -> Checked
         top: setting(file, 3),
         capacity: setting(file, 4),
         side_places: setting(file, 5),
+        width: width(file),
     })
-}
-
-// 12: without an allowed first count, its settings and the second count.
-pub fn head_wrong(file: &[u8]) -> bool
-    ensures { λ r. ⌜ r ≡ head-wrong (now (file .entry)) ⌝ }
-{
-    if file.len() < crate::HEAD {
-        return true;
-    }
-    count_at(file) != crate::SETTINGS
 }
 
 // 12 for the head, 1; else 0. For a door that judges a length of its own with 2.
@@ -61,19 +98,23 @@ pub fn refusal_by_head(file: &[u8]) -> u32
     0
 }
 
-// 8, 12 for a cut or overlong file, 13; else 0.
-pub fn refusal_by_file(s: Settings, file: &[u8]) -> u32
-    requires { ⌜ (allowed (paper s) ≡ true) × (head-size ≤ length (now file)) ⌝ }
+// 8, 12 for a 7 with width 13 and for a cut or overlong file, 13; else 0.
+pub fn refusal_by_file(s: Settings, head: Head, file: &[u8]) -> u32
+    requires { ⌜ (allowed (paper s) ≡ true) × HeadOf (now file) head ⌝ }
     ensures { λ r. ⌜ r ≡ by-file (paper s) (now (file .entry)) ⌝ }
 {
-    let count = count_at(&file[crate::SECOND_COUNT_AT..]);
+    let count = head.count;
+    let size = head.size;
     if s.capacity < count {
         return 8;
     }
-    if file.len() != crate::HEAD + s.record_size() * count {
+    if head.settings != crate::first_count(s) {
         return 12;
     }
-    if !keys_rise(&file[crate::HEAD..], count, s.width()) {
+    if file.len() != size + s.record_size() * count {
+        return 12;
+    }
+    if !keys_rise(&file[size..], count, s.width()) {
         return 13;
     }
     0

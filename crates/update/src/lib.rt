@@ -132,7 +132,24 @@ pub fn update(
     if !((work.len() == s.work_length()) & lengths_right(s, lengths)) {
         return 2;
     }
-    let table = hash::table();
+    // each table where it is read: one that is handed over is copied
+    if s.width == Settings::IPV4_WIDTH {
+        let table = hash::table();
+        return update_checked(
+            s,
+            &table[..],
+            edit,
+            ledger,
+            true_counts,
+            clipped,
+            buckets,
+            side,
+            work,
+            key,
+            class,
+        );
+    }
+    let table = hash::half_table();
     update_checked(
         s,
         &table[..],

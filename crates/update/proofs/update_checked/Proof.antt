@@ -8,7 +8,7 @@ use lib.Seq.{length-take-le}
 use Rattle.theory.specs.Settings.{Settings, card-of}
 use Rattle.theory.proofs.SettingsLaws.{ranges}
 use Rattle.settings.specs.Checked.{paper}
-use Rattle.settings.proofs.Laws.{record-most, capacity-is, work-length-is}
+use Rattle.settings.proofs.Laws.{capacity-is, work-length-is, bounds}
 use Rattle.update.specs.Editing.{Planned}
 use Rattle.update.proofs.EditKindLaws.{size-is}
 use Rattle.update.proofs.WriteLaws.{updated-3, updated-refused, updated-made}
@@ -38,7 +38,7 @@ module _ (c : tie.After-record-size) where
   wide = c .before .before .if1 .left ∙ asked .width .ensures
 
   small : c .record-size .result ≤ 64
-  small = omega (arith, c .record-size .ensures, record-most (t asked))
+  small = omega (arith, c .record-size .ensures, bounds (t asked) (start asked .pre .ready .ok) .record-most)
 
   halves : length (e .args .work .now) ≡ m + m
   halves = omega (arith, e .pre .words, c .before .buckets .ensures, work-length-is (t asked))

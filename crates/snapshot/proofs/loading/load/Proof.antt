@@ -11,9 +11,10 @@ use Rattle.theory.specs.Snapshot.{file-settings, head-wrong}
 use Rattle.theory.specs.CallAreas.{areas-now}
 use Rattle.settings.specs.declared.Settings.{Settings}
 use Rattle.settings.proofs.Laws.{refused-arm}
-use Rattle.placing.proofs.ReadyLaws.{ready}
+use Rattle.placing.proofs.ReadyLaws.{ready-by-byte, ready-by-half}
 use Rattle.writing.proofs.JudgedLaws.{Permitted, permitted, permits, Tested, words-right, areas-right}
-use Rattle.snapshot.proofs.FileLaws.{head-long}
+use Rattle.placing.specs.Ready.{Ready}
+use Rattle.snapshot.specs.Files.{Loading}
 use Rattle.snapshot.proofs.LoadLaws.{loads-12, loads-1, loads-2}
 use Rattle.snapshot.proofs.loading.load.Statement.{statement}
 use Rattle.snapshot.proofs.loading.load.Tie as tie
@@ -72,25 +73,44 @@ returns-3 c =
     let judged = c .before .before in
     c .not-loaded3 .ensures _ ∙ loads-2 _ (right-head (headed judged)) (tested judged) (not-true _ (c .before .if2 .taken))
 
+-- ---- they are right, whichever table is lent
+module _ (c : tie.Else2) where
+  abbrev judged : tie.After-lengths-right
+  judged = c .before
+
+  loading : {t : List ℕ} → Ready (s (known judged)) t → Loading (s (known judged)) t (file (e judged)) (start (e judged) .args .work .now) (areas (e judged))
+  loading ready =
+      let right = not-false _ (c .if2 .left) in
+      record {
+        ready = ready;
+        head = right-head (headed judged);
+        same = allowed-as (known judged) .same;
+        words = words-right (tested judged) right;
+        sized = areas-right (tested judged) right;
+      }
+
 load-checked-requires : tie.Need-load-checked-requires
 load-checked-requires c κs =
-    let table = c .before .before .before .before .before .before .before in
-    let judged = table .before .before in
-    let known = known judged in
-    let right = not-false _ (table .before .if2 .left) in
-    record {
-      ready = ready (s known) (permits (allowed-as known)) (table .table .result) (table .table .ensures) (search needs);
-      head = right-head (headed judged);
-      same = allowed-as known .same;
-      words = words-right (tested judged) right;
-      sized = areas-right (tested judged) right;
-    }
+    let made = c .before .before .before .before .before .before .before in
+    let narrow = made .before in
+    let fine = narrow .before .before in
+    let known = known (judged fine) in
+    loading fine (ready-by-byte (s known) (permits (allowed-as known)) (narrow .if3 .taken) (made .table .ensures) (search needs))
+
+load-checked-requires-2 : tie.Need-load-checked-requires-2
+load-checked-requires-2 c κs =
+    let made = c .before .before .before .before .before .before .before in
+    let wide = made .before in
+    let fine = wide .before .before in
+    let known = known (judged fine) in
+    loading fine (ready-by-half (s known) (permits (allowed-as known)) (wide .if3 .left) (made .half-table .ensures) (search needs))
 
 pub load-spec : {M : Type 1} → statement M
 load-spec =
     tie.close (tie.spec (λ c κs. search needs) (λ c κs. search needs)
     (λ c. c .not-loaded .ensures _ ∙ loads-12 _ _ _ (sym (c .before .before .head-wrong .ensures) ∙ c .before .if1 .taken))
-    (λ c κs. head-long (file (c .before)) (right-head c)) (λ c. search needs) (λ c. search needs) (λ c κs. search needs) returns-2
+    (λ c κs. right-head c) (λ c. search needs) (λ c. search needs) (λ c κs. search needs) returns-2
     (λ c κs. permits (allowed-as c)) (λ c κs. permits (allowed-as (c .before))) (λ c κs. search needs) returns-3 (λ c κs. search needs) (λ c. search needs)
     load-checked-requires (λ c. search needs) (λ c. search needs) (λ c. search needs) (λ c. search needs) (λ c. search needs) (λ c. search needs)
-    (λ c. search needs))
+    (λ c. search needs) (λ c κs. search needs) (λ c. search needs) load-checked-requires-2 (λ c. search needs) (λ c. search needs) (λ c. search needs)
+    (λ c. search needs) (λ c. search needs) (λ c. search needs) (λ c. search needs))

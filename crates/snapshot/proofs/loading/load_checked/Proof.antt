@@ -12,17 +12,20 @@ use Rattle.theory.specs.Layout.{layout}
 use Rattle.theory.proofs.SettingsLaws.{ranges}
 use Rattle.settings.specs.Checked.{paper}
 use Rattle.settings.proofs.Laws.{capacity-is, side-places-are, work-length-is}
-use Rattle.memory.proofs.SliceLaws.{length-tail}
+use Rattle.snapshot.specs.declared.reading.Head.{Head}
 use Rattle.snapshot.specs.Files.{listed, by-file}
-use Rattle.snapshot.proofs.FileLaws.{head-long, FullFile, full-file, lent-full, lent-fits, lent-listed}
+use Rattle.snapshot.proofs.FileLaws.{FullFile, full-file, lent-full, lent-fits, lent-listed}
 use Rattle.snapshot.proofs.LoadLaws.{loads-refused, loads-9, loads-0}
 use Rattle.snapshot.proofs.loading.load_checked.Statement.{statement}
 use Rattle.snapshot.proofs.loading.load_checked.Tie as tie
 
 -- ---- the file is judged
 module _ (c : tie.After-refusal-by-file) where
+  abbrev read : tie.After-read-head
+  read = c .before
+
   abbrev start : tie.Start
-  start = c .before .before .before .before .before .before .before .before .before
+  start = read .before .before .before .before .before .before .before .before .before
 
   abbrev t : Settings
   t = paper (start .args .s)
@@ -30,24 +33,21 @@ module _ (c : tie.After-refusal-by-file) where
   abbrev file : List ℕ
   file = start .args .file .now
 
-  long : 16 ≤ length file
-  long = head-long file (start .pre .head)
-
--- ---- it refuses nothing, and its records are counted
-module _ (c : tie.After-count-at) where
+-- ---- it refuses nothing
+module _ (c : tie.Else1) where
   abbrev judged : tie.After-refusal-by-file
-  judged = c .before .before .before
+  judged = c .before
 
-  abbrev n : ℕ
-  n = c .count-at .result
+  abbrev head : Head
+  head = read judged .read-head .result
 
   none : by-file (t judged) (file judged) ≡ 0
-  none = sym (judged .refusal-by-file .ensures) ∙ c .before .before .if1 .left
+  none = sym (judged .refusal-by-file .ensures) ∙ c .if1 .left
 
-  full : FullFile (t judged) (file judged) n (record-size (card-of (t judged)))
-  full = full-file (t judged) (file judged) (start judged .pre .head) (c .count-at .ensures .0) none
+  full : FullFile (t judged) (file judged) head (record-size (card-of (t judged)))
+  full = full-file (t judged) (read judged .read-head .ensures) none
 
-  most : n ≤ 4096
+  most : head .count ≤ 4096
   most = omega (arith, full .few, ranges (t judged) (start judged .pre .ready .ok) .capacity-high)
 
 -- ---- with the number of buckets
@@ -59,7 +59,7 @@ module _ (c : tie.After-place-area) where
   abbrev buckets : tie.After-buckets
   buckets = c .before .before .before .before
 
-  abbrev counted : tie.After-count-at
+  abbrev counted : tie.Else1
   counted = buckets .before
 
   abbrev e : tie.After-refusal-by-file
@@ -68,7 +68,7 @@ module _ (c : tie.After-place-area) where
   abbrev kept : List ℕ
   kept = c .place-area .last .1 .1 .1 .1 .0
 
-  in-kept : n counted ≤ length kept
+  in-kept : head counted .count ≤ length kept
   in-kept = omega (arith, c .place-area .kept .1 .1 .1 .1 .0, most counted)
 
   need-is : c .place-area .result ≡ side-need-of (card-of (t e)) (listed (t e) (file e))
@@ -86,10 +86,6 @@ returns : tie.Need-returns
 returns c =
     let refused = c .before .before in
     c .not-loaded .ensures _ ∙ loads-refused (start refused .pre) (refused .refusal-by-file .ensures) (c .before .if1 .taken)
-
-count-at-requires : tie.Need-count-at-requires
-count-at-requires c κs =
-    let e = c .before .before in omega (arith, length-tail 14 (file e) (omega (arith, long e)), long e)
 
 place-area-requires : tie.Need-place-area-requires
 place-area-requires c κs =
@@ -141,12 +137,12 @@ returns-3 c =
 
 pub load-checked-spec : {M : Type 1} → statement M
 load-checked-spec =
-    tie.close (tie.spec
-    (λ c κs. let pre = c .before .before .before .before .before .before .before .before .pre in (pre .ready .ok, head-long _ (pre .head)))
-    (λ c κs. search needs) returns (λ c. omega (arith, long (c .before))) (λ c. omega (arith, long (c .before))) (λ c. search needs) count-at-requires
-    (λ c κs. search needs) (λ c. long (judged (c .before))) (λ c. long (judged (c .before))) (λ c. search needs) (λ c. search needs) place-area-requires
+    tie.close (tie.spec (λ c κs. search needs)
+    (λ c κs. let pre = c .before .before .before .before .before .before .before .before .before .pre in (pre .ready .ok, c .read-head .ensures))
+    (λ c κs. search needs) returns (λ c κs. search needs) (λ c. full (c .before) .head .there) (λ c. full (c .before) .head .there) (λ c. search needs)
+    (λ c. search needs) place-area-requires
     (λ c κs. search needs) (λ c. search needs) returns-2 (λ c. in-kept (placed (c .before .before .before .before .before .before)))
     (λ c. let place = placed (c .before .before .before .before .before .before .before) in
-    sym (length-take-le (n (counted place)) (kept place) (in-kept place)))
+    sym (length-take-le (head (counted place) .count) (kept place) (in-kept place)))
     write-list-requires (λ c κs. search needs) (λ c. search needs) (λ c. search needs) (λ c. search needs) (λ c. search needs) (λ c. search needs)
     (λ c. search needs) returns-3)

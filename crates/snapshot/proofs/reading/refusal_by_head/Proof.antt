@@ -6,7 +6,6 @@ use Prim.Native.Nat.{ℕ}
 use Rattle.theory.specs.Snapshot.{file-settings, head-wrong}
 use Rattle.settings.proofs.Laws.{allowed-arm, refused-arm}
 use Rattle.snapshot.specs.Files.{by-head}
-use Rattle.snapshot.proofs.FileLaws.{head-long}
 use borrow.Author.Needs.{needs}
 use Rattle.snapshot.proofs.reading.refusal_by_head.Statement.{statement}
 use Rattle.snapshot.proofs.reading.refusal_by_head.Tie as tie
@@ -40,4 +39,4 @@ returns-3 c =
 
 pub refusal-by-head-spec : {M : Type 1} → statement M
 refusal-by-head-spec =
-    tie.close (tie.spec (λ c κs. search needs) returns (λ c κs. head-long (file c) (right c)) (λ c. search needs) (λ c. search needs) returns-2 returns-3)
+    tie.close (tie.spec (λ c κs. search needs) returns (λ c κs. right c) (λ c. search needs) (λ c. search needs) returns-2 returns-3)

@@ -9,7 +9,7 @@ use Rattle.snapshot.proofs.reading.setting.Tie as tie
 returns : tie.Need-returns
 returns c =
     let start = c .before .before .before in
-    number-lent (start .args .file .now) (2 + 2 * start .args .i) (omega (arith, start .pre .0, start .pre .1)) (c .count-at .ensures .0)
+    number-lent (start .args .file .now) (2 + 2 * start .args .i) (omega (arith, start .pre .1)) (c .count-at .ensures .0)
 
 pub setting-spec : {M : Type 1} → statement M
 setting-spec =

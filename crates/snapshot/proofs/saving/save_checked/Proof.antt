@@ -10,6 +10,7 @@ use Rattle.theory.specs.Settings.{Settings, card-of}
 use Rattle.theory.specs.Ledger.{side-need-of}
 use Rattle.theory.specs.Calls.{ledger-records}
 use Rattle.theory.proofs.SettingsLaws.{ranges}
+use Rattle.theory.proofs.SnapshotLaws.{first-count-most}
 use Rattle.settings.specs.Checked.{paper}
 use Rattle.settings.proofs.Laws.{capacity-is, side-places-are, work-length-is, bounds}
 use Rattle.ledger.proofs.LedgerLaws.{has-count}
@@ -64,14 +65,17 @@ module _ (c : tie.After-place-area) where
 
 -- ---- which is not above the side places
 module _ (c : tie.After-record-size) where
+  abbrev headed : tie.After-saved-head-size
+  headed = c .before
+
   abbrev placed : tie.After-place-area
-  placed = c .before .before .before .before .before .before
+  placed = headed .before .before .before .before .before .before
 
   abbrev e : tie.After-valid
   e = at placed
 
   enough : placed .place-area .result ≤ card-of (t e) .side-places
-  enough = omega (arith, c .before .if2 .left, side-places-are (t e))
+  enough = omega (arith, headed .before .if2 .left, side-places-are (t e))
 
   end : 2 + c .record-size .result * n (counted placed) ≤ length (area e)
   end = end-within (known (counted placed)) (c .record-size .ensures)
@@ -99,13 +103,14 @@ returns-3 : tie.Need-returns-3
 returns-3 c =
     let sized = c .before in
     let known = known (counted (placed sized)) in
-    saves-12 (start (e sized) .pre) _ known (need-is (placed sized)) (enough sized) (sized .record-size .ensures) (c .if3 .taken)
+    saves-12 (start (e sized) .pre) _ known (need-is (placed sized)) (enough sized) (headed sized .saved-head-size .ensures)
+    (sized .record-size .ensures) (c .if3 .taken)
 
 write-snapshot-requires : tie.Need-write-snapshot-requires
 write-snapshot-requires c κs =
     let sized = c .before .before in
     let counted = counted (placed sized) in
-    (known counted, c .before .if3 .left ∙ ap (λ (z : ℕ). 16 + z * n counted) (sized .record-size .ensures))
+    (known counted, rw (← headed sized .saved-head-size .ensures, ← sized .record-size .ensures) (c .before .if3 .left))
 
 returns-4 : tie.Need-returns-4
 returns-4 c =
@@ -113,7 +118,8 @@ returns-4 c =
     let right = write .before .before in
     let sized = right .before in
     let known = known (counted (placed sized)) in
-    saves-0 (start (e sized) .pre) _ known (need-is (placed sized)) (enough sized) (sized .record-size .ensures) (right .if3 .left)
+    saves-0 (start (e sized) .pre) _ known (need-is (placed sized)) (enough sized) (headed sized .saved-head-size .ensures)
+    (sized .record-size .ensures) (right .if3 .left)
     (write .write-snapshot .ensures)
 
 pub save-checked-spec : {M : Type 1} → statement M
@@ -121,6 +127,13 @@ save-checked-spec =
     tie.close (tie.spec (λ c κs. search needs)
     (λ c. saves-4 (start (c .before) .pre) _ (not-false _ (sym (c .before .valid .ensures) ∙ not-true _ (c .if1 .taken)))) (λ c κs. has-two (c .before))
     (λ c κs. search needs) (λ c. search needs) (λ c. has-two (judged (c .before .before .before))) (λ c. has-two (judged (c .before .before .before)))
-    (λ c. search needs) place-area-requires (λ c. search needs) returns-2 (λ c κs. search needs) (λ c. omega (arith, end c))
-    (λ c. omega (arith, end c, start (e c) .pre .whole, bounds (t (e c)) (start (e c) .pre .ready .ok) .ledger-most)) (λ c. search needs) returns-3
+    (λ c. search needs) place-area-requires (λ c. search needs) returns-2 (λ c κs. search needs) (λ c κs. search needs) (λ c. omega (arith, end c))
+    (λ c. omega (
+      arith,
+      end c,
+      start (e c) .pre .whole,
+      bounds (t (e c)) (start (e c) .pre .ready .ok) .ledger-most,
+      headed c .saved-head-size .ensures,
+      first-count-most (t (e c)),
+    )) (λ c. search needs) returns-3
     write-snapshot-requires (λ c. search needs) (λ c. search needs) returns-4)
