@@ -1,4 +1,6 @@
 // A call as data: programs that run lists of calls go through `perform`, those that judge settings and lengths once and lend a table through `call`.
+use hash::made::made_length;
+use hash::made::make_table;
 use lookup::searching::Answer;
 use settings::Checked;
 use settings::Given;
@@ -146,10 +148,12 @@ fn call_checked(
         (plain.call (card s) (call-of kind (now (key .entry)) class) (entry-areas ledger «true_counts» clipped buckets side)) ⌝ }
 {
     if let Kind::Update(_) = kind {
-        let table = hash::table();
+        let width = s.width();
+        let entries = made_length(width);
+        let table = make_table(width);
         return call(
             s,
-            &table[..],
+            &table[..entries],
             kind,
             ledger,
             true_counts,

@@ -1,6 +1,7 @@
 // Program flowrun: reads calls of 18 bytes from standard input and prints a line for each. It only reads and writes, in blocks of 512 calls;
 // crate lines runs the calls and makes their lines.
 use settings::Given;
+use settings::Settings;
 ghost use Prim.Native.Nat.{_<_};
 
 // The next block of calls, numbered from a first number on; whether more may follow.
@@ -76,6 +77,7 @@ fn main() {
             top: lines::TOP,
             capacity: lines::CAPACITY,
             side_places: lines::SIDE_PLACES,
+            width: Settings::IPV4_WIDTH as u64,
         },
         &mut ledger,
         &mut true_counts,

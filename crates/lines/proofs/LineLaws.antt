@@ -10,6 +10,7 @@ use Rattle.theory.specs.Ledger as plain
 use Rattle.theory.specs.Lookup as plain-lookup
 use Rattle.theory.specs.Lookup.{bare}
 use Rattle.theory.specs.Records.{of-bytes}
+use Rattle.theory.specs.Settings.{ipv4-width}
 use Rattle.theory.specs.Layout.{Areas}
 use Rattle.theory.specs.Calls.{perform}
 use Rattle.theory.specs.Flowrun as flowrun
@@ -78,9 +79,9 @@ module _ (w : ℕ) (b : List ℕ) (a : Areas) where
 
   module _ (long : length b ≡ 18) (asked : Asked)
       (by-letter : (key : List ℕ) (class : ℕ) → call-asked asked key class ≡ letter-call (getD b 0 0) key class) where
-    call-is : call-in b ≡ call-asked asked (take 13 (drop 1 b)) (of-bytes (take 4 (drop 14 b)))
+    call-is : call-in b ≡ call-asked asked (take ipv4-width (drop 1 b)) (of-bytes (take 4 (drop 14 b)))
     unfolding call-in
-    call-is = rw (eq-eqb (length b) 18 long) (sym (by-letter (take 13 (drop 1 b)) (of-bytes (take 4 (drop 14 b)))))
+    call-is = rw (eq-eqb (length b) 18 long) (sym (by-letter (take ipv4-width (drop 1 b)) (of-bytes (take 4 (drop 14 b)))))
 
     -- another letter
     pub shown-unknown : (n letter : ℕ) (x : plain-lookup.Answer) → asked ≡ Unknown → letter ≡ 63 → x ≡ bare 14
@@ -91,8 +92,8 @@ module _ (w : ℕ) (b : List ℕ) (a : Areas) where
     -- a call
     pub shown-call : (n : ℕ) (kind : Kind) (class : ℕ) (r : plain.Reply) (after : Areas) (x : plain-lookup.Answer) → asked ≡ Known kind
         → class ≡ of-bytes (take 4 (drop 14 b))
-        → record { reply = r; state = after } ≡ perform flowrun-settings w (call-of kind (take 13 (drop 1 b)) class) a
-        → x ≡ flowrun.printed (call-of kind (take 13 (drop 1 b)) class) r
+        → record { reply = r; state = after } ≡ perform flowrun-settings w (call-of kind (take ipv4-width (drop 1 b)) class) a
+        → x ≡ flowrun.printed (call-of kind (take ipv4-width (drop 1 b)) class) r
         → record { text = line-text (record { call = n; letter = getD b 0 0; answer = x }); areas = after } ≡ print-bytes w n b a
     unfolding print-bytes
     shown-call n kind class r after x q e f g = rw (call-is, q, ← e, ← f, g)

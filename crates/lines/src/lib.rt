@@ -3,6 +3,7 @@ use calls::Kind;
 use calls::Reply;
 use lookup::searching::Answer;
 use settings::Given;
+use settings::Settings;
 use text::append_decimal;
 use text::append_letter;
 use update::editing::Edit;
@@ -164,6 +165,7 @@ fn show_call(
             top: TOP,
             capacity: CAPACITY,
             side_places: SIDE_PLACES,
+            width: Settings::IPV4_WIDTH as u64,
         },
         ledger,
         true_counts,

@@ -38,6 +38,7 @@ fn read_settings(bytes: &[u8]) -> Given
         top: setting(bytes, 3),
         capacity: setting(bytes, 4),
         side_places: setting(bytes, 5),
+        width: Settings::IPV4_WIDTH as u64,
     }
 }
 

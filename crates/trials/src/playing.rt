@@ -7,6 +7,8 @@ use bench_load::class_of;
 use bench_load::next_two;
 use bench_load::write_key;
 use calls::Kind;
+use hash::made::made_length;
+use hash::made::make_table;
 use memory::numbers::count_at;
 use settings::Settings;
 use update::editing::Edit;
@@ -56,7 +58,7 @@ fn play_call(
     ensures { λ r. ⌜ Played (card s) (load-call flows (drawn first second)) (entry-areas ledger «true_counts» clipped buckets side) (numbers-of before)
         (exit-areas ledger «true_counts» clipped buckets side) (numbers-of r) ⌝ }
 {
-    let mut key = [0u8; 13];
+    let mut key = [0u8; Settings::IPV4_WIDTH];
     write_key(&mut key, flows, second);
     let reply = calls::call(
         s,
@@ -131,10 +133,12 @@ fn play_cleared(
     ensures { λ r. ⌜ numbers-of r ≡ plain.tried (card s) (load-calls (load .flows) (load .count) (generator-of (load .generator))) [] plain.no-numbers ⌝ }
 {
     writing::clear_areas(s, ledger, true_counts, clipped, buckets, side);
-    let table = hash::table();
+    let width = s.width();
+    let entries = made_length(width);
+    let table = make_table(width);
     play(
         s,
-        &table[..],
+        &table[..entries],
         load,
         ledger,
         true_counts,

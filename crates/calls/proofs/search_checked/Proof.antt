@@ -5,7 +5,7 @@ use borrow.Author.Tests.{eq-eqb, ne-eqb}
 use lib.ListN.{length}
 use Rattle.theory.specs.Ledger.{key-wrong}
 use Rattle.settings.specs.Checked.{paper, card}
-use Rattle.settings.proofs.Laws.{width-is}
+use Rattle.settings.proofs.Laws.{key-width}
 use Rattle.lookup.proofs.PlaceLaws.{hashed}
 use Rattle.calls.proofs.search_checked.Statement.{statement}
 use Rattle.calls.proofs.search_checked.Tie as tie
@@ -34,5 +34,5 @@ returns-2 c =
 
 pub search-checked-spec : {M : Type 1} → statement M
 search-checked-spec =
-    tie.close (tie.spec (λ c κs. search needs) (λ c κs. search needs) returns (λ c κs. wide c ∙ width-is (paper (start (c .before) .args .s)))
-    (λ c κs. search needs) returns-2)
+    tie.close (tie.spec (λ c κs. search needs) (λ c κs. search needs) returns
+    (λ c κs. let e = start (c .before) in key-width (paper (e .args .s)) (e .pre .ok) (wide c)) (λ c κs. search needs) returns-2)

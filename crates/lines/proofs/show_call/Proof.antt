@@ -2,6 +2,7 @@
 use mathlib.Core.List.{List}
 use Prim.Native.Nat.{ℕ}
 use lib.ListN.{length, take, drop}
+use Rattle.theory.specs.Settings.{ipv4-width}
 use Rattle.theory.specs.Flowrun.{flowrun-settings}
 use Rattle.lines.proofs.LineLaws.{shown-left-over, shown-unknown, shown-call}
 use borrow.Author.Needs.{needs}
@@ -47,7 +48,7 @@ returns-3 c =
     let read = known .before .before in
     let e = start read in
     λ n. shown-call (work-length e) (call e) _ (whole read .if1 .left) _ (read .read-letter .ensures) n _ _ _ _ _ (known .asked .given .1)
-    (class .class-at .ensures) (performed .perform .ensures) (c .printed .ensures (take 13 (drop 1 (call e))))
+    (class .class-at .ensures) (performed .perform .ensures) (c .printed .ensures (take ipv4-width (drop 1 (call e))))
 
 pub show-call-spec : {M : Type 1} → statement M
 show-call-spec =
