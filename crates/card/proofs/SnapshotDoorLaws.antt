@@ -8,7 +8,7 @@ use borrow.Author.Tests.{eq-eqb, ne-eqb}
 use lib.ListN.{length}
 use Rattle.theory.specs.Settings.{allowed}
 use Rattle.theory.specs.Layout.{Areas}
-use Rattle.theory.specs.Snapshot.{settings-list, Loaded, file-settings, head-wrong, load}
+use Rattle.theory.specs.Snapshot.{settings-count, settings-list, Loaded, file-settings, head-wrong, load}
 use Rattle.theory.proofs.ListLaws.{by-test}
 use Rattle.snapshot.specs.Files.{by-head}
 use Rattle.card.specs.Snapshots.{settings-area-refusal, load-of}
@@ -19,12 +19,12 @@ unfolding by-head settings-area-refusal
 refusal-by-head file = by-test (head-wrong file) (λ e. rw e) (λ e. by-test (allowed (file-settings file)) (λ o. rw (e, o)) (λ o. rw (e, o)))
 
 module _ (file : List ℕ) (w : ℕ) (a : Areas) (settings : List ℕ) where
-  pub settings-area-wrong : (length settings ≡ 6 → ⊥) → (n : ℕ) → n ≡ settings-area-refusal file
+  pub settings-area-wrong : (length settings ≡ settings-count → ⊥) → (n : ℕ) → n ≡ settings-area-refusal file
       → record { number = n; settings = settings; areas = a } ≡ load-of file w a settings
   unfolding load-of
-  settings-area-wrong q n e = rw (ne-eqb (length settings) 6 q, e)
+  settings-area-wrong q n e = rw (ne-eqb (length settings) settings-count q, e)
 
-  pub loaded-into : length settings ≡ 6 → (x : Loaded) → x ≡ load file w a → (after : List ℕ) → after ≡ settings-list (x .settings)
+  pub loaded-into : length settings ≡ settings-count → (x : Loaded) → x ≡ load file w a → (after : List ℕ) → after ≡ settings-list (x .settings)
       → record { number = x .number; settings = after; areas = x .areas } ≡ load-of file w a settings
   unfolding load-of
-  loaded-into q x e after f = rw (eq-eqb (length settings) 6 q, f, e)
+  loaded-into q x e after f = rw (eq-eqb (length settings) settings-count q, f, e)

@@ -6,10 +6,9 @@ use lib.Dec.{eqb}
 use lib.ListN.{length, replicate}
 use Rattle.theory.specs.Lists.{has, upto}
 use Rattle.theory.specs.Hash.{H, hash}
-use Rattle.theory.specs.Settings.{Settings, allowed, Card, card-of, key-width, ledger-length, true-length, clipped-length, buckets-length, side-length}
+use Rattle.theory.specs.Settings.{Settings, allowed, width-allowed, Card, card-of, ledger-length, true-length, clipped-length, buckets-length, side-length}
 use Rattle.theory.specs.Settings.{work-length}
-use Rattle.hash.specs.Digits.{table-length, table-entries}
-use Rattle.hash.specs.Table.{table-lengths, H-by}
+use Rattle.hash.specs.Table.{table-lengths, lent-table, H-by}
 
 -- a refusal unless a test holds; else what follows
 abbrev pub unless : {A : Type 0} → Bool → A → A → A
@@ -41,21 +40,24 @@ unfoldable pub area-lengths-of : Settings → List ℕ → Filled
 area-lengths-of t lengths =
     unless (allowed t) (refused 1 lengths) (unless (eqb (length lengths) 6) (refused 2 lengths) (filled (lengths-of (card-of t))))
 
--- 2 when the area is not of 3,328 numbers; else the table: for each of 13 byte positions an entry for each of 256 byte values
-unfoldable pub hash-table-of : List ℕ → Filled
-hash-table-of table = unless (eqb (length table) (table-length 8 key-width)) (refused 2 table) (filled (table-entries 8 key-width))
+-- 1 when the number is no key width; 2 when the area is of no length that a table of the width may have; else the table of that length: for each byte position
+-- an entry for each of 256 byte values, or for each half-byte one for each of 16
+unfoldable pub hash-table-of : ℕ → List ℕ → Filled
+hash-table-of w table =
+    unless (width-allowed w) (refused 1 table) (unless (has (length table) (table-lengths w)) (refused 2 table) (filled (lent-table w (length table))))
 
--- 2 when the area is not of 1 number; 3 when the key is not of 13 bytes; else the number x
-unfoldable pub hash-as : ℕ → List ℕ → List ℕ → Filled
-hash-as x key h = unless (eqb (length h) 1) (refused 2 h) (unless (eqb (length key) key-width) (refused 3 h) (filled (x ∷ [])))
+-- 2 when the area is not of 1 number; 3 when the key is not of the width; else the number x
+unfoldable pub hash-as : ℕ → ℕ → List ℕ → List ℕ → Filled
+hash-as x w key h = unless (eqb (length h) 1) (refused 2 h) (unless (eqb (length key) w) (refused 3 h) (filled (x ∷ [])))
 
--- H of the key
-abbrev pub hash-of : List ℕ → List ℕ → Filled
-hash-of key h = hash-as (H key) key h
+-- 1 when the number is no key width; else H of the key
+unfoldable pub hash-of : ℕ → List ℕ → List ℕ → Filled
+hash-of w key h = unless (width-allowed w) (refused 1 h) (hash-as (H key) w key h)
 
--- with a lent table, whatever it holds: 2 also when its length is none that is allowed, 3,328 numbers; else the xor of its entries for the bytes of the key
-unfoldable pub hash-lent-of : List ℕ → List ℕ → List ℕ → Filled
-hash-lent-of table key h = unless (has (length table) (table-lengths key-width)) (refused 2 h) (hash-as (H-by table key) key h)
+-- with a lent table, whatever it holds: 2 also when its length is none that the width allows; else the xor of its entries for the digits of the key
+unfoldable pub hash-lent-of : ℕ → List ℕ → List ℕ → List ℕ → Filled
+hash-lent-of w table key h =
+    unless (width-allowed w) (refused 1 h) (unless (has (length table) (table-lengths w)) (refused 2 h) (hash-as (H-by table key) w key h))
 
 -- the number answered, and both lent areas at exit
 pub record Numbered : Type 0 where
@@ -71,12 +73,13 @@ first-hashes m h = map (λ j. hash m h j) (upto 0 4)
 unfoldable pub counted : List ℕ → List ℕ
 counted l = length l ∷ l ++ replicate (4 - length l) 0
 
--- 1 when a setting is out of range; 2 when the areas are not of 4 and of 5 numbers; 3 when the key is not of 13 bytes; else the key's hashes and bucket numbers
+-- 1 when a setting is out of range; 2 when the areas are not of 4 and of 5 numbers; 3 when the key is not of the width; else the key's hashes and
+-- bucket numbers
 unfoldable pub key-buckets-of : Settings → List ℕ → List ℕ → List ℕ → Numbered
 key-buckets-of t key hashes numbers =
     let refusal : ℕ → Numbered = λ n. record { number = n; hashes = hashes; numbers = numbers } in
     unless (allowed t) (refusal 1)
     (unless (eqb (length hashes) 4) (refusal 2)
     (unless (eqb (length numbers) 5) (refusal 2)
-    (unless (eqb (length key) key-width) (refusal 3)
+    (unless (eqb (length key) (card-of t .width)) (refusal 3)
     (record { number = 0; hashes = first-hashes (2 ^ t .p) (H key); numbers = counted (card-of t .numbers key) }))))

@@ -19,7 +19,7 @@ pub record LoadedInto : Type 0 where
 unfoldable pub settings-area-refusal : List ℕ → ℕ
 settings-area-refusal file = cond (head-wrong file) 12 (cond (not (allowed (file-settings file))) 1 2)
 
--- "hands them back": what loading gives, the settings in an area of 6 numbers; an area of another length is refused, with nothing altered
+-- "hands them back": what loading gives, the settings in an area of 7 numbers; an area of another length is refused, with nothing altered
 unfoldable pub load-of : List ℕ → ℕ → Areas → List ℕ → LoadedInto
 load-of file w a settings =
     let x = load file w a in

@@ -15,7 +15,7 @@ ghost use Rattle.card.specs.Doors.{Filled, settings-check-of, lengths-of
 ghost use Rattle.card.specs.Doors.{first-hashes, Numbered, key-buckets-of};
 
 pub mod generators; // generators.rt: the door that advances a generator of the bench's load
-pub mod packets; // packets.rt: the door that reads a packet
+pub mod packets; // packets.rt: the doors that read a packet
 pub mod reading; // reading.rt: the doors of search and tally
 pub mod snapshots; // snapshots.rt: the doors that save and load
 pub mod updating; // updating.rt: the doors that clear, add, change and remove
@@ -30,8 +30,9 @@ pub extern "C" fn flow_settings_check(
     top: u64,
     capacity: u64,
     side_places: u64,
+    width: u64,
 ) -> u32
-    ensures { λ r. ⌜ r ≡ settings-check-of (settings-of p k room top capacity «side_places») ⌝ }
+    ensures { λ r. ⌜ r ≡ settings-check-of (settings-of p k room top capacity «side_places» width) ⌝ }
 {
     let given = Given {
         p,
@@ -40,6 +41,7 @@ pub extern "C" fn flow_settings_check(
         top,
         capacity,
         side_places,
+        width,
     };
     let checked = Settings::new(given);
     match checked {
@@ -57,10 +59,11 @@ pub extern "C" fn flow_area_lengths(
     top: u64,
     capacity: u64,
     side_places: u64,
+    width: u64,
     lengths: &mut [u64],
 ) -> u32
     ensures { λ r. ⌜ _≡_ {A = Filled} (record { number = r; area = now (lengths .exit) })
-        (area-lengths-of (settings-of p k room top capacity «side_places») (now (lengths .entry))) ⌝ }
+        (area-lengths-of (settings-of p k room top capacity «side_places» width) (now (lengths .entry))) ⌝ }
 {
     let given = Given {
         p,
@@ -69,6 +72,7 @@ pub extern "C" fn flow_area_lengths(
         top,
         capacity,
         side_places,
+        width,
     };
     let checked = Settings::new(given);
     let Checked::Allowed(s) = checked else {
@@ -94,52 +98,66 @@ fn write_lengths(s: Settings, lengths: &mut [u64])
     lengths[5] = s.work_length() as u64;
 }
 
-// The table that `flow_hash_lent` reads: 2 if `table` is not of 3,328 numbers.
+// The table that `flow_hash_lent` and the searches with a lent table read, for keys of a width: 1 if the width is neither 13 nor 37; 2 if `table` is not of
+// 3,328 numbers at 13, of 1,184 (by half-byte) or 9,472 (by byte) at 37.
 #[no_mangle]
-pub extern "C" fn flow_hash_table(table: &mut [u64]) -> u32
-    ensures { λ r. ⌜ _≡_ {A = Filled} (record { number = r; area = now (table .exit) }) (hash-table-of (now (table .entry))) ⌝ }
+pub extern "C" fn flow_hash_table(width: u64, table: &mut [u64]) -> u32
+    ensures { λ r. ⌜ _≡_ {A = Filled} (record { number = r; area = now (table .exit) }) (hash-table-of width (now (table .entry))) ⌝ }
 {
-    if table.len() != hash::TABLE_LENGTH {
+    if !Settings::width_allowed(width) {
+        return 1;
+    }
+    let bytes = width as usize;
+    if !hash::table_length_right(table.len(), bytes) {
         return 2;
     }
-    hash::fill_table(table);
+    hash::fill_table(bytes, table);
     0
 }
 
-// H of a key, with no table: 2 if `h` is not of 1 number; 3 if the key is not of 13 bytes.
+// H of a key of a width, with no table: 1; 2 if `h` is not of 1 number; 3 if the key is not of the width.
 #[no_mangle]
-pub extern "C" fn flow_hash(key: &[u8], h: &mut [u64]) -> u32
-    ensures { λ r. ⌜ _≡_ {A = Filled} (record { number = r; area = now (h .exit) }) (hash-of (now (key .entry)) (now (h .entry))) ⌝ }
+pub extern "C" fn flow_hash(width: u64, key: &[u8], h: &mut [u64]) -> u32
+    ensures { λ r. ⌜ _≡_ {A = Filled} (record { number = r; area = now (h .exit) }) (hash-of width (now (key .entry)) (now (h .entry))) ⌝ }
 {
+    if !Settings::width_allowed(width) {
+        return 1;
+    }
     if h.len() != 1 {
         return 2;
     }
-    if key.len() != Settings::KEY_WIDTH {
+    if key.len() != width as usize {
         return 3;
     }
     h[0] = hash::h_rows(key);
     0
 }
 
-// What a lent table gives for a key, H where the table is right: 2 if the table is not of 3,328 numbers, or `h` not of 1; 3 if the key is not of 13 bytes.
+// What a lent table gives for a key, H where the table is right: 1; 2 if the table is not of a length that the width allows, or `h` not of 1 number; 3 if the
+// key is not of the width.
 #[no_mangle]
-pub extern "C" fn flow_hash_lent(lent: &[u64], key: &[u8], h: &mut [u64]) -> u32
-    ensures { λ r. ⌜ _≡_ {A = Filled} (record { number = r; area = now (h .exit) }) (hash-lent-of (now (lent .entry)) (now (key .entry)) (now (h .entry))) ⌝ }
+pub extern "C" fn flow_hash_lent(width: u64, lent: &[u64], key: &[u8], h: &mut [u64]) -> u32
+    ensures { λ r. ⌜ _≡_ {A = Filled} (record { number = r; area = now (h .exit) })
+        (hash-lent-of width (now (lent .entry)) (now (key .entry)) (now (h .entry))) ⌝ }
 {
-    if lent.len() != hash::TABLE_LENGTH {
+    if !Settings::width_allowed(width) {
+        return 1;
+    }
+    let bytes = width as usize;
+    if !hash::table_length_right(lent.len(), bytes) {
         return 2;
     }
     if h.len() != 1 {
         return 2;
     }
-    if key.len() != Settings::KEY_WIDTH {
+    if key.len() != bytes {
         return 3;
     }
     h[0] = hash::h_with_table(lent, key);
     0
 }
 
-// A key's hashes and bucket numbers: 1; 2 if `hashes` is not of 4 numbers, or `numbers` not of 5; 3 if the key is not of 13 bytes.
+// A key's hashes and bucket numbers: 1; 2 if `hashes` is not of 4 numbers, or `numbers` not of 5; 3 if the key is not of the width.
 #[no_mangle]
 pub extern "C" fn flow_key_buckets(
     p: u64,
@@ -148,12 +166,13 @@ pub extern "C" fn flow_key_buckets(
     top: u64,
     capacity: u64,
     side_places: u64,
+    width: u64,
     key: &[u8],
     hashes: &mut [u16],
     numbers: &mut [u16],
 ) -> u32
     ensures { λ r. ⌜ _≡_ {A = Numbered} (record { number = r; hashes = now (hashes .exit); numbers = now (numbers .exit) })
-        (key-buckets-of (settings-of p k room top capacity «side_places») (now (key .entry)) (now (hashes .entry)) (now (numbers .entry))) ⌝ }
+        (key-buckets-of (settings-of p k room top capacity «side_places» width) (now (key .entry)) (now (hashes .entry)) (now (numbers .entry))) ⌝ }
 {
     let given = Given {
         p,
@@ -162,6 +181,7 @@ pub extern "C" fn flow_key_buckets(
         top,
         capacity,
         side_places,
+        width,
     };
     let checked = Settings::new(given);
     let Checked::Allowed(s) = checked else {
@@ -173,7 +193,7 @@ pub extern "C" fn flow_key_buckets(
     if numbers.len() != 5 {
         return 2;
     }
-    if key.len() != Settings::KEY_WIDTH {
+    if key.len() != s.width() {
         return 3;
     }
     let h = hash::h_rows(key);

@@ -27,12 +27,13 @@ pub extern "C" fn flow_search(
     top: u64,
     capacity: u64,
     side_places: u64,
+    width: u64,
     clipped: &[u8],
     buckets: &[u8],
     side: &[u8],
     key: &[u8],
 ) -> u64
-    ensures { λ r. ⌜ r ≡ search-of (settings-of p k room top capacity «side_places»)
+    ensures { λ r. ⌜ r ≡ search-of (settings-of p k room top capacity «side_places» width)
         (now (clipped .entry)) (now (buckets .entry)) (now (side .entry)) (now (key .entry)) ⌝ }
 {
     let given = Given {
@@ -42,6 +43,7 @@ pub extern "C" fn flow_search(
         top,
         capacity,
         side_places,
+        width,
     };
     lookup::bursts::search_number(given, clipped, buckets, side, key)
 }
@@ -56,13 +58,14 @@ pub extern "C" fn flow_search_lent(
     top: u64,
     capacity: u64,
     side_places: u64,
+    width: u64,
     clipped: &[u8],
     buckets: &[u8],
     side: &[u8],
     key: &[u8],
 ) -> u64
     ensures { λ r. ⌜ r ≡ driver-number (search-with (now (table .entry))
-        (settings-of p k room top capacity «side_places»)
+        (settings-of p k room top capacity «side_places» width)
         (now (clipped .entry)) (now (buckets .entry)) (now (side .entry)) (now (key .entry))) ⌝ }
 {
     let given = Given {
@@ -72,6 +75,7 @@ pub extern "C" fn flow_search_lent(
         top,
         capacity,
         side_places,
+        width,
     };
     driver_number(lookup::searching::search_with_table(table, given, clipped, buckets, side, key))
 }
@@ -87,6 +91,7 @@ pub extern "C" fn flow_search_burst(
     top: u64,
     capacity: u64,
     side_places: u64,
+    width: u64,
     clipped: &[u8],
     buckets: &[u8],
     side: &[u8],
@@ -94,7 +99,7 @@ pub extern "C" fn flow_search_burst(
     answers: &mut [u64],
 ) -> u32
     ensures { λ r. ⌜ _≡_ {A = Burst} (record { number = r; answers = now (answers .exit) })
-        (burst-of (now (table .entry)) (settings-of p k room top capacity «side_places»)
+        (burst-of (now (table .entry)) (settings-of p k room top capacity «side_places» width)
         (now (clipped .entry)) (now (buckets .entry)) (now (side .entry)) (now (keys .entry)) (now (answers .entry))) ⌝ }
 {
     let given = Given {
@@ -104,6 +109,7 @@ pub extern "C" fn flow_search_burst(
         top,
         capacity,
         side_places,
+        width,
     };
     lookup::bursts::search_burst(table, given, clipped, buckets, side, keys, answers)
 }
@@ -148,6 +154,7 @@ pub extern "C" fn flow_search_place(
     top: u64,
     capacity: u64,
     side_places: u64,
+    width: u64,
     clipped: &[u8],
     buckets: &[u8],
     side: &[u8],
@@ -155,7 +162,7 @@ pub extern "C" fn flow_search_place(
     place: &mut [u64],
 ) -> u64
     ensures { λ r. ⌜ _≡_ {A = Filled} (record { number = r; area = now (place .exit) })
-        (search-place-of (settings-of p k room top capacity «side_places»)
+        (search-place-of (settings-of p k room top capacity «side_places» width)
         (now (clipped .entry)) (now (buckets .entry)) (now (side .entry)) (now (key .entry)) (now (place .entry))) ⌝ }
 {
     let given = Given {
@@ -165,6 +172,7 @@ pub extern "C" fn flow_search_place(
         top,
         capacity,
         side_places,
+        width,
     };
     let found = lookup::locating::locate(given, clipped, buckets, side, key);
     give_place(found, place)
@@ -202,6 +210,7 @@ pub extern "C" fn flow_search_counts(
     top: u64,
     capacity: u64,
     side_places: u64,
+    width: u64,
     clipped: &[u8],
     buckets: &[u8],
     side: &[u8],
@@ -209,7 +218,7 @@ pub extern "C" fn flow_search_counts(
     counts: &mut [u32],
 ) -> u64
     ensures { λ r. ⌜ _≡_ {A = Filled} (record { number = r; area = now (counts .exit) })
-        (search-counts-of (settings-of p k room top capacity «side_places»)
+        (search-counts-of (settings-of p k room top capacity «side_places» width)
         (now (clipped .entry)) (now (buckets .entry)) (now (side .entry)) (now (key .entry)) (now (counts .entry))) ⌝ }
 {
     let given = Given {
@@ -219,6 +228,7 @@ pub extern "C" fn flow_search_counts(
         top,
         capacity,
         side_places,
+        width,
     };
     let found = lookup::locating::locate(given, clipped, buckets, side, key);
     give_counts(found.answer, counts)
@@ -234,6 +244,7 @@ pub extern "C" fn flow_search_counts_lent(
     top: u64,
     capacity: u64,
     side_places: u64,
+    width: u64,
     clipped: &[u8],
     buckets: &[u8],
     side: &[u8],
@@ -241,7 +252,7 @@ pub extern "C" fn flow_search_counts_lent(
     counts: &mut [u32],
 ) -> u64
     ensures { λ r. ⌜ _≡_ {A = Filled} (record { number = r; area = now (counts .exit) })
-        (search-counts-with (now (table .entry)) (settings-of p k room top capacity «side_places»)
+        (search-counts-with (now (table .entry)) (settings-of p k room top capacity «side_places» width)
         (now (clipped .entry)) (now (buckets .entry)) (now (side .entry)) (now (key .entry)) (now (counts .entry))) ⌝ }
 {
     let given = Given {
@@ -251,6 +262,7 @@ pub extern "C" fn flow_search_counts_lent(
         top,
         capacity,
         side_places,
+        width,
     };
     let found = lookup::counting::search_counted(table, given, clipped, buckets, side, key);
     give_counts(found, counts)
@@ -276,6 +288,7 @@ pub extern "C" fn flow_tally(
     top: u64,
     capacity: u64,
     side_places: u64,
+    width: u64,
     ledger: &[u8],
     clipped: &[u8],
     buckets: &[u8],
@@ -283,7 +296,7 @@ pub extern "C" fn flow_tally(
     totals: &mut [u32],
 ) -> u32
     ensures { λ r. ⌜ _≡_ {A = Filled} (record { number = r; area = now (totals .exit) })
-        (tally-of (settings-of p k room top capacity «side_places»)
+        (tally-of (settings-of p k room top capacity «side_places» width)
         (now (ledger .entry)) (now (clipped .entry)) (now (buckets .entry)) (now (side .entry)) (now (totals .entry))) ⌝ }
 {
     let given = Given {
@@ -293,6 +306,7 @@ pub extern "C" fn flow_tally(
         top,
         capacity,
         side_places,
+        width,
     };
     let x = tally::tally(given, ledger, clipped, buckets, side);
     let number = x.number;

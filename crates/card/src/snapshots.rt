@@ -17,12 +17,13 @@ pub extern "C" fn flow_save(
     top: u64,
     capacity: u64,
     side_places: u64,
+    width: u64,
     ledger: &[u8],
     work: &mut [u16],
     target: &mut [u8],
 ) -> u32
     ensures { λ r. ⌜ _≡_ {A = Saved} (record { number = r; target = now (target .exit) })
-        (save (settings-of p k room top capacity «side_places») (now (ledger .entry)) (length (now (work .entry))) (now (target .entry))) ⌝ }
+        (save (settings-of p k room top capacity «side_places» width) (now (ledger .entry)) (length (now (work .entry))) (now (target .entry))) ⌝ }
 {
     let given = Given {
         p,
@@ -31,6 +32,7 @@ pub extern "C" fn flow_save(
         top,
         capacity,
         side_places,
+        width,
     };
     snapshot::saving::save(given, ledger, work, target)
 }
@@ -46,7 +48,7 @@ fn refuse_settings_area(file: &[u8]) -> u32
     2
 }
 
-// The six settings in the paper's order.
+// The seven settings in the paper's order.
 fn write_settings(given: Given, to: &mut [u64])
     requires { ⌜ length (now to) ≡ settings-count ⌝ }
     ensures { λ _. ⌜ now (to .exit) ≡ settings-list (given-of given) ⌝ }
@@ -57,6 +59,7 @@ fn write_settings(given: Given, to: &mut [u64])
     to[3] = given.top;
     to[4] = given.capacity;
     to[5] = given.side_places;
+    to[6] = given.width;
 }
 
 // Loads a file: 12 for its head, 1, 2, 8, 12, 13, 9; else every area holds the layout of its list, and `settings` its settings (zeros when refused).

@@ -17,6 +17,7 @@ pub extern "C" fn flow_clear(
     top: u64,
     capacity: u64,
     side_places: u64,
+    width: u64,
     ledger: &mut [u8],
     true_counts: &mut [u16],
     clipped: &mut [u8],
@@ -24,7 +25,7 @@ pub extern "C" fn flow_clear(
     side: &mut [u8],
 ) -> u32
     ensures { λ r. ⌜ replied r (exit-areas ledger «true_counts» clipped buckets side)
-        ≡ perform (settings-of p k room top capacity «side_places») 0 calls.clear
+        ≡ perform (settings-of p k room top capacity «side_places» width) 0 calls.clear
         (entry-areas ledger «true_counts» clipped buckets side) ⌝ }
 {
     let given = Given {
@@ -34,6 +35,7 @@ pub extern "C" fn flow_clear(
         top,
         capacity,
         side_places,
+        width,
     };
     update::clear(given, ledger, true_counts, clipped, buckets, side)
 }
@@ -47,6 +49,7 @@ pub extern "C" fn flow_add(
     top: u64,
     capacity: u64,
     side_places: u64,
+    width: u64,
     ledger: &mut [u8],
     true_counts: &mut [u16],
     clipped: &mut [u8],
@@ -57,7 +60,7 @@ pub extern "C" fn flow_add(
     class: u32,
 ) -> u32
     ensures { λ r. ⌜ replied r (exit-areas ledger «true_counts» clipped buckets side)
-        ≡ perform (settings-of p k room top capacity «side_places») (length (now (work .entry))) (calls.add (now (key .entry)) class)
+        ≡ perform (settings-of p k room top capacity «side_places» width) (length (now (work .entry))) (calls.add (now (key .entry)) class)
         (entry-areas ledger «true_counts» clipped buckets side) ⌝ }
 {
     let given = Given {
@@ -67,6 +70,7 @@ pub extern "C" fn flow_add(
         top,
         capacity,
         side_places,
+        width,
     };
     update::update(
         Edit::Insert,
@@ -91,6 +95,7 @@ pub extern "C" fn flow_change(
     top: u64,
     capacity: u64,
     side_places: u64,
+    width: u64,
     ledger: &mut [u8],
     true_counts: &mut [u16],
     clipped: &mut [u8],
@@ -101,7 +106,7 @@ pub extern "C" fn flow_change(
     class: u32,
 ) -> u32
     ensures { λ r. ⌜ replied r (exit-areas ledger «true_counts» clipped buckets side)
-        ≡ perform (settings-of p k room top capacity «side_places») (length (now (work .entry))) (calls.change (now (key .entry)) class)
+        ≡ perform (settings-of p k room top capacity «side_places» width) (length (now (work .entry))) (calls.change (now (key .entry)) class)
         (entry-areas ledger «true_counts» clipped buckets side) ⌝ }
 {
     let given = Given {
@@ -111,6 +116,7 @@ pub extern "C" fn flow_change(
         top,
         capacity,
         side_places,
+        width,
     };
     update::update(
         Edit::Replace,
@@ -135,6 +141,7 @@ pub extern "C" fn flow_remove(
     top: u64,
     capacity: u64,
     side_places: u64,
+    width: u64,
     ledger: &mut [u8],
     true_counts: &mut [u16],
     clipped: &mut [u8],
@@ -144,7 +151,7 @@ pub extern "C" fn flow_remove(
     key: &[u8],
 ) -> u32
     ensures { λ r. ⌜ replied r (exit-areas ledger «true_counts» clipped buckets side)
-        ≡ perform (settings-of p k room top capacity «side_places») (length (now (work .entry))) (calls.remove (now (key .entry)))
+        ≡ perform (settings-of p k room top capacity «side_places» width) (length (now (work .entry))) (calls.remove (now (key .entry)))
         (entry-areas ledger «true_counts» clipped buckets side) ⌝ }
 {
     let given = Given {
@@ -154,6 +161,7 @@ pub extern "C" fn flow_remove(
         top,
         capacity,
         side_places,
+        width,
     };
     update::update(
         Edit::Remove,

@@ -16,7 +16,7 @@ use Rattle.card.proofs.flow_area_lengths.Tie as tie
 -- ---- at entry
 module _ (c : tie.Start) where
   abbrev asked : plain.Settings
-  asked = settings-of (c .args .p) (c .args .k) (c .args .room) (c .args .top) (c .args .capacity) (c .args .side-places)
+  asked = settings-of (c .args .p) (c .args .k) (c .args .room) (c .args .top) (c .args .capacity) (c .args .side-places) (c .args .width)
 
   abbrev lengths : List ℕ
   lengths = c .args .lengths .now

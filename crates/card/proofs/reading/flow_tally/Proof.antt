@@ -18,7 +18,7 @@ module _ (c : tie.After-tally) where
 
   abbrev asked : Settings
   asked =
-      let args = start .args in settings-of (args .p) (args .k) (args .room) (args .top) (args .capacity) (args .side-places)
+      let args = start .args in settings-of (args .p) (args .k) (args .room) (args .top) (args .capacity) (args .side-places) (args .width)
 
   call : Tallied asked (start .args .ledger .now) (start .args .clipped .now) (start .args .buckets .now) (start .args .side .now)
       (totals-of (c .tally .result))
