@@ -14,7 +14,7 @@ static const struct node *heads[HEADS];
 
 static size_t head_of(const uint64_t *table, const uint8_t *key) { return hash_of(table, key) % HEADS; }
 
-void chained_build(const uint64_t *table, uint8_t keys[][FLOW_KEY_BYTES], const uint32_t *classes, size_t flows)
+void chained_build(const uint64_t *table, uint8_t keys[][KEY], const uint32_t *classes, size_t flows)
 {
     memset(heads, 0, sizeof heads);
     for (size_t i = 0; i < flows; i++) {

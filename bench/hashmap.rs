@@ -5,7 +5,13 @@ use std::hash::{Hash, Hasher};
 use std::ptr::{addr_of, addr_of_mut};
 use std::sync::atomic::{AtomicU32, Ordering};
 
-type Key = [u8; 13];
+// bin/bench compiles this with --cfg wide for keys of 37 bytes.
+#[cfg(not(wide))]
+const KEY_BYTES: usize = 13;
+#[cfg(wide)]
+const KEY_BYTES: usize = 37;
+
+type Key = [u8; KEY_BYTES];
 
 static mut MAP: Option<HashMap<Key, u32>> = None;
 static mut COUNTED: Option<HashMap<CountedKey, u32>> = None;
@@ -30,7 +36,7 @@ impl Hash for CountedKey {
 }
 
 /// # Safety
-/// `keys` has 13 bytes for each flow, `classes` a number; one thread calls these functions.
+/// `keys` has the bytes of a key for each flow, `classes` a number; one thread calls these functions.
 #[no_mangle]
 pub unsafe extern "C" fn hashmap_build(keys: *const u8, classes: *const u32, flows: usize) {
     let keys = std::slice::from_raw_parts(keys.cast::<Key>(), flows);
@@ -41,7 +47,7 @@ pub unsafe extern "C" fn hashmap_build(keys: *const u8, classes: *const u32, flo
 }
 
 /// # Safety
-/// After `hashmap_build`; `key` has 13 bytes.
+/// After `hashmap_build`; `key` has the bytes of a key.
 #[no_mangle]
 pub unsafe extern "C" fn hashmap_search(key: *const u8) -> u64 {
     match (*addr_of!(MAP)).as_ref() {

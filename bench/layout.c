@@ -23,7 +23,7 @@ static size_t numbers_of(const struct settings *set, const uint64_t *table, cons
     return n;
 }
 
-int lay_out(const struct settings *set, const uint64_t *table, uint8_t keys[][FLOW_KEY_BYTES], uint32_t *classes, struct lookup *at)
+int lay_out(const struct settings *set, const uint64_t *table, uint8_t keys[][KEY], uint32_t *classes, struct lookup *at)
 {
     static uint8_t records[MOST_FLOWS][RECORD];
     static size_t true_counts[MOST_BUCKETS], choosers[MOST_BUCKETS], choice[MOST_FLOWS];

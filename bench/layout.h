@@ -2,13 +2,13 @@
 #ifndef LAYOUT_H
 #define LAYOUT_H
 
-#include "flow.h"
+#include "width.h"
 #include <stddef.h>
 #include <stdint.h>
 
 struct settings {
     uint64_t flows; /* how many the benchmark lays out */
-    uint64_t p, k, room, top, capacity, side_places;
+    uint64_t p, k, room, top, capacity, side_places; /* the width is the program's */
 };
 
 /* The three areas that a search reads. */
@@ -17,8 +17,8 @@ struct lookup {
     size_t clipped_length, buckets_length, side_length;
 };
 
-/* Lays out the flows, whose keys differ; sorts keys and classes by key. 0, or 1 when the layout is not defined or memory is short. What an
- * earlier call put there is freed. */
-int lay_out(const struct settings *set, const uint64_t *table, uint8_t keys[][FLOW_KEY_BYTES], uint32_t *classes, struct lookup *at);
+/* Lays out the flows, whose keys differ, with the hash table by byte; sorts keys and classes by key. 0, or 1 when the layout is not defined or
+ * memory is short. What an earlier call put there is freed. */
+int lay_out(const struct settings *set, const uint64_t *table, uint8_t keys[][KEY], uint32_t *classes, struct lookup *at);
 
 #endif

@@ -6,18 +6,20 @@
 
 struct settings set;
 struct lookup at;
-uint64_t table[FLOW_HASH_TABLE_NUMBERS];
-uint8_t held[MOST_FLOWS][FLOW_KEY_BYTES], absent[MOST_FLOWS][FLOW_KEY_BYTES];
+uint64_t table[TABLE], halves[HALVES];
+uint8_t held[MOST_FLOWS][KEY], absent[MOST_FLOWS][KEY];
 uint32_t classes[MOST_FLOWS];
-uint8_t order[LOOKUPS][FLOW_KEY_BYTES];
+uint8_t order[LOOKUPS][KEY];
 uint64_t wanted[LOOKUPS];
 
 static void random_key(uint8_t *key)
 {
-    for (int a = 0; a < FLOW_KEY_BYTES; a++) {
+    for (int a = 0; a < KEY; a++) {
         key[a] = (uint8_t)random_number();
     }
 }
+
+int fill_hash_tables(void) { return flow_hash_table(WIDTH, table, TABLE) != 0 || (WIDE && flow_hash_table(WIDTH, halves, HALVES) != 0); }
 
 int fill_table(void)
 {
@@ -39,7 +41,7 @@ uint64_t draw(enum mix mix)
     for (int i = 0; i < LOOKUPS; i++) {
         uint64_t x = random_number(), flow = x % set.flows;
         int hit = mix == HITS || (mix == HALF && x >> 63);
-        memcpy(order[i], hit ? held[flow] : absent[flow], FLOW_KEY_BYTES);
+        memcpy(order[i], hit ? held[flow] : absent[flow], KEY);
         sum += wanted[i] = hit ? classes[flow] : ABSENT;
     }
     return sum;

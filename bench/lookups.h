@@ -2,7 +2,6 @@
 #ifndef LOOKUPS_H
 #define LOOKUPS_H
 
-#include "flow.h"
 #include "layout.h"
 #include <stdint.h>
 
@@ -12,21 +11,25 @@ enum { LOOKUPS = 8192, MOST_FLOWS = 4096 };
 /* What is looked up: held keys, held and absent ones in random order, absent ones. */
 enum mix { HITS, HALF, MISSES, MIXES };
 
-/* The table: its settings and areas, the hash table, its keys and classes, and as many keys that it does not hold. */
+/* The table: its settings and areas, the hash table by byte and at 37 the one by half-byte, its keys and classes, and as many keys that it does not
+ * hold. */
 extern struct settings set;
 extern struct lookup at;
-extern uint64_t table[FLOW_HASH_TABLE_NUMBERS];
-extern uint8_t held[MOST_FLOWS][FLOW_KEY_BYTES], absent[MOST_FLOWS][FLOW_KEY_BYTES];
+extern uint64_t table[TABLE], halves[HALVES];
+extern uint8_t held[MOST_FLOWS][KEY], absent[MOST_FLOWS][KEY];
 extern uint32_t classes[MOST_FLOWS];
 
 /* Settings and areas, as a search takes them. */
-#define AREAS                                                                                                                            \
-    set.p, set.k, set.room, set.top, set.capacity, set.side_places, at.clipped, at.clipped_length, at.buckets, at.buckets_length,        \
-        at.side, at.side_length
+#define SIX set.p, set.k, set.room, set.top, set.capacity, set.side_places
+#define LOOKUP at.clipped, at.clipped_length, at.buckets, at.buckets_length, at.side, at.side_length
+#define AREAS SIX, WIDTH, LOOKUP
 
 /* The keys of a round, and what each contestant has to answer. */
-extern uint8_t order[LOOKUPS][FLOW_KEY_BYTES];
+extern uint8_t order[LOOKUPS][KEY];
 extern uint64_t wanted[LOOKUPS];
+
+/* Fills the hash tables; 0, or 1 where a door refuses one. */
+int fill_hash_tables(void);
 
 /* A table of other random flows, as many as the settings say. 0, or 1 where they have no layout, which it says. */
 int fill_table(void);

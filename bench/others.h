@@ -3,13 +3,13 @@
 #ifndef OTHERS_H
 #define OTHERS_H
 
-#include "flow.h"
 #include "results.h"
+#include "width.h"
 #include <stddef.h>
 #include <stdint.h>
 
 /* A chained hash table in C: the same H, 4,096 heads, a node for each flow. Reads are of nodes. */
-void chained_build(const uint64_t *table, uint8_t keys[][FLOW_KEY_BYTES], const uint32_t *classes, size_t flows);
+void chained_build(const uint64_t *table, uint8_t keys[][KEY], const uint32_t *classes, size_t flows);
 uint64_t chained_search(const uint64_t *table, const uint8_t *key);
 unsigned chained_reads(const uint64_t *table, const uint8_t *key);
 
@@ -21,7 +21,7 @@ unsigned hashmap_reads(const uint8_t *key);
 /* DPDK's rte_hash with its own hash: a single lookup, and one of up to 32 keys at once, with an answer for each. Reads are of slots whose
  * key is compared; a lookup probes up to 2 buckets before. These are NULL where rte.c is compiled without DPDK. */
 int rte_start(void) WHERE_LINKED;
-int rte_build(uint8_t keys[][FLOW_KEY_BYTES], const uint32_t *classes, size_t flows) WHERE_LINKED;
+int rte_build(uint8_t keys[][KEY], const uint32_t *classes, size_t flows) WHERE_LINKED;
 uint64_t rte_search(const uint8_t *key) WHERE_LINKED;
 uint32_t rte_search_bulk(const uint8_t *keys, size_t n, uint64_t *answers) WHERE_LINKED;
 unsigned rte_reads(const uint8_t *key) WHERE_LINKED;

@@ -2,23 +2,28 @@
 #include "plain.h"
 #include "plain_parts.h"
 
-uint32_t plain_hash_lent(const uint64_t *table, size_t table_length, const uint8_t *key, size_t key_length, uint64_t *h, size_t h_length)
+uint32_t plain_hash_lent(uint64_t width, const uint64_t *table, size_t table_length, const uint8_t *key, size_t key_length, uint64_t *h,
+                         size_t h_length)
 {
-    if (table_length != TABLE || h_length != 1) {
+    if (width != KEY) {
+        return 1;
+    }
+    if (!is_table(table_length) || h_length != 1) {
         return 2;
     }
     if (key_length != KEY) {
         return 3;
     }
-    h[0] = hash_of(table, key);
+    h[0] = hash_by(table, table_length, key);
     return 0;
 }
 
 uint64_t plain_search_lent(const uint64_t *table, size_t table_length, uint64_t p, uint64_t k, uint64_t room, uint64_t top,
-                           uint64_t capacity, uint64_t side_places, const uint8_t *clipped, size_t clipped_length, const uint8_t *buckets,
-                           size_t buckets_length, const uint8_t *side, size_t side_length, const uint8_t *key, size_t key_length)
+                           uint64_t capacity, uint64_t side_places, uint64_t width, const uint8_t *clipped, size_t clipped_length,
+                           const uint8_t *buckets, size_t buckets_length, const uint8_t *side, size_t side_length, const uint8_t *key,
+                           size_t key_length)
 {
-    uint32_t refused = judge_search(table_length, p, k, room, top, capacity, side_places, clipped_length, buckets_length, side_length);
+    uint32_t refused = judge_search(table_length, p, k, room, top, capacity, side_places, width, clipped_length, buckets_length, side_length);
     if (refused != 0) {
         return answer(refused, 0);
     }
@@ -26,7 +31,7 @@ uint64_t plain_search_lent(const uint64_t *table, size_t table_length, uint64_t 
         return answer(3, 0);
     }
     const size_t m = (size_t)1 << p;
-    uint64_t h = hash_of(table, key);
+    uint64_t h = hash_by(table, table_length, key);
     /* the least counter and, of its buckets, the lowest: the least of counter x 65536 + bucket */
     uint32_t best = UINT32_MAX, above = 0;
     for (size_t j = 0; j < k; j++) {

@@ -1,4 +1,5 @@
-/* The searches that the doors are measured against: C of the same algorithm on the same areas, with the same judgements. */
+/* The searches that the doors are measured against: C of the same algorithm on the same areas, with the same judgements, but
+ * compiled for one width, and refusing another. */
 #ifndef PLAIN_H
 #define PLAIN_H
 
@@ -6,18 +7,18 @@
 #include <stdint.h>
 
 /* As flow_hash_lent. */
-typedef uint32_t hash_lent(const uint64_t *table, size_t table_length, const uint8_t *key, size_t key_length, uint64_t *h,
+typedef uint32_t hash_lent(uint64_t width, const uint64_t *table, size_t table_length, const uint8_t *key, size_t key_length, uint64_t *h,
                            size_t h_length);
 
 /* As flow_search_lent. */
 typedef uint64_t search_lent(const uint64_t *table, size_t table_length, uint64_t p, uint64_t k, uint64_t room, uint64_t top,
-                             uint64_t capacity, uint64_t side_places, const uint8_t *clipped, size_t clipped_length,
+                             uint64_t capacity, uint64_t side_places, uint64_t width, const uint8_t *clipped, size_t clipped_length,
                              const uint8_t *buckets, size_t buckets_length, const uint8_t *side, size_t side_length, const uint8_t *key,
                              size_t key_length);
 
 /* As flow_search_burst: a key after the other in keys, the answer of each in answers. */
 typedef uint32_t search_burst(const uint64_t *table, size_t table_length, uint64_t p, uint64_t k, uint64_t room, uint64_t top,
-                              uint64_t capacity, uint64_t side_places, const uint8_t *clipped, size_t clipped_length,
+                              uint64_t capacity, uint64_t side_places, uint64_t width, const uint8_t *clipped, size_t clipped_length,
                               const uint8_t *buckets, size_t buckets_length, const uint8_t *side, size_t side_length, const uint8_t *keys,
                               size_t keys_length, uint64_t *answers, size_t answers_length);
 

@@ -13,12 +13,20 @@ struct list {
 
 INLINED uint64_t big(const uint8_t *at) { return __builtin_bswap64(load(at)); }
 
-/* Key order: two loads of 8 bytes that overlap. */
+/* Key order: loads of 8 bytes, of which the last two overlap. */
 INLINED int below(const uint8_t *a, const uint8_t *b)
 {
-    uint64_t x = big(a), y = big(b);
-    return x != y ? x < y : big(a + 5) < big(b + 5);
+    for (size_t i = 0; i + 8 <= KEY; i += 8) {
+        uint64_t x = big(a + i), y = big(b + i);
+        if (x != y) {
+            return x < y;
+        }
+    }
+    return big(a + KEY - 8) < big(b + KEY - 8);
 }
+
+/* By the table that the doors make for an update: at 37 the one by half-byte. */
+INLINED uint64_t hash_in_update(const uint64_t *table, const uint8_t *key) { return WIDE ? hash_of_halves(table, key) : hash_of(table, key); }
 
 INLINED const uint8_t *record_of(const struct list *list, size_t i)
 {
@@ -88,7 +96,7 @@ INLINED size_t choice_by_branches(const struct settings *set, const uint16_t *co
 static uint32_t judge(const struct settings *set, const struct areas *at, enum edit edit, const uint8_t *key, size_t key_length,
                       struct list *list)
 {
-    if (out_of_range(set->p, set->k, set->room, set->top, set->capacity, set->side_places)) {
+    if (out_of_range(set->p, set->k, set->room, set->top, set->capacity, set->side_places, WIDTH)) {
         return 1;
     }
     const size_t m = (size_t)1 << set->p;
@@ -206,17 +214,17 @@ INLINED uint32_t five_passes(choose *choice_by, const struct settings *set, cons
     uint16_t *counts = at->work, *choosers = at->work + m;
     memset(at->work, 0, 2 * m * sizeof at->work[0]);
     for (size_t i = 0; i < list.n; i++) {
-        count(set, counts, hash_of(table, record_of(&list, i)));
+        count(set, counts, hash_in_update(table, record_of(&list, i)));
     }
     for (size_t i = 0; i < list.n; i++) {
-        size_t choice = choice_by(set, counts, hash_of(table, record_of(&list, i)));
+        size_t choice = choice_by(set, counts, hash_in_update(table, record_of(&list, i)));
         if (choice != NOWHERE) {
             choosers[choice]++;
         }
     }
     size_t need = 0;
     for (size_t i = 0; i < list.n; i++) {
-        size_t choice = choice_by(set, counts, hash_of(table, record_of(&list, i)));
+        size_t choice = choice_by(set, counts, hash_in_update(table, record_of(&list, i)));
         need += (size_t)to_side(set, choosers, choice);
     }
     if (need > set->side_places) {
@@ -227,7 +235,7 @@ INLINED uint32_t five_passes(choose *choice_by, const struct settings *set, cons
     write_counts(set, at);
     const uint8_t *records = at->ledger + 2;
     for (size_t i = 0; i < list.n; i++) {
-        size_t choice = choice_by(set, counts, hash_of(table, records + RECORD * i));
+        size_t choice = choice_by(set, counts, hash_in_update(table, records + RECORD * i));
         if (!to_side(set, choosers, choice)) {
             put(set, at, choice, records + RECORD * i);
         }
@@ -235,7 +243,7 @@ INLINED uint32_t five_passes(choose *choice_by, const struct settings *set, cons
     memset(at->side, 0, at->side_length);
     size_t on_side = 0;
     for (size_t i = 0; i < list.n; i++) {
-        size_t choice = choice_by(set, counts, hash_of(table, records + RECORD * i));
+        size_t choice = choice_by(set, counts, hash_in_update(table, records + RECORD * i));
         if (to_side(set, choosers, choice)) {
             memcpy(at->side + 2 + RECORD * on_side++, records + RECORD * i, RECORD);
         }
@@ -276,14 +284,14 @@ INLINED uint32_t choices_kept(int hashes_kept, const struct settings *set, const
     uint16_t *counts = at->work, *choosers = at->work + m;
     memset(at->work, 0, 2 * m * sizeof at->work[0]);
     for (size_t i = 0; i < list.n; i++) {
-        uint64_t h = hash_of(table, record_of(&list, i));
+        uint64_t h = hash_in_update(table, record_of(&list, i));
         if (hashes_kept) {
             hashes[i] = h;
         }
         count(set, counts, h);
     }
     for (size_t i = 0; i < list.n; i++) {
-        uint64_t h = hashes_kept ? hashes[i] : hash_of(table, record_of(&list, i));
+        uint64_t h = hashes_kept ? hashes[i] : hash_in_update(table, record_of(&list, i));
         choices[i] = (uint16_t)choice_of(set, counts, h);
         if (choices[i] != NOWHERE) {
             choosers[choices[i]]++;

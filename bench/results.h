@@ -4,7 +4,7 @@
 
 #include <stdio.h>
 
-enum { MOST_CONTESTANTS = 24, MOST_ROUNDS = 401 };
+enum { MOST_CONTESTANTS = 26, MOST_ROUNDS = 401 };
 
 /* For a contestant that bin/bench links only where it is there; elsewhere its address is NULL. */
 #define WHERE_LINKED __attribute__((weak))

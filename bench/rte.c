@@ -36,13 +36,13 @@ static struct rte_hash *create(const char *name, size_t flows)
     struct rte_hash_parameters wanted = {
         .name = name,
         .entries = entries,
-        .key_len = FLOW_KEY_BYTES,
+        .key_len = KEY,
         .socket_id = SOCKET_ID_ANY,
     };
     return rte_hash_create(&wanted);
 }
 
-int rte_build(uint8_t keys[][FLOW_KEY_BYTES], const uint32_t *classes, size_t flows)
+int rte_build(uint8_t keys[][KEY], const uint32_t *classes, size_t flows)
 {
     rte_hash_free(hash);
     rte_hash_free(counted);
@@ -77,7 +77,7 @@ uint32_t rte_search_bulk(const uint8_t *keys, size_t n, uint64_t *answers)
     const void *pointers[BULK];
     uint64_t hits = 0;
     for (size_t i = 0; i < n; i++) {
-        pointers[i] = keys + FLOW_KEY_BYTES * i;
+        pointers[i] = keys + KEY * i;
     }
     if (rte_hash_lookup_bulk_data(hash, pointers, (uint32_t)n, &hits, data) < 0) {
         return 1;

@@ -1,6 +1,7 @@
 /* Time of a search by the doors, by C of the same algorithm and by the tables of others, in one run: rounds that alternate, over the same
- * keys in an order that is random in each round, and the median round. Beside the times, how many buckets or slots a lookup reads. */
-#include "flow.h"
+ * keys in an order that is random in each round, and the median round. Beside the times, how many buckets or slots a lookup reads. At width 37 the
+ * search with a lent table is measured with the table by byte, and with the one by half-byte. */
+#include "before.h"
 #include "lookups.h"
 #include "others.h"
 #include "plain.h"
@@ -22,23 +23,24 @@ static const struct settings shapes[] = {
 };
 enum { LARGEST = 2, SPARSE_256, SPARSE_1000, SHAPES };
 
-/* The C by each compiler that is there: bin/bench adds the compiler's name. The doors of the library that bin/bench --before names. */
+/* The C by each compiler that is there: bin/bench adds the compiler's name. */
 search_lent plain_search_lent_by_gcc WHERE_LINKED, plain_search_lent_by_clang WHERE_LINKED;
 search_lent tuned_search_lent_by_gcc WHERE_LINKED, tuned_search_lent_by_clang WHERE_LINKED;
 search_burst tuned_search_burst_by_gcc WHERE_LINKED, tuned_search_burst_by_clang WHERE_LINKED;
 search_burst tuned_search_burst_ahead_by_gcc WHERE_LINKED, tuned_search_burst_ahead_by_clang WHERE_LINKED;
-search_lent before_flow_search_lent WHERE_LINKED;
-__typeof__(flow_search) before_flow_search WHERE_LINKED;
 
 /* Every way to look a key up: answer x 2^32 + class. */
-static uint64_t lent(const uint8_t *key) { return flow_search_lent(table, FLOW_HASH_TABLE_NUMBERS, AREAS, key, FLOW_KEY_BYTES); }
-static uint64_t no_table(const uint8_t *key) { return flow_search(AREAS, key, FLOW_KEY_BYTES); }
-static uint64_t before_lent(const uint8_t *key) { return before_flow_search_lent(table, FLOW_HASH_TABLE_NUMBERS, AREAS, key, FLOW_KEY_BYTES); }
-static uint64_t before_no_table(const uint8_t *key) { return before_flow_search(AREAS, key, FLOW_KEY_BYTES); }
-static uint64_t plain_gcc(const uint8_t *key) { return plain_search_lent_by_gcc(table, FLOW_HASH_TABLE_NUMBERS, AREAS, key, FLOW_KEY_BYTES); }
-static uint64_t plain_clang(const uint8_t *key) { return plain_search_lent_by_clang(table, FLOW_HASH_TABLE_NUMBERS, AREAS, key, FLOW_KEY_BYTES); }
-static uint64_t tuned_gcc(const uint8_t *key) { return tuned_search_lent_by_gcc(table, FLOW_HASH_TABLE_NUMBERS, AREAS, key, FLOW_KEY_BYTES); }
-static uint64_t tuned_clang(const uint8_t *key) { return tuned_search_lent_by_clang(table, FLOW_HASH_TABLE_NUMBERS, AREAS, key, FLOW_KEY_BYTES); }
+static uint64_t lent(const uint8_t *key) { return flow_search_lent(table, TABLE, AREAS, key, KEY); }
+static uint64_t no_table(const uint8_t *key) { return flow_search(AREAS, key, KEY); }
+static uint64_t lent_halves(const uint8_t *key) { return flow_search_lent(halves, HALVES, AREAS, key, KEY); }
+static uint64_t before_lent(const uint8_t *key) { return before_flow_search_lent(table, TABLE, SIX BEFORE_WIDTH, LOOKUP, key, KEY); }
+static uint64_t before_no_table(const uint8_t *key) { return before_flow_search(SIX BEFORE_WIDTH, LOOKUP, key, KEY); }
+static uint64_t plain_gcc(const uint8_t *key) { return plain_search_lent_by_gcc(table, TABLE, AREAS, key, KEY); }
+static uint64_t plain_clang(const uint8_t *key) { return plain_search_lent_by_clang(table, TABLE, AREAS, key, KEY); }
+static uint64_t halves_gcc(const uint8_t *key) { return plain_search_lent_by_gcc(halves, HALVES, AREAS, key, KEY); }
+static uint64_t halves_clang(const uint8_t *key) { return plain_search_lent_by_clang(halves, HALVES, AREAS, key, KEY); }
+static uint64_t tuned_gcc(const uint8_t *key) { return tuned_search_lent_by_gcc(table, TABLE, AREAS, key, KEY); }
+static uint64_t tuned_clang(const uint8_t *key) { return tuned_search_lent_by_clang(table, TABLE, AREAS, key, KEY); }
 static uint64_t chained(const uint8_t *key) { return chained_search(table, key); }
 static uint64_t hashmap(const uint8_t *key) { return hashmap_search(key); }
 static uint64_t rte(const uint8_t *key) { return rte_search(key); }
@@ -46,30 +48,34 @@ static uint64_t rte(const uint8_t *key) { return rte_search(key); }
 /* Every way to look n keys up at once: 0, and the answer of each in answers. */
 static uint32_t burst(const uint8_t *keys, size_t n, uint64_t *answers)
 {
-    return flow_search_burst(table, FLOW_HASH_TABLE_NUMBERS, AREAS, keys, FLOW_KEY_BYTES * n, answers, n);
+    return flow_search_burst(table, TABLE, AREAS, keys, KEY * n, answers, n);
+}
+static uint32_t before_burst(const uint8_t *keys, size_t n, uint64_t *answers)
+{
+    return before_flow_search_burst(table, TABLE, SIX BEFORE_WIDTH, LOOKUP, keys, KEY * n, answers, n);
 }
 static uint32_t passes_gcc(const uint8_t *keys, size_t n, uint64_t *answers)
 {
-    return tuned_search_burst_by_gcc(table, FLOW_HASH_TABLE_NUMBERS, AREAS, keys, FLOW_KEY_BYTES * n, answers, n);
+    return tuned_search_burst_by_gcc(table, TABLE, AREAS, keys, KEY * n, answers, n);
 }
 static uint32_t passes_clang(const uint8_t *keys, size_t n, uint64_t *answers)
 {
-    return tuned_search_burst_by_clang(table, FLOW_HASH_TABLE_NUMBERS, AREAS, keys, FLOW_KEY_BYTES * n, answers, n);
+    return tuned_search_burst_by_clang(table, TABLE, AREAS, keys, KEY * n, answers, n);
 }
 static uint32_t ahead_gcc(const uint8_t *keys, size_t n, uint64_t *answers)
 {
-    return tuned_search_burst_ahead_by_gcc(table, FLOW_HASH_TABLE_NUMBERS, AREAS, keys, FLOW_KEY_BYTES * n, answers, n);
+    return tuned_search_burst_ahead_by_gcc(table, TABLE, AREAS, keys, KEY * n, answers, n);
 }
 static uint32_t ahead_clang(const uint8_t *keys, size_t n, uint64_t *answers)
 {
-    return tuned_search_burst_ahead_by_clang(table, FLOW_HASH_TABLE_NUMBERS, AREAS, keys, FLOW_KEY_BYTES * n, answers, n);
+    return tuned_search_burst_ahead_by_clang(table, TABLE, AREAS, keys, KEY * n, answers, n);
 }
 static uint32_t bulk(const uint8_t *keys, size_t n, uint64_t *answers) { return rte_search_bulk(keys, n, answers); }
 
 /* For each way a function that gives the answers of n keys, and one that measures a round: nanoseconds a lookup; the answers are added to
  * *sum, with no branch on what they are. Written out for each way, so that each is called directly. */
 #define SINGLE(way)                                                                                                                      \
-    static void all_##way(uint8_t keys[][FLOW_KEY_BYTES], size_t n, uint64_t *answers)                                                               \
+    static void all_##way(uint8_t keys[][KEY], size_t n, uint64_t *answers)                                                              \
     {                                                                                                                                    \
         for (size_t i = 0; i < n; i++) {                                                                                                 \
             answers[i] = way(keys[i]);                                                                                                   \
@@ -105,7 +111,7 @@ static uint32_t bulk(const uint8_t *keys, size_t n, uint64_t *answers) { return 
 
 /* The same for a way that takes keys in bursts; a refusal makes the sum wrong. */
 #define BURST(way, size)                                                                                                                 \
-    static void all_##way##_##size(uint8_t keys[][FLOW_KEY_BYTES], size_t n, uint64_t *answers)                                                      \
+    static void all_##way##_##size(uint8_t keys[][KEY], size_t n, uint64_t *answers)                                                     \
     {                                                                                                                                    \
         for (size_t i = 0; i < n; i += size) {                                                                                           \
             way(keys[i], n - i < size ? n - i : size, answers + i);                                                                      \
@@ -127,10 +133,13 @@ static uint32_t bulk(const uint8_t *keys, size_t n, uint64_t *answers) { return 
 
 SINGLE(lent)
 SINGLE(no_table)
+SINGLE(lent_halves)
 SINGLE(before_lent)
 SINGLE(before_no_table)
 SINGLE(plain_gcc)
 SINGLE(plain_clang)
+SINGLE(halves_gcc)
+SINGLE(halves_clang)
 SINGLE(tuned_gcc)
 SINGLE(tuned_clang)
 SINGLE(chained)
@@ -140,6 +149,7 @@ BURST(burst, 1)
 BURST(burst, 4)
 BURST(burst, 32)
 BURST(burst, 256)
+BURST(before_burst, 32)
 BURST(passes_gcc, 32)
 BURST(passes_clang, 32)
 BURST(ahead_gcc, 32)
@@ -148,23 +158,27 @@ BURST(bulk, 32)
 
 /* clang-format off */
 enum {
-    LENT, NO_TABLE, BEFORE_LENT, BEFORE_NO_TABLE, PLAIN_GCC, PLAIN_CLANG, TUNED_GCC, TUNED_CLANG, CHAINED, HASHMAP, RTE, SINGLES,
-    BURST_1 = SINGLES, BURST_4, BURST_32, BURST_256, PASSES_GCC, PASSES_CLANG, AHEAD_GCC, AHEAD_CLANG, BULK, CONTESTANTS
+    LENT, LENT_HALVES, NO_TABLE, BEFORE_LENT, BEFORE_NO_TABLE, PLAIN_GCC, PLAIN_CLANG, HALVES_GCC, HALVES_CLANG, TUNED_GCC, TUNED_CLANG, CHAINED,
+    HASHMAP, RTE, SINGLES,
+    BURST_1 = SINGLES, BURST_4, BURST_32, BURST_256, BEFORE_BURST_32, PASSES_GCC, PASSES_CLANG, AHEAD_GCC, AHEAD_CLANG, BULK, CONTESTANTS
 };
 #define OF_SINGLE(way) all_##way, round_##way, branching_##way
 #define OF_BURST(way) all_##way, round_##way, NULL
 static const struct {
     const char *name;
     function *there;
-    void (*all)(uint8_t keys[][FLOW_KEY_BYTES], size_t n, uint64_t *answers);
+    void (*all)(uint8_t keys[][KEY], size_t n, uint64_t *answers);
     double (*round)(uint64_t *sum), (*branching)(uint64_t *sum);
 } contestants[] = {
-    [LENT] = {"flow_search_lent", (function *)flow_search_lent, OF_SINGLE(lent)},
+    [LENT] = {WIDE ? "flow_search_lent, by byte" : "flow_search_lent", (function *)flow_search_lent, OF_SINGLE(lent)},
+    [LENT_HALVES] = {"flow_search_lent, by half-byte", WHERE_WIDE(flow_search_lent), OF_SINGLE(lent_halves)},
     [NO_TABLE] = {"flow_search (no table)", (function *)flow_search, OF_SINGLE(no_table)},
     [BEFORE_LENT] = {"before: flow_search_lent", (function *)before_flow_search_lent, OF_SINGLE(before_lent)},
     [BEFORE_NO_TABLE] = {"before: flow_search (no table)", (function *)before_flow_search, OF_SINGLE(before_no_table)},
-    [PLAIN_GCC] = {"plain C by gcc", (function *)plain_search_lent_by_gcc, OF_SINGLE(plain_gcc)},
-    [PLAIN_CLANG] = {"plain C by clang", (function *)plain_search_lent_by_clang, OF_SINGLE(plain_clang)},
+    [PLAIN_GCC] = {WIDE ? "plain C by gcc, by byte" : "plain C by gcc", (function *)plain_search_lent_by_gcc, OF_SINGLE(plain_gcc)},
+    [PLAIN_CLANG] = {WIDE ? "plain C by clang, by byte" : "plain C by clang", (function *)plain_search_lent_by_clang, OF_SINGLE(plain_clang)},
+    [HALVES_GCC] = {"plain C by gcc, by half-byte", WHERE_WIDE(plain_search_lent_by_gcc), OF_SINGLE(halves_gcc)},
+    [HALVES_CLANG] = {"plain C by clang, by half-byte", WHERE_WIDE(plain_search_lent_by_clang), OF_SINGLE(halves_clang)},
     [TUNED_GCC] = {"tuned C by gcc", (function *)tuned_search_lent_by_gcc, OF_SINGLE(tuned_gcc)},
     [TUNED_CLANG] = {"tuned C by clang", (function *)tuned_search_lent_by_clang, OF_SINGLE(tuned_clang)},
     [CHAINED] = {"chained table, C by gcc", (function *)chained_search, OF_SINGLE(chained)},
@@ -174,6 +188,7 @@ static const struct {
     [BURST_4] = {"flow_search_burst of 4", (function *)flow_search_burst, OF_BURST(burst_4)},
     [BURST_32] = {"flow_search_burst of 32", (function *)flow_search_burst, OF_BURST(burst_32)},
     [BURST_256] = {"flow_search_burst of 256", (function *)flow_search_burst, OF_BURST(burst_256)},
+    [BEFORE_BURST_32] = {"before: flow_search_burst of 32", (function *)before_flow_search_burst, OF_BURST(before_burst_32)},
     [PASSES_GCC] = {"C burst of 32 by gcc", (function *)tuned_search_burst_by_gcc, OF_BURST(passes_gcc_32)},
     [PASSES_CLANG] = {"C burst of 32 by clang", (function *)tuned_search_burst_by_clang, OF_BURST(passes_clang_32)},
     [AHEAD_GCC] = {"C burst of 32 by gcc, with prefetch", (function *)tuned_search_burst_ahead_by_gcc, OF_BURST(ahead_gcc_32)},
@@ -189,7 +204,7 @@ static struct column columns[SHAPES][MIXES], branching[MIXES];
 static unsigned pruned_reads(const uint8_t *key)
 {
     uint64_t h;
-    flow_hash_lent(table, FLOW_HASH_TABLE_NUMBERS, key, FLOW_KEY_BYTES, &h, 1);
+    flow_hash_lent(WIDTH, table, TABLE, key, KEY, &h, 1);
     unsigned zero = 0, below = 0;
     for (unsigned j = 0; j < set.k; j++) {
         unsigned b = (unsigned)(h >> 16 * j) & ((1u << set.p) - 1);
@@ -216,7 +231,7 @@ static struct {
     double mean;
 } reads[READERS][SHAPES][MIXES];
 
-static void count_reads(int shape, enum mix mix, uint8_t keys[][FLOW_KEY_BYTES])
+static void count_reads(int shape, enum mix mix, uint8_t keys[][KEY])
 {
     for (int r = 0; r < READERS; r++) {
         uint64_t sum = 0;
@@ -230,7 +245,7 @@ static void count_reads(int shape, enum mix mix, uint8_t keys[][FLOW_KEY_BYTES])
 }
 
 /* Every contestant gives these answers, in its bursts where it has some. */
-static int check(uint8_t keys[][FLOW_KEY_BYTES], size_t n, const uint64_t *right)
+static int check(uint8_t keys[][KEY], size_t n, const uint64_t *right)
 {
     static uint64_t answers[LOOKUPS];
     for (int c = 0; c < CONTESTANTS; c++) {
@@ -304,7 +319,7 @@ static int build(void)
 
 static void print_shapes(const char *what)
 {
-    printf("\n| %s |", what);
+    printf("\n| %s%s |", WIDE ? "keys of 37 bytes: " : "", what);
     for (int shape = 0; shape < SHAPES; shape++) {
         printf(" %" PRIu64 " flows, p %" PRIu64 " |", shapes[shape].flows, shapes[shape].p);
     }
@@ -323,18 +338,21 @@ static void print_tables(void)
             printf("\n");
         }
     }
-    print_shapes("flow_search_lent's time to that of");
-    for (int c = LENT + 1; c < SINGLES; c++) {
-        if (contestants[c].there != NULL) {
-            printf("| %s |", contestants[c].name);
-            for (int shape = 0; shape < SHAPES; shape++) {
-                print_ratios(columns[shape], LENT, c);
+    for (int table = LENT; table <= (WIDE ? LENT_HALVES : LENT); table++) {
+        print_shapes(table == LENT_HALVES ? "flow_search_lent's time by half-byte to that of" : "flow_search_lent's time to that of");
+        for (int c = LENT; c < SINGLES; c++) {
+            if (c != table && contestants[c].there != NULL) {
+                printf("| %s |", contestants[c].name);
+                for (int shape = 0; shape < SHAPES; shape++) {
+                    print_ratios(columns[shape], table, c);
+                }
+                printf("\n");
             }
-            printf("\n");
         }
     }
-    printf("\n| 4000 flows, p 12, the caller branches on each answer | ns a search: hits / half / misses | flow_search_lent's time to it "
-           "|\n");
+    printf("\n| %s4000 flows, p 12, the caller branches on each answer | ns a search: hits / half / misses | flow_search_lent's time to it "
+           "|\n",
+           WIDE ? "keys of 37 bytes: " : "");
     printf("|---|---|---|\n");
     for (int c = 0; c < SINGLES; c++) {
         if (contestants[c].there != NULL) {
@@ -348,7 +366,7 @@ static void print_tables(void)
     /* the bursts beside what searches key by key */
     int clang = contestants[TUNED_CLANG].there != NULL,
         bases[] = {clang ? TUNED_CLANG : TUNED_GCC, clang ? PASSES_CLANG : PASSES_GCC, BULK};
-    printf("\n| 4000 flows, p 12 | ns a key: hits / half / misses |");
+    printf("\n| %s4000 flows, p 12 | ns a key: hits / half / misses |", WIDE ? "keys of 37 bytes: " : "");
     for (int i = 0; i < 3; i++) {
         if (contestants[bases[i]].there != NULL) {
             printf(" to %s |", contestants[bases[i]].name);
@@ -356,7 +374,7 @@ static void print_tables(void)
     }
     printf("\n|---|---|---|---|%s\n", contestants[BULK].there != NULL ? "---|" : "");
     for (int c = 0; c < CONTESTANTS; c++) {
-        if (contestants[c].there == NULL || (c < SINGLES && c != LENT && c != TUNED_GCC && c != TUNED_CLANG && c != RTE)) {
+        if (contestants[c].there == NULL || (c < SINGLES && c != LENT && c != LENT_HALVES && c != TUNED_GCC && c != TUNED_CLANG && c != RTE)) {
             continue;
         }
         printf("| %s |", contestants[c].name);
@@ -393,8 +411,22 @@ static void print_aims(FILE *to)
         {"flow_search_burst of 32 to tuned C by clang, 4,000 flows", BURST_32, TUNED_CLANG, columns[LARGEST], 3, {0.80, 0.80, 0.80}},
         {"flow_search_burst of 32 to C burst by clang, 4,000 flows", BURST_32, PASSES_CLANG, columns[LARGEST], 3, {1.15, 1.15, 1.15}},
         {"flow_search_burst of 32 to rte_hash in bulk, 4,000 flows", BURST_32, BULK, columns[LARGEST], 3, {1.10, 0.70, 1.50}},
+        {"flow_search_lent to before, 4,000 flows", LENT, BEFORE_LENT, columns[LARGEST], 3, {1.05, 1.05, 1.05}},
+        {"flow_search_burst of 32 to before, 4,000 flows", BURST_32, BEFORE_BURST_32, columns[LARGEST], 3, {1.05, 1.05, 1.05}},
     };
-    for (size_t i = 0; i < sizeof aims / sizeof aims[0]; i++) {
+    const struct aim wide_aims[] = {
+        {"width 37, by byte: flow_search_lent to plain C by gcc, 4,000 flows", LENT, PLAIN_GCC, columns[LARGEST], 3, {1.30, 1.30, 1.30}},
+        {"width 37, by byte: flow_search_lent to plain C by clang, 4,000 flows", LENT, PLAIN_CLANG, columns[LARGEST], 3, {1.30, 1.30, 1.30}},
+        {"width 37, by half-byte: flow_search_lent to plain C by gcc, 4,000 flows", LENT_HALVES, HALVES_GCC, columns[LARGEST], 3,
+         {1.30, 1.30, 1.30}},
+        {"width 37, by half-byte: flow_search_lent to plain C by clang, 4,000 flows", LENT_HALVES, HALVES_CLANG, columns[LARGEST], 3,
+         {1.30, 1.30, 1.30}},
+    };
+    for (size_t i = 0; WIDE && i < sizeof wide_aims / sizeof wide_aims[0]; i++) {
+        const struct aim *aim = &wide_aims[i];
+        print_aim(to, aim, contestants[aim->contestant].there != NULL && contestants[aim->other].there != NULL);
+    }
+    for (size_t i = 0; !WIDE && i < sizeof aims / sizeof aims[0]; i++) {
         print_aim(to, &aims[i], contestants[aims[i].contestant].there != NULL && contestants[aims[i].other].there != NULL);
     }
 }
@@ -402,7 +434,7 @@ static void print_aims(FILE *to)
 int main(int words, char **word)
 {
     FILE *aims = open_aims(words, word);
-    if (aims == NULL || flow_hash_table(table, FLOW_HASH_TABLE_NUMBERS) != 0 || (rte_start != NULL && rte_start() != 0)) {
+    if (aims == NULL || fill_hash_tables() != 0 || (rte_start != NULL && rte_start() != 0)) {
         return 1;
     }
     for (int shape = 0; shape < SHAPES; shape++) {

@@ -52,24 +52,26 @@ INLINED uint64_t search_chosen(struct choice choice, uint64_t room, uint64_t top
 }
 
 uint64_t tuned_search_lent(const uint64_t *table, size_t table_length, uint64_t p, uint64_t k, uint64_t room, uint64_t top,
-                           uint64_t capacity, uint64_t side_places, const uint8_t *clipped, size_t clipped_length, const uint8_t *buckets,
+                           uint64_t capacity, uint64_t side_places, uint64_t width, const uint8_t *clipped, size_t clipped_length,
+                           const uint8_t *buckets,
                            size_t buckets_length, const uint8_t *side, size_t side_length, const uint8_t *key, size_t key_length)
 {
-    uint32_t refused = judge_search(table_length, p, k, room, top, capacity, side_places, clipped_length, buckets_length, side_length);
+    uint32_t refused = judge_search(table_length, p, k, room, top, capacity, side_places, width, clipped_length, buckets_length, side_length);
     if (refused != 0 || key_length != KEY) {
         return answer(refused != 0 ? refused : 3, 0);
     }
-    return search_chosen(choose(hash_of(table, key), p, k, top, clipped), room, top, buckets, side, side_places, key);
+    return search_chosen(choose(hash_by(table, table_length, key), p, k, top, clipped), room, top, buckets, side, side_places, key);
 }
 
 /* answers holds each key's H after the first pass, what its counters say after the second. */
-INLINED void three_passes(int ahead, const uint64_t *table, uint64_t p, uint64_t k, uint64_t room, uint64_t top, uint64_t side_places,
+INLINED void three_passes(int ahead, const uint64_t *table, size_t table_length, uint64_t p, uint64_t k, uint64_t room, uint64_t top,
+                          uint64_t side_places,
                           const uint8_t *clipped, const uint8_t *buckets, const uint8_t *side, const uint8_t *keys, uint64_t *answers,
                           size_t n)
 {
     const size_t m = (size_t)1 << p, bucket_size = 1 + RECORD * room;
     for (size_t i = 0; i < n; i++) {
-        answers[i] = hash_of(table, keys + KEY * i);
+        answers[i] = hash_by(table, table_length, keys + KEY * i);
     }
     for (size_t i = 0; i < n; i++) {
         struct choice choice = choose(answers[i], p, k, top, clipped);
@@ -87,27 +89,27 @@ INLINED void three_passes(int ahead, const uint64_t *table, uint64_t p, uint64_t
 }
 
 uint32_t tuned_search_burst(const uint64_t *table, size_t table_length, uint64_t p, uint64_t k, uint64_t room, uint64_t top,
-                            uint64_t capacity, uint64_t side_places, const uint8_t *clipped, size_t clipped_length,
+                            uint64_t capacity, uint64_t side_places, uint64_t width, const uint8_t *clipped, size_t clipped_length,
                             const uint8_t *buckets, size_t buckets_length, const uint8_t *side, size_t side_length, const uint8_t *keys,
                             size_t keys_length, uint64_t *answers, size_t answers_length)
 {
-    uint32_t refused = judge_search(table_length, p, k, room, top, capacity, side_places, clipped_length, buckets_length, side_length);
+    uint32_t refused = judge_search(table_length, p, k, room, top, capacity, side_places, width, clipped_length, buckets_length, side_length);
     if (refused != 0 || keys_length != KEY * answers_length) {
         return refused != 0 ? refused : 3;
     }
-    three_passes(0, table, p, k, room, top, side_places, clipped, buckets, side, keys, answers, answers_length);
+    three_passes(0, table, table_length, p, k, room, top, side_places, clipped, buckets, side, keys, answers, answers_length);
     return 0;
 }
 
 uint32_t tuned_search_burst_ahead(const uint64_t *table, size_t table_length, uint64_t p, uint64_t k, uint64_t room, uint64_t top,
-                                  uint64_t capacity, uint64_t side_places, const uint8_t *clipped, size_t clipped_length,
+                                  uint64_t capacity, uint64_t side_places, uint64_t width, const uint8_t *clipped, size_t clipped_length,
                                   const uint8_t *buckets, size_t buckets_length, const uint8_t *side, size_t side_length,
                                   const uint8_t *keys, size_t keys_length, uint64_t *answers, size_t answers_length)
 {
-    uint32_t refused = judge_search(table_length, p, k, room, top, capacity, side_places, clipped_length, buckets_length, side_length);
+    uint32_t refused = judge_search(table_length, p, k, room, top, capacity, side_places, width, clipped_length, buckets_length, side_length);
     if (refused != 0 || keys_length != KEY * answers_length) {
         return refused != 0 ? refused : 3;
     }
-    three_passes(1, table, p, k, room, top, side_places, clipped, buckets, side, keys, answers, answers_length);
+    three_passes(1, table, table_length, p, k, room, top, side_places, clipped, buckets, side, keys, answers, answers_length);
     return 0;
 }

@@ -1,6 +1,6 @@
 /* Time of an add and a remove by the doors and by plain C that lays out every area as they do, in one run: rounds that alternate, over
  * the same keys, and the median round. The areas of all are compared after every round, once with a flow more and once without. */
-#include "flow.h"
+#include "before.h"
 #include "plain_update.h"
 #include "results.h"
 #include "timing.h"
@@ -8,40 +8,40 @@
 #include <stdlib.h>
 #include <string.h>
 
-enum { PAIRS = 8, ROUNDS = 101, RECORD = FLOW_RECORD_BYTES, MOST_FLOWS = 4096 };
+enum { PAIRS = 8, ROUNDS = 101, MOST_FLOWS = 4096 };
 
 /* The flows vary, the settings stay. */
 static const uint64_t sizes[] = {250, 500, 1000, 2000, 4000};
 enum { AT_1000 = 2, AT_4000 = 4, SIZES = sizeof sizes / sizeof sizes[0] };
 
 static struct settings set = {0, 12, 3, 4, 15, 4096, 64};
-static uint64_t table[FLOW_HASH_TABLE_NUMBERS];
-static uint8_t keys[PAIRS][FLOW_KEY_BYTES];
+/* the one that the doors make for an update: at 37 by half-byte */
+enum { UPDATE_TABLE = WIDE ? HALVES : TABLE };
+static uint64_t table[UPDATE_TABLE];
+static uint8_t keys[PAIRS][KEY];
 
-/* The C by each compiler that is there: bin/bench adds the compiler's name. The doors of the library that bin/bench --before names. */
+/* The C by each compiler that is there: bin/bench adds the compiler's name. */
 update plain_update_branching_by_gcc WHERE_LINKED, plain_update_branching_by_clang WHERE_LINKED;
 update plain_update_five_by_gcc WHERE_LINKED, plain_update_five_by_clang WHERE_LINKED;
 update plain_update_twice_by_gcc WHERE_LINKED, plain_update_twice_by_clang WHERE_LINKED;
 update plain_update_kept_by_gcc WHERE_LINKED, plain_update_kept_by_clang WHERE_LINKED;
-__typeof__(flow_add) before_flow_add WHERE_LINKED;
-__typeof__(flow_remove) before_flow_remove WHERE_LINKED;
-__typeof__(flow_area_lengths) before_flow_area_lengths WHERE_LINKED;
 
 /* The doors as the C is called; they make their hash table themselves. */
-#define DOORS(name, add, remove)                                                                                                         \
+#define DOORS(name, add, remove, WITH_WIDTH)                                                                                             \
     static uint32_t name(const struct settings *s, const uint64_t *no_table, struct areas *at, enum edit edit, const uint8_t *key,       \
                          size_t key_length, uint32_t class)                                                                              \
     {                                                                                                                                    \
         (void)no_table;                                                                                                                  \
-        return edit == ADD ? add(s->p, s->k, s->room, s->top, s->capacity, s->side_places, at->ledger, at->ledger_length,                \
+        return edit == ADD ? add(s->p, s->k, s->room, s->top, s->capacity, s->side_places WITH_WIDTH, at->ledger, at->ledger_length,     \
                                  at->true_counts, at->true_counts_length, at->clipped, at->clipped_length, at->buckets,                  \
                                  at->buckets_length, at->side, at->side_length, at->work, at->work_length, key, key_length, class)       \
-                           : remove(s->p, s->k, s->room, s->top, s->capacity, s->side_places, at->ledger, at->ledger_length,             \
+                           : remove(s->p, s->k, s->room, s->top, s->capacity, s->side_places WITH_WIDTH, at->ledger, at->ledger_length,  \
                                     at->true_counts, at->true_counts_length, at->clipped, at->clipped_length, at->buckets,               \
                                     at->buckets_length, at->side, at->side_length, at->work, at->work_length, key, key_length);          \
     }
-DOORS(doors, flow_add, flow_remove)
-DOORS(before, before_flow_add, before_flow_remove)
+#define NOW_WIDTH , WIDTH
+DOORS(doors, flow_add, flow_remove, NOW_WIDTH)
+DOORS(before, before_flow_add, before_flow_remove, BEFORE_WIDTH)
 
 /* Every way to make a call, on areas of its own. */
 /* clang-format off */
@@ -69,7 +69,7 @@ static const struct {
 static struct areas areas[CONTESTANTS];
 static struct column columns[SIZES];
 
-static uint32_t call(int c, enum edit edit, const uint8_t *key) { return contestants[c].call(&set, table, &areas[c], edit, key, FLOW_KEY_BYTES, 7); }
+static uint32_t call(int c, enum edit edit, const uint8_t *key) { return contestants[c].call(&set, table, &areas[c], edit, key, KEY, 7); }
 
 /* One round: microseconds a pair; the answers are added to *sum. */
 static double round_of(int c, uint32_t *sum)
@@ -89,7 +89,7 @@ static void random_bytes(uint8_t *to, size_t n)
     }
 }
 
-static int by_key(const void *a, const void *b) { return memcmp(a, b, FLOW_KEY_BYTES); }
+static int by_key(const void *a, const void *b) { return memcmp(a, b, KEY); }
 
 static int alike(const struct areas *a, const struct areas *b)
 {
@@ -104,8 +104,9 @@ static int allocate(int c)
 {
     struct areas *at = &areas[c];
     uint64_t lengths[6];
-    if ((c == BEFORE ? before_flow_area_lengths : flow_area_lengths)(set.p, set.k, set.room, set.top, set.capacity, set.side_places,
-                                                                     lengths, 6) != 0) {
+    uint32_t answer = c == BEFORE ? before_flow_area_lengths(set.p, set.k, set.room, set.top, set.capacity, set.side_places BEFORE_WIDTH, lengths, 6)
+                                  : flow_area_lengths(set.p, set.k, set.room, set.top, set.capacity, set.side_places, WIDTH, lengths, 6);
+    if (answer != 0) {
         return 1;
     }
     if (c != NOW && c != BEFORE) {
@@ -147,8 +148,8 @@ static void build(size_t flows)
 /* Adds, and then removes, one more flow in all; alike after each. */
 static int check(void)
 {
-    uint8_t key[FLOW_KEY_BYTES];
-    random_bytes(key, FLOW_KEY_BYTES);
+    uint8_t key[KEY];
+    random_bytes(key, KEY);
     for (int edit = ADD; edit <= REMOVE; edit++) {
         for (int c = 0; c < CONTESTANTS; c++) {
             if (contestants[c].there == NULL) {
@@ -166,7 +167,7 @@ static int check(void)
 
 static void print_heads(const char *what)
 {
-    printf("\n| %s |", what);
+    printf("\n| %s%s |", WIDE ? "keys of 37 bytes: " : "", what);
     for (int size = 0; size < SIZES; size++) {
         printf(" %d flows |", (int)sizes[size]);
     }
@@ -207,11 +208,21 @@ static void print_aims(FILE *to)
         {"flow_add and flow_remove to plain C, hashes kept, by the faster of gcc and clang, 1,000 flows", AT_1000, 2.00},
         {"flow_add and flow_remove to plain C, hashes kept, by the faster of gcc and clang, 4,000 flows", AT_4000, 1.80},
     };
+    static const struct {
+        const char *what;
+        int size;
+    } to_before[] = {
+        {"flow_add and flow_remove to before, 1,000 flows", AT_1000},
+        {"flow_add and flow_remove to before, 4,000 flows", AT_4000},
+    };
     for (int i = 0; i < 2; i++) {
         const struct column *column = &columns[aims[i].size];
         int clang = contestants[KEPT_CLANG].there != NULL && time_of(column, KEPT_CLANG) < time_of(column, KEPT_GCC);
         print_aim(to, &(struct aim){aims[i].what, NOW, clang ? KEPT_CLANG : KEPT_GCC, column, 1, {aims[i].bound}},
                   contestants[KEPT_CLANG].there != NULL);
+    }
+    for (int i = 0; i < 2; i++) {
+        print_aim(to, &(struct aim){to_before[i].what, NOW, BEFORE, &columns[to_before[i].size], 1, {1.05}}, contestants[BEFORE].there != NULL);
     }
 }
 
@@ -219,7 +230,7 @@ int main(int words, char **word)
 {
     FILE *aims = open_aims(words, word);
     int order[CONTESTANTS], count = 0;
-    if (aims == NULL || flow_hash_table(table, FLOW_HASH_TABLE_NUMBERS) != 0) {
+    if (aims == NULL || flow_hash_table(WIDTH, table, UPDATE_TABLE) != 0) {
         return 1;
     }
     for (int c = 0; c < CONTESTANTS; c++) {
@@ -248,6 +259,8 @@ int main(int words, char **word)
         }
     }
     print_tables();
-    print_aims(aims);
+    if (!WIDE) {
+        print_aims(aims);
+    }
     return fclose(aims) != 0;
 }

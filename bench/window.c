@@ -1,7 +1,7 @@
 /* Time of a search that gives its counts and of its entry into a window, beside a search without them, in one run: rounds that alternate, over
  * the same keys in an order that is random in each round, and the median round. Each window is full, and after every round it is counted
  * afresh. */
-#include "flow.h"
+#include "before.h"
 #include "lookups.h"
 #include "results.h"
 #include "timing.h"
@@ -13,29 +13,23 @@ enum { ROUNDS = 401 };
 /* What the window is given of the keys of a round, beside what they have to answer: the counts of each search. */
 static uint32_t given[LOOKUPS][3];
 
-/* The doors of the library that bin/bench --before names, which may have none of a window. */
-__typeof__(flow_search_lent) before_flow_search_lent WHERE_LINKED;
-__typeof__(flow_search_counts_lent) before_flow_search_counts_lent WHERE_LINKED;
-__typeof__(flow_window_enter) before_flow_window_enter WHERE_LINKED;
-__typeof__(flow_window_counts) before_flow_window_counts WHERE_LINKED;
-
-/* What each way does for key i of a round, by the doors of a library; the numbers that they return, added up. */
-#define WAYS(library, prefix)                                                                                                            \
+/* What each way does for key i of a round, by the doors of a library, which may have none of a window; the numbers that they return, added up. */
+#define WAYS(library, prefix, settings)                                                                                                  \
     static uint64_t library##_lent(int i, uint16_t *window)                                                                              \
     {                                                                                                                                    \
         (void)window;                                                                                                                    \
-        return prefix##flow_search_lent(table, FLOW_HASH_TABLE_NUMBERS, AREAS, order[i], FLOW_KEY_BYTES);                                \
+        return prefix##flow_search_lent(table, TABLE, settings, LOOKUP, order[i], KEY);                                                  \
     }                                                                                                                                    \
     static uint64_t library##_counts_lent(int i, uint16_t *window)                                                                       \
     {                                                                                                                                    \
         uint32_t counts[3];                                                                                                              \
         (void)window;                                                                                                                    \
-        return prefix##flow_search_counts_lent(table, FLOW_HASH_TABLE_NUMBERS, AREAS, order[i], FLOW_KEY_BYTES, counts, 3);              \
+        return prefix##flow_search_counts_lent(table, TABLE, settings, LOOKUP, order[i], KEY, counts, 3);                                \
     }                                                                                                                                    \
     static uint64_t library##_both(int i, uint16_t *window)                                                                              \
     {                                                                                                                                    \
         uint32_t counts[3];                                                                                                              \
-        uint64_t found = prefix##flow_search_counts_lent(table, FLOW_HASH_TABLE_NUMBERS, AREAS, order[i], FLOW_KEY_BYTES, counts, 3);    \
+        uint64_t found = prefix##flow_search_counts_lent(table, TABLE, settings, LOOKUP, order[i], KEY, counts, 3);                      \
         return found + prefix##flow_window_enter(window, FLOW_WINDOW_NUMBERS, found, counts, 3);                                         \
     }                                                                                                                                    \
     static uint64_t library##_enter(int i, uint16_t *window)                                                                             \
@@ -48,8 +42,12 @@ __typeof__(flow_window_counts) before_flow_window_counts WHERE_LINKED;
         (void)i;                                                                                                                         \
         return prefix##flow_window_counts(window, FLOW_WINDOW_NUMBERS, counts, 3);                                                       \
     }
-WAYS(now, )
-WAYS(before, before_)
+/* clang-format off */
+#define NOW_SETTINGS SIX, WIDTH
+#define BEFORE_SETTINGS SIX BEFORE_WIDTH
+WAYS(now, , NOW_SETTINGS)
+WAYS(before, before_, BEFORE_SETTINGS)
+/* clang-format on */
 
 /* For each way a function that measures a round: nanoseconds a call, or a pair of calls, and the sum. Written out, so that each is called
  * directly. */
@@ -112,7 +110,7 @@ static uint64_t draw_with_counts(enum mix mix)
     uint64_t sum = draw(mix);
     memset(fresh, 0, sizeof fresh);
     for (int i = 0; i < LOOKUPS; i++) {
-        flow_search_counts_lent(table, FLOW_HASH_TABLE_NUMBERS, AREAS, order[i], FLOW_KEY_BYTES, given[i], 3);
+        flow_search_counts_lent(table, TABLE, AREAS, order[i], KEY, given[i], 3);
         if (i >= LOOKUPS - FLOW_WINDOW_SEARCHES) {
             fresh[0] += wanted[i] != ABSENT;
             fresh[1] += given[i][2];
@@ -146,7 +144,8 @@ static int measure(int c, uint64_t sum, double *time)
 
 static void print_table(void)
 {
-    printf("\n| 4000 flows, p 12, full window | ns: hits / half / misses | its time to flow_search_lent's |\n|---|---|---|\n");
+    printf("\n| 4000 flows, p 12, full window%s | ns: hits / half / misses | its time to flow_search_lent's |\n|---|---|---|\n",
+           WIDE ? ", keys of 37 bytes" : "");
     for (int c = 0; c < CONTESTANTS; c++) {
         if (contestants[c].there != NULL) {
             printf("| %s |", contestants[c].name);
@@ -162,7 +161,7 @@ int main(int words, char **word)
     FILE *aims = open_aims(words, word);
     int turns[CONTESTANTS], count = 0;
     set = (struct settings){4000, 12, 3, 4, 15, 4096, 64};
-    if (aims == NULL || flow_hash_table(table, FLOW_HASH_TABLE_NUMBERS) != 0 || fill_table() != 0) {
+    if (aims == NULL || fill_hash_tables() != 0 || fill_table() != 0) {
         return 1;
     }
     for (int c = 0; c < CONTESTANTS; c++) {
@@ -188,6 +187,9 @@ int main(int words, char **word)
         }
     }
     print_table();
+    if (WIDE) {
+        return fclose(aims) != 0;
+    }
     print_aim(aims,
               &(struct aim){"flow_search_counts_lent and flow_window_enter to flow_search_lent, 4,000 flows", BOTH, LENT, columns, 3,
                             {1.30, 1.30, 1.30}},

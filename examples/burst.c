@@ -7,10 +7,10 @@
 #include <stdio.h>
 #include <stdlib.h>
 
-/* 64 buckets, 3 hashes a key, room for 2 records a bucket, top count 4, at most 128 flows, 8 side places. */
-#define SETTINGS 6, 3, 2, 4, 128, 8
+/* 64 buckets, 3 hashes a key, room for 2 records a bucket, top count 4, at most 128 flows, 8 side places, keys of 13 bytes. */
+#define SETTINGS 6, 3, 2, 4, 128, 8, KEY
 
-enum { BURST = 32, KEY = FLOW_KEY_BYTES, PACKET = 28 };
+enum { BURST = 32, KEY = FLOW_IPV4_WIDTH, TABLE = FLOW_HASH_TABLE_NUMBERS(KEY), PACKET = 28 };
 
 /* The areas, of the lengths that flow_area_lengths gives, in the order of the doors. */
 static uint64_t lengths[6];
@@ -21,7 +21,7 @@ static uint16_t *true_counts, *work;
 #define AREAS ledger, lengths[0], true_counts, lengths[1], LOOKUP
 
 /* What the driver keeps: the table, filled once, and places for the keys and the answers of a burst. */
-static uint64_t table[FLOW_HASH_TABLE_NUMBERS];
+static uint64_t table[TABLE];
 static uint8_t keys[BURST * KEY];
 static uint64_t answers[BURST];
 
@@ -77,7 +77,7 @@ int main(void)
         fputs("no memory for the areas\n", stderr);
         return 1;
     }
-    printf("hash table: %" PRIu32 "\n", flow_hash_table(table, FLOW_HASH_TABLE_NUMBERS));
+    printf("hash table: %" PRIu32 "\n", flow_hash_table(KEY, table, TABLE));
     printf("clear: %" PRIu32 "\n", flow_clear(SETTINGS, AREAS));
     add("the call", call, 5);
     add("the line", line, 1);
@@ -92,14 +92,14 @@ int main(void)
             n++;
         }
     }
-    printf("a burst of %zu keys: %" PRIu32 "\n", n, flow_search_burst(table, FLOW_HASH_TABLE_NUMBERS, SETTINGS, LOOKUP, keys, KEY * n, answers, n));
+    printf("a burst of %zu keys: %" PRIu32 "\n", n, flow_search_burst(table, TABLE, SETTINGS, LOOKUP, keys, KEY * n, answers, n));
     show(n);
-    printf("a burst of no key: %" PRIu32 "\n", flow_search_burst(table, FLOW_HASH_TABLE_NUMBERS, SETTINGS, LOOKUP, keys, 0, answers, 0));
+    printf("a burst of no key: %" PRIu32 "\n", flow_search_burst(table, TABLE, SETTINGS, LOOKUP, keys, 0, answers, 0));
 
     /* refused, the answers are as they were */
     answers[0] = 42;
     printf("a burst of %zu keys with %zu answers: %" PRIu32 "\n", n, n - 1,
-           flow_search_burst(table, FLOW_HASH_TABLE_NUMBERS, SETTINGS, LOOKUP, keys, KEY * n, answers, n - 1));
+           flow_search_burst(table, TABLE, SETTINGS, LOOKUP, keys, KEY * n, answers, n - 1));
     show(1);
 
     /* a key whose counters are damaged is refused by itself: here they are 15, where 4 is the most */
@@ -109,7 +109,7 @@ int main(void)
         clipped[numbers[i] / 2] |= numbers[i] % 2 == 0 ? 0x0f : 0xf0;
     }
     printf("with damage to the counters of key 2: %" PRIu32 "\n",
-           flow_search_burst(table, FLOW_HASH_TABLE_NUMBERS, SETTINGS, LOOKUP, keys, KEY * n, answers, n));
+           flow_search_burst(table, TABLE, SETTINGS, LOOKUP, keys, KEY * n, answers, n));
     show(n);
     return 0;
 }

@@ -6,9 +6,10 @@
 #include <inttypes.h>
 #include <stdio.h>
 
-/* 64 buckets, 3 hashes a key, room for 2 records a bucket, top count 4, at most 128 flows, 8 side places; and the areas' lengths under them. */
-#define SETTINGS 6, 3, 2, 4, 128, 8
-enum { KEY = FLOW_KEY_BYTES, RECORD = FLOW_RECORD_BYTES, HEADER = 20, MORE_FRAGMENTS = 0x20, CLASS = 3 };
+/* 64 buckets, 3 hashes a key, room for 2 records a bucket, top count 4, at most 128 flows, 8 side places, keys of 13 bytes; and the areas' lengths
+ * under them. */
+#define SETTINGS 6, 3, 2, 4, 128, 8, KEY
+enum { KEY = FLOW_IPV4_WIDTH, RECORD = FLOW_RECORD_BYTES(KEY), HEADER = 20, MORE_FRAGMENTS = 0x20, CLASS = 3 };
 static uint8_t ledger[2 + RECORD * 128], clipped[64 / 2], buckets[64 * (1 + RECORD * 2)], side[2 + RECORD * 8];
 static uint16_t true_counts[64], work[2 * 64];
 

@@ -8,7 +8,7 @@
 #include <stdio.h>
 
 /* flowrun's settings, and the areas' lengths under them. */
-#define SETTINGS 6, 3, 2, 4, 128, 8
+#define SETTINGS 6, 3, 2, 4, 128, 8, FLOW_IPV4_WIDTH
 enum { CALLS = 10000, FLOWS = 1000, MOST_ANSWER = 100 };
 static uint8_t ledger[2 + 17 * 128], clipped[64 / 2], buckets[64 * (1 + 17 * 2)], side[2 + 17 * 8];
 static uint16_t true_counts[64], work[2 * 64];
@@ -19,7 +19,7 @@ static uint16_t true_counts[64], work[2 * 64];
  * count in eight bytes, high byte first, then five zero bytes. */
 static uint32_t play(uint64_t first, uint64_t second)
 {
-    uint8_t key[FLOW_KEY_BYTES] = {0};
+    uint8_t key[FLOW_IPV4_WIDTH] = {0};
     uint32_t class = (uint32_t)first;
     for (int i = 0; i < 8; i++) {
         key[i] = (uint8_t)(second % FLOWS >> 8 * (7 - i));

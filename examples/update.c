@@ -7,8 +7,8 @@
 #include <stdio.h>
 #include <stdlib.h>
 
-/* 64 buckets, 3 hashes a key, room for 2 records a bucket, top count 4, at most 3 flows, 2 side places. */
-#define SETTINGS 6, 3, 2, 4, 3, 2
+/* 64 buckets, 3 hashes a key, room for 2 records a bucket, top count 4, at most 3 flows, 2 side places, keys of 13 bytes. */
+#define SETTINGS 6, 3, 2, 4, 3, 2, FLOW_IPV4_WIDTH
 
 /* The areas, of the lengths that flow_area_lengths gives, in the order of the doors. */
 static uint64_t lengths[6];
@@ -31,17 +31,17 @@ static int lend_areas(void)
     return ledger && true_counts && clipped && buckets && side && work;
 }
 
-static void search(const char *what, const uint8_t key[FLOW_KEY_BYTES])
+static void search(const char *what, const uint8_t key[FLOW_IPV4_WIDTH])
 {
-    uint64_t found = flow_search(SETTINGS, clipped, lengths[2], buckets, lengths[3], side, lengths[4], key, FLOW_KEY_BYTES);
+    uint64_t found = flow_search(SETTINGS, clipped, lengths[2], buckets, lengths[3], side, lengths[4], key, FLOW_IPV4_WIDTH);
     printf("%s: answer %" PRIu64 ", class %" PRIu64 "\n", what, found >> 32, found & UINT32_MAX);
 }
 
 int main(void)
 {
     /* addresses 10.0.0.1 and 10.0.0.2, ports 5060 and 5060, protocol 17 */
-    uint8_t call[FLOW_KEY_BYTES] = {10, 0, 0, 1, 10, 0, 0, 2, 0x13, 0xc4, 0x13, 0xc4, 17};
-    uint8_t line[FLOW_KEY_BYTES] = {10, 0, 0, 3, 10, 0, 0, 4, 0x01, 0xbb, 0x01, 0xbb, 6};
+    uint8_t call[FLOW_IPV4_WIDTH] = {10, 0, 0, 1, 10, 0, 0, 2, 0x13, 0xc4, 0x13, 0xc4, 17};
+    uint8_t line[FLOW_IPV4_WIDTH] = {10, 0, 0, 3, 10, 0, 0, 4, 0x01, 0xbb, 0x01, 0xbb, 6};
 
     if (!lend_areas()) {
         fputs("no memory for the areas\n", stderr);
@@ -49,14 +49,14 @@ int main(void)
     }
     /* clear takes areas with any contents, such as malloc's */
     printf("clear: %" PRIu32 "\n", flow_clear(SETTINGS, AREAS));
-    printf("add a call: %" PRIu32 "\n", flow_add(SETTINGS, AREAS, work, lengths[5], call, FLOW_KEY_BYTES, 5));
-    printf("add a line: %" PRIu32 "\n", flow_add(SETTINGS, AREAS, work, lengths[5], line, FLOW_KEY_BYTES, 1));
-    printf("add the call again: %" PRIu32 "\n", flow_add(SETTINGS, AREAS, work, lengths[5], call, FLOW_KEY_BYTES, 6));
+    printf("add a call: %" PRIu32 "\n", flow_add(SETTINGS, AREAS, work, lengths[5], call, FLOW_IPV4_WIDTH, 5));
+    printf("add a line: %" PRIu32 "\n", flow_add(SETTINGS, AREAS, work, lengths[5], line, FLOW_IPV4_WIDTH, 1));
+    printf("add the call again: %" PRIu32 "\n", flow_add(SETTINGS, AREAS, work, lengths[5], call, FLOW_IPV4_WIDTH, 6));
     search("the call", call);
-    printf("change the call: %" PRIu32 "\n", flow_change(SETTINGS, AREAS, work, lengths[5], call, FLOW_KEY_BYTES, 7));
+    printf("change the call: %" PRIu32 "\n", flow_change(SETTINGS, AREAS, work, lengths[5], call, FLOW_IPV4_WIDTH, 7));
     search("the call", call);
-    printf("remove the call: %" PRIu32 "\n", flow_remove(SETTINGS, AREAS, work, lengths[5], call, FLOW_KEY_BYTES));
-    printf("remove the call again: %" PRIu32 "\n", flow_remove(SETTINGS, AREAS, work, lengths[5], call, FLOW_KEY_BYTES));
+    printf("remove the call: %" PRIu32 "\n", flow_remove(SETTINGS, AREAS, work, lengths[5], call, FLOW_IPV4_WIDTH));
+    printf("remove the call again: %" PRIu32 "\n", flow_remove(SETTINGS, AREAS, work, lengths[5], call, FLOW_IPV4_WIDTH));
     search("the call", call);
     search("the line", line);
     return 0;

@@ -9,10 +9,10 @@
 #include <stdio.h>
 #include <stdlib.h>
 
-/* 32 buckets, 3 hashes a key, room for 2 records a bucket, top count 4, at most 32 flows, 8 side places: so few buckets that some flows go to the
- * side store. And the areas' lengths under them. */
-#define SETTINGS 5, 3, 2, 4, 32, 8
-enum { KEY = FLOW_KEY_BYTES, RECORD = FLOW_RECORD_BYTES };
+/* 32 buckets, 3 hashes a key, room for 2 records a bucket, top count 4, at most 32 flows, 8 side places, keys of 13 bytes: so few buckets that some
+ * flows go to the side store. And the areas' lengths under them. */
+#define SETTINGS 5, 3, 2, 4, 32, 8, KEY
+enum { KEY = FLOW_IPV4_WIDTH, RECORD = FLOW_RECORD_BYTES(KEY), TABLE = FLOW_HASH_TABLE_NUMBERS(KEY) };
 static uint8_t ledger[2 + RECORD * 32], clipped[32 / 2], buckets[32 * (1 + RECORD * 2)], side[2 + RECORD * 8];
 static uint16_t true_counts[32], work[2 * 32];
 
@@ -20,7 +20,7 @@ static uint16_t true_counts[32], work[2 * 32];
 #define AREAS ledger, sizeof ledger, true_counts, 32, LOOKUP
 
 /* What the driver keeps: the hash table, filled once, and the window. */
-static uint64_t table[FLOW_HASH_TABLE_NUMBERS];
+static uint64_t table[TABLE];
 static uint16_t window[FLOW_WINDOW_NUMBERS];
 
 /* Packets come from 40 subscribers. The first 28 have a flow; of these the last 16 lose theirs for a while. */
@@ -71,7 +71,7 @@ static void search(uint8_t subscriber)
     uint8_t key[KEY];
     uint32_t counts[3];
     make_key(key, subscriber);
-    uint64_t found = flow_search_counts_lent(table, FLOW_HASH_TABLE_NUMBERS, SETTINGS, LOOKUP, key, KEY, counts, 3);
+    uint64_t found = flow_search_counts_lent(table, TABLE, SETTINGS, LOOKUP, key, KEY, counts, 3);
     uint64_t answer = found >> 32;
     must("flow_search_counts_lent", answer == 100 ? 0 : answer);
     must("flow_window_enter", flow_window_enter(window, FLOW_WINDOW_NUMBERS, found, counts, 3));
@@ -91,7 +91,7 @@ int main(void)
     /* subscribers are drawn from it, the same ones everywhere */
     struct flow_generator generator = {.s = 1, .w = 0};
 
-    must("flow_hash_table", flow_hash_table(table, FLOW_HASH_TABLE_NUMBERS));
+    must("flow_hash_table", flow_hash_table(KEY, table, TABLE));
     must("flow_clear", flow_clear(SETTINGS, AREAS));
     must("flow_window_clear", flow_window_clear(window, FLOW_WINDOW_NUMBERS));
     add_flows(0, FLOWS);

@@ -1,5 +1,5 @@
-/* Every door with areas that malloc has made of exactly their lengths: as malloc leaves them where their contents are free, random bytes
- * where they may be damaged, and of wrong lengths. Under valgrind (bin/memcheck) this shows a read or write outside an area, and an answer or
+/* Every door, at both widths, with areas that malloc has made of exactly their lengths: as malloc leaves them where their contents are free, random
+ * bytes where they may be damaged, and of wrong lengths. Under valgrind (bin/memcheck) this shows a read or write outside an area, and an answer or
  * an area afterwards that depends on contents said to be free. What is answered is compared with the model elsewhere; here only where it is
  * plain. */
 #include "flow.h"
@@ -94,15 +94,16 @@ static void look_at(const void *at, size_t bytes)
     }
 }
 
-/* A table: settings, and the five areas and work in the order of the doors. */
+/* A table: settings, and the five areas and work in the order of the doors; the bytes of its keys, which the settings say unless they are spoiled. */
 static uint64_t settings[FLOW_SETTINGS_COUNT];
+static size_t width;
 static struct area areas[6];
-static uint64_t table[FLOW_HASH_TABLE_NUMBERS];
-/* the table in malloc's memory, and one of random numbers */
-static struct area tables[2];
+/* the hash tables for the width in malloc's memory, at 37 by half-byte and by byte, and beside each one of random numbers */
+static struct area right_tables[2], random_tables[2];
+static size_t right_count;
 static const size_t sizes[6] = {1, 2, 1, 1, 1, 2};
 
-#define SETTINGS settings[0], settings[1], settings[2], settings[3], settings[4], settings[5]
+#define SETTINGS settings[0], settings[1], settings[2], settings[3], settings[4], settings[5], settings[6]
 #define LENT(area) (area).at, (area).length
 #define LOOKUP LENT(areas[2]), LENT(areas[3]), LENT(areas[4])
 #define AREAS LENT(areas[0]), LENT(areas[1]), LOOKUP
@@ -144,16 +145,25 @@ static void look_at_areas(void)
 /* One of a few keys, or any, or one of a wrong length. */
 static struct area some_key(void)
 {
-    struct area key = random_area(FLOW_KEY_BYTES, 1);
-    uint64_t way = between(0, 19);
-    if (way > 2) {
-        memset(key.at, (int)between(1, 30), FLOW_KEY_BYTES);
+    struct area key = random_area(width, 1);
+    uint64_t way = between(0, 39);
+    if (way > 5) {
+        memset(key.at, (int)between(1, 30), width);
     }
     if (way == 0) {
         wrong_length(&key);
     }
+    if (way == 1) {
+        resize(&key, FLOW_IPV4_WIDTH + FLOW_IPV6_WIDTH - width);
+    }
     return key;
 }
+
+/* A right table. */
+static struct area some_table(void) { return right_tables[between(0, right_count - 1)]; }
+
+/* A right table, or now and then one of random numbers. */
+static struct area any_table(void) { return between(0, 9) == 0 ? random_tables[between(0, right_count - 1)] : some_table(); }
 
 /* 0 when a table with a layout took the call, whose areas then are all written. */
 static uint32_t update(void)
@@ -177,9 +187,9 @@ static uint32_t update(void)
 
 static void search(void)
 {
-    struct area key = some_key();
+    struct area key = some_key(), lent = some_table();
     uint64_t found = flow_search(SETTINGS, LOOKUP, LENT(key));
-    if (flow_search_lent(table, FLOW_HASH_TABLE_NUMBERS, SETTINGS, LOOKUP, LENT(key)) != found) {
+    if (flow_search_lent(LENT(lent), SETTINGS, LOOKUP, LENT(key)) != found) {
         fail("the two searches differ");
     }
     note((uint32_t)(found >> 32));
@@ -199,7 +209,7 @@ static void search_place(void)
         const uint64_t *lies = place.at;
         const struct area *area = lies[0] == 1 ? &areas[3] : &areas[4];
         const uint8_t *record = (const uint8_t *)area->at + lies[1];
-        if (lies[0] == 0 || lies[0] > 2 || lies[1] + FLOW_RECORD_BYTES > area->length || memcmp(record, key.at, FLOW_KEY_BYTES) != 0) {
+        if (lies[0] == 0 || lies[0] > 2 || lies[1] + FLOW_RECORD_BYTES(width) > area->length || memcmp(record, key.at, width) != 0) {
             fail("the record does not lie at its place");
         }
     } else if (answer == 100) {
@@ -219,7 +229,7 @@ static int is_accepted(uint64_t found) { return found >> 32 == 0 || found >> 32 
 static void search_counts(void)
 {
     size_t length = between(0, 9) == 0 ? between(0, 5) : 3;
-    struct area key = some_key(), lent = tables[between(0, 9) == 0], counts = lend(length, 4), counts_lent = lend(length, 4);
+    struct area key = some_key(), lent = any_table(), counts = lend(length, 4), counts_lent = lend(length, 4);
     uint64_t found = flow_search_counts(SETTINGS, LOOKUP, LENT(key), LENT(counts));
     uint64_t found_lent = flow_search_counts_lent(LENT(lent), SETTINGS, LOOKUP, LENT(key), LENT(counts_lent));
     note((uint32_t)(found >> 32));
@@ -234,7 +244,8 @@ static void search_counts(void)
     if (is_accepted(found_lent)) {
         look_at(counts_lent.at, 12);
     }
-    if (is_accepted(found) && lent.at == tables[0].at && memcmp(counts.at, counts_lent.at, 12) != 0) {
+    int right = lent.at == right_tables[0].at || lent.at == right_tables[1].at;
+    if (is_accepted(found) && right && memcmp(counts.at, counts_lent.at, 12) != 0) {
         fail("the counts of the two searches differ");
     }
     if (note(flow_window_enter(LENT(window), found, LENT(counts))) != (length == 3 ? 0 : 2)) {
@@ -298,11 +309,11 @@ static void window_calls(void)
 /* So many keys, one after the other, or some other number of bytes. */
 static struct area some_keys(size_t n)
 {
-    size_t right = FLOW_KEY_BYTES * n, other[] = {0, n == 0 ? 0 : right - 1, right + 1, right + FLOW_KEY_BYTES, between(0, 2 * right + 2)};
+    size_t right = width * n, other[] = {0, n == 0 ? 0 : right - 1, right + 1, right + width, between(0, 2 * right + 2)};
     struct area keys = random_area(between(0, 6) == 0 ? other[between(0, 4)] : right, 1);
-    for (size_t at = 0; at + FLOW_KEY_BYTES <= keys.length; at += FLOW_KEY_BYTES) {
+    for (size_t at = 0; at + width <= keys.length; at += width) {
         if (between(0, 9) > 0) {
-            memset((uint8_t *)keys.at + at, (int)between(1, 30), FLOW_KEY_BYTES);
+            memset((uint8_t *)keys.at + at, (int)between(1, 30), width);
         }
     }
     return keys;
@@ -312,11 +323,11 @@ static struct area some_keys(size_t n)
 static void burst(void)
 {
     size_t n = between(0, 4) == 0 ? between(0, MOST_KEYS) : between(0, 4);
-    struct area keys = some_keys(n), lent = tables[between(0, 9) == 0], shorter = lend(0, 8);
+    struct area keys = some_keys(n), lent = any_table(), shorter = lend(0, 8);
     struct area found = lend(between(0, 19) == 0 ? between(0, MOST_KEYS) : n, 8);
     int marked = between(0, 1) == 0;
     if (between(0, 49) == 0) {
-        resize(&shorter, between(0, 1) == 0 ? 3327 : between(0, 3327));
+        resize(&shorter, between(0, 1) == 0 ? lent.length - 1 : between(0, lent.length - 1));
         memcpy(shorter.at, lent.at, shorter.length * 8);
         lent = shorter;
     }
@@ -325,8 +336,8 @@ static void burst(void)
     }
     uint32_t answer = note(flow_search_burst(LENT(lent), SETTINGS, LOOKUP, LENT(keys), LENT(found)));
     for (size_t i = 0; i < found.length && (answer == 0 || marked); i++) {
-        const uint8_t *key = (const uint8_t *)keys.at + FLOW_KEY_BYTES * i;
-        uint64_t expected = answer == 0 ? flow_search_lent(LENT(lent), SETTINGS, LOOKUP, key, FLOW_KEY_BYTES) : 0xa5a5a5a5a5a5a5a5;
+        const uint8_t *key = (const uint8_t *)keys.at + width * i;
+        uint64_t expected = answer == 0 ? flow_search_lent(LENT(lent), SETTINGS, LOOKUP, key, width) : 0xa5a5a5a5a5a5a5a5;
         if (((uint64_t *)found.at)[i] != expected) {
             fail(answer == 0 ? "a burst and a search differ" : "a refused burst alters an answer");
         }
@@ -351,12 +362,16 @@ static void tally(void)
 
 static void key_buckets(void)
 {
-    struct area key = some_key(), h = lend(1, 8), hashes = lend(4, 2), numbers = lend(5, 2);
-    if (note(flow_hash(LENT(key), LENT(h))) == 0) {
+    struct area key = some_key(), h = lend(1, 8), h_lent = lend(1, 8), hashes = lend(4, 2), numbers = lend(5, 2), lent = some_table();
+    /* at the width of the settings, which may be none */
+    if (note(flow_hash(settings[6], LENT(key), LENT(h))) == 0) {
         look_at(h.at, 8);
     }
-    if (note(flow_hash_lent(table, FLOW_HASH_TABLE_NUMBERS, LENT(key), LENT(h))) == 0) {
-        look_at(h.at, 8);
+    if (note(flow_hash_lent(settings[6], LENT(lent), LENT(key), LENT(h_lent))) == 0) {
+        look_at(h_lent.at, 8);
+        if (memcmp(h.at, h_lent.at, 8) != 0) {
+            fail("the two hashes differ");
+        }
     }
     if (note(flow_key_buckets(SETTINGS, LENT(key), LENT(hashes), LENT(numbers))) == 0) {
         look_at(hashes.at, 8);
@@ -364,11 +379,12 @@ static void key_buckets(void)
     }
     free(key.at);
     free(h.at);
+    free(h_lent.at);
     free(hashes.at);
     free(numbers.at);
 }
 
-/* Six numbers come back, whatever the file. */
+/* Seven numbers come back, whatever the file. */
 static uint32_t load(struct area file)
 {
     struct area handed_back = lend(FLOW_SETTINGS_COUNT, 8);
@@ -403,7 +419,8 @@ static void alter(struct area *file)
 static void save_and_load(void)
 {
     const uint8_t *ledger = areas[0].at;
-    struct area file = lend(FLOW_FILE_HEAD_BYTES + FLOW_RECORD_BYTES * (256 * (size_t)ledger[0] + ledger[1]), 1), before = lend(areas[0].length, 1);
+    size_t records = 256 * (size_t)ledger[0] + ledger[1];
+    struct area file = lend(FLOW_FILE_HEAD_BYTES(width) + FLOW_RECORD_BYTES(width) * records, 1), before = lend(areas[0].length, 1);
     memcpy(before.at, areas[0].at, before.length);
     if (between(0, 9) == 0) {
         wrong_length(&file);
@@ -482,11 +499,13 @@ static void calls_on_a_table(void)
 /* Random bytes after a head that may be right. */
 static void any_file(void)
 {
-    struct area file = random_area(between(0, 60), 1), handed_back = lend(FLOW_SETTINGS_COUNT - 1, 8);
-    if (file.length >= FLOW_FILE_HEAD_BYTES && between(0, 2) != 0) {
+    struct area file = random_area(between(0, 120), 1), handed_back = lend(FLOW_SETTINGS_COUNT - 1, 8);
+    /* mostly the first count of the width: 6 leaves it out */
+    int count = between(0, 9) == 0 ? (int)between(5, 8) : width == FLOW_IPV4_WIDTH ? 6 : 7;
+    if (file.length >= 2 * (size_t)count + 4 && between(0, 2) != 0) {
         uint8_t *head = file.at;
-        for (int i = 0; i < FLOW_SETTINGS_COUNT + 2; i++) {
-            uint64_t number = i == 0 ? FLOW_SETTINGS_COUNT : i == FLOW_SETTINGS_COUNT + 1 ? between(0, 3) : settings[i - 1];
+        for (int i = 0; i < count + 2; i++) {
+            uint64_t number = i == 0 ? (uint64_t)count : i == count + 1 || i > FLOW_SETTINGS_COUNT ? between(0, 3) : settings[i - 1];
             head[2 * i] = (uint8_t)(number >> 8);
             head[2 * i + 1] = (uint8_t)number;
         }
@@ -515,7 +534,7 @@ static void calls_on_any_areas(void)
         wrong_length(&areas[between(0, 5)]);
     }
     if (between(0, 4) == 0) {
-        settings[between(0, 5)] = between(0, 1) == 0 ? 100000 : UINT64_MAX;
+        settings[between(0, 6)] = between(0, 1) == 0 ? 100000 : UINT64_MAX;
     }
     window = random_area(FLOW_WINDOW_NUMBERS, 2);
     for (int i = 0; i < CALLS / 4; i++) {
@@ -528,7 +547,7 @@ static void calls_on_any_areas(void)
         tally();
         key_buckets();
         any_file();
-        struct area target = lend(between(0, 60), 1);
+        struct area target = lend(between(0, 120), 1);
         note(flow_save(SETTINGS, LENT(areas[0]), LENT(areas[5]), LENT(target)));
         free(target.at);
     }
@@ -541,7 +560,7 @@ static void packets(void)
 {
     static const uint8_t no_ports[4];
     for (int i = 0; i < PACKETS; i++) {
-        struct area packet = random_area((size_t)i % 81, 1), key = lend(i % 7 == 0 ? between(0, 20) : FLOW_KEY_BYTES, 1);
+        struct area packet = random_area((size_t)i % 81, 1), key = lend(i % 7 == 0 ? between(0, 40) : FLOW_IPV4_WIDTH, 1);
         uint8_t *bytes = packet.at;
         if (packet.length > 9 && i % 5 != 0) {
             bytes[0] = (uint8_t)(0x40 + between(3, 15));
@@ -553,11 +572,34 @@ static void packets(void)
         }
         uint32_t answer = note(flow_packet_key(LENT(packet), LENT(key)));
         if (answer == 0) {
-            look_at(key.at, FLOW_KEY_BYTES);
+            look_at(key.at, FLOW_IPV4_WIDTH);
         }
         int later = packet.length > 7 && (bytes[6] % 32 != 0 || bytes[7] != 0);
         if (later && (answer == 11 || (answer == 0 && memcmp((const uint8_t *)key.at + 8, no_ports, 4) != 0))) {
             fail("a later fragment has ports");
+        }
+        free(packet.at);
+        free(key.at);
+    }
+}
+
+/* IPv6 packets in memory of exactly their bytes; the key is of bytes of the packet, or of zeros. */
+static void packets6(void)
+{
+    static const uint8_t no_ports[4];
+    for (int i = 0; i < PACKETS; i++) {
+        struct area packet = random_area((size_t)i % 89, 1), key = lend(i % 7 == 0 ? between(0, 40) : FLOW_IPV6_WIDTH, 1);
+        uint8_t *bytes = packet.at;
+        if (packet.length > 6 && i % 5 != 0) {
+            bytes[0] = (uint8_t)(0x60 + between(0, 15));
+            bytes[6] = (uint8_t[]){6, 17, 0, 43, 44, 50, 51, 58, 60}[between(0, 8)];
+        }
+        if (note(flow_packet6_key(LENT(packet), LENT(key))) == 0) {
+            const uint8_t *made = key.at, *ports = bytes[6] == 6 || bytes[6] == 17 ? bytes + 40 : no_ports;
+            look_at(made, FLOW_IPV6_WIDTH);
+            if (memcmp(made, bytes + 8, 32) != 0 || memcmp(made + 32, ports, 4) != 0 || made[36] != bytes[6]) {
+                fail("an IPv6 packet's key is of other bytes");
+            }
         }
         free(packet.at);
         free(key.at);
@@ -586,32 +628,60 @@ static void generators(void)
     }
 }
 
+/* The tables for the width, filled where malloc left them; a length that is none is refused, and so is a width that is none. */
+static void make_tables(void)
+{
+    const size_t lengths[2] = {width == FLOW_IPV4_WIDTH ? FLOW_HASH_TABLE_NUMBERS(FLOW_IPV4_WIDTH) : FLOW_HALF_BYTE_TABLE_NUMBERS,
+                               FLOW_HASH_TABLE_NUMBERS(FLOW_IPV6_WIDTH)};
+    right_count = width == FLOW_IPV4_WIDTH ? 1 : 2;
+    for (size_t i = 0; i < right_count; i++) {
+        struct area shorter = lend(lengths[i] - 1, 8);
+        right_tables[i] = lend(lengths[i], 8);
+        random_tables[i] = random_area(lengths[i], 8);
+        if (note(flow_hash_table(width, LENT(right_tables[i]))) != 0 || note(flow_hash_table(width, LENT(shorter))) != 2 ||
+            note(flow_hash_table(width + 1, LENT(shorter))) != 1) {
+            fail("a hash table");
+        }
+        look_at(right_tables[i].at, 8 * lengths[i]);
+        free(shorter.at);
+    }
+}
+
+static void free_tables(void)
+{
+    for (size_t i = 0; i < right_count; i++) {
+        free(right_tables[i].at);
+        free(random_tables[i].at);
+        right_tables[i].at = NULL;
+    }
+}
+
 int main(void)
 {
     static const uint64_t most[6] = {6, 4, 4, 15, 24, 5}, least[6] = {4, 1, 1, 2, 1, 0};
-    if (flow_hash_table(table, FLOW_HASH_TABLE_NUMBERS) != 0 || flow_hash_table(table, 3327) != 2) {
-        fail("the hash table");
-    }
-    tables[0] = lend(FLOW_HASH_TABLE_NUMBERS, 8);
-    memcpy(tables[0].at, table, sizeof table);
-    tables[1] = random_area(FLOW_HASH_TABLE_NUMBERS, 8);
-    for (int i = 0; i < TABLES; i++) {
-        for (int j = 0; j < 6; j++) {
-            settings[j] = between(least[j], most[j]);
+    static const size_t widths[2] = {FLOW_IPV4_WIDTH, FLOW_IPV6_WIDTH};
+    for (int w = 0; w < 2; w++) {
+        width = widths[w];
+        make_tables();
+        for (int i = 0; i < TABLES; i++) {
+            for (int j = 0; j < 6; j++) {
+                settings[j] = between(least[j], most[j]);
+            }
+            settings[6] = width;
+            if (flow_settings_check(SETTINGS) != 0) {
+                fail("settings in range are refused");
+            }
+            if (i % 2 == 0) {
+                calls_on_a_table();
+            } else {
+                calls_on_any_areas();
+            }
         }
-        if (flow_settings_check(SETTINGS) != 0) {
-            fail("settings in range are refused");
-        }
-        if (i % 2 == 0) {
-            calls_on_a_table();
-        } else {
-            calls_on_any_areas();
-        }
+        free_tables();
     }
     packets();
+    packets6();
     generators();
-    free(tables[0].at);
-    free(tables[1].at);
     for (int i = 0; i <= MOST_ANSWER; i++) {
         if (answers[i] > 0) {
             printf("answer %d: %" PRIu64 "\n", i, answers[i]);

@@ -1,4 +1,4 @@
-//! The fuzzer's target: bytes are taken as settings, areas and a list of calls of every door. Each answer and every area, a window's too, is
+//! The fuzzer's target: bytes are taken as settings, of either width, areas and a list of calls of every door. Each answer and every area, a window's too, is
 //! compared with the model's, and the model's two searches with each other. A difference aborts, which the fuzzer reports with the bytes that led
 //! there.
 
@@ -6,19 +6,20 @@ use flow::{doors, Generator, HashTable};
 use model::bench_load;
 use model::calls::{perform, Call};
 use model::card::Card;
-use model::hash::{self, KEY_BYTES};
+use model::hash;
 use model::layout::Areas;
 use model::ledger::{list_of, valid};
 use model::listing;
 use model::lookup as paper;
-use model::packet::packet_key_into;
-use model::records::{Key, RECORD_BYTES};
-use model::settings::{Settings as Model, LIMITS};
-use model::snapshot::{self, snapshot, HEAD_BYTES};
+use model::packet::{packet6_key_into, packet_key_into};
+use model::settings::{Settings as Model, IPV4_WIDTH, IPV6_WIDTH, LIMITS, WIDTHS};
+use model::snapshot::{self, first_count, head_bytes, snapshot};
 use model::window_area;
 use std::sync::Mutex;
 use testing::lending::{assert_areas, door, kind, lend};
+use testing::made::NO_WIDTHS;
 use testing::seen::Seen;
+use testing::widths::tables;
 use testing::windows::BesideModel;
 
 // A longer list would only make a run slow.
@@ -108,19 +109,32 @@ impl Bytes<'_> {
         }
     }
 
-    fn settings(&mut self) -> Model {
-        Model::of([0, 1, 2, 3, 4, 5].map(|i| self.setting(i)))
+    // One of the two widths, or now and then a number that is none.
+    fn width(&mut self) -> u64 {
+        match self.next() {
+            255 => NO_WIDTHS[self.number(NO_WIDTHS.len() - 1)],
+            byte => WIDTHS[usize::from(byte % 2)],
+        }
     }
 
-    // One of a few keys, so that calls meet their flows again; or any; or one of a wrong length.
-    fn key(&mut self) -> Vec<u8> {
+    fn settings(&mut self) -> Model {
+        let [p, k, b, t, n, s] = [0, 1, 2, 3, 4, 5].map(|i| self.setting(i));
+        Model::of([p, k, b, t, n, s, self.width()])
+    }
+
+    // One of a few keys, so that calls meet their flows again; or any; or one of a wrong length. Where the width is none, of width 13.
+    fn key(&mut self, width: u64) -> Vec<u8> {
+        let width = match width {
+            IPV6_WIDTH => width,
+            _ => IPV4_WIDTH,
+        };
         match self.next() {
             255 => {
-                let length = self.number(30);
+                let length = self.number(50);
                 self.take(length)
             }
-            254 => self.take(KEY_BYTES),
-            byte => (0..KEY_BYTES as u8)
+            254 => self.take(width as usize),
+            byte => (0..width as u8)
                 .map(|a| (byte % 64).wrapping_mul(2 * a + 1))
                 .collect(),
         }
@@ -147,10 +161,17 @@ impl Bytes<'_> {
     }
 }
 
+thread_local! {
+    // filled once, not for every input
+    static HASH_TABLES: &'static [HashTable] =
+        Vec::leak(WIDTHS.into_iter().flat_map(tables).collect());
+}
+
 struct Trial {
     card: Card,
     areas: Areas,
-    hash_table: HashTable,
+    // every hash table of either width
+    hash_tables: &'static [HashTable],
     window: BesideModel,
 }
 
@@ -158,6 +179,14 @@ impl Trial {
     // Areas of their lengths with a byte everywhere, or cleared; a window with that byte everywhere.
     fn start(bytes: &mut Bytes) -> Trial {
         let settings = bytes.settings();
+        note(
+            match settings.width {
+                IPV4_WIDTH => "list of calls at width 13",
+                IPV6_WIDTH => "list of calls at width 37",
+                _ => "list of calls at no width",
+            },
+            0,
+        );
         let lengths = match settings.allowed() {
             true => settings.area_lengths().map(|length| length as usize),
             false => [0, 1, 2, 3, 4, 5].map(|_| bytes.number(40)),
@@ -172,7 +201,7 @@ impl Trial {
                 buckets: vec![byte; lengths[3]],
                 side: vec![byte; lengths[4]],
             },
-            hash_table: HashTable::new(),
+            hash_tables: HASH_TABLES.with(|tables| *tables),
             window: BesideModel::of(vec![u16::from(byte) * 257; window_area::NUMBERS]),
         };
         if byte % 8 != 1 {
@@ -185,15 +214,15 @@ impl Trial {
         match bytes.next() % 40 {
             0 => self.update(bytes, &Call::Clear),
             1..=8 => {
-                let call = Call::Add(bytes.key(), bytes.class());
+                let call = Call::Add(bytes.key(self.width()), bytes.class());
                 self.update(bytes, &call);
             }
             9 | 10 => {
-                let call = Call::Change(bytes.key(), bytes.class());
+                let call = Call::Change(bytes.key(self.width()), bytes.class());
                 self.update(bytes, &call);
             }
             11..=14 => {
-                let call = Call::Remove(bytes.key());
+                let call = Call::Remove(bytes.key(self.width()));
                 self.update(bytes, &call);
             }
             15 => self.search(bytes),
@@ -202,7 +231,8 @@ impl Trial {
             19 => self.tally(bytes),
             20 | 21 => self.save(bytes),
             22..=24 => self.load(bytes),
-            25 => packet(bytes),
+            25 if bytes.next() % 2 == 0 => packet(bytes),
+            25 => packet6(bytes),
             26 => self.settings(bytes),
             27 => self.hash(bytes),
             28 => self.other_length(bytes),
@@ -211,6 +241,20 @@ impl Trial {
             33..=36 => self.window(bytes),
             _ => self.other_byte(bytes),
         }
+    }
+
+    fn width(&self) -> u64 {
+        self.card.settings.width
+    }
+
+    // A right hash table for the width: at 37 by half-byte or by byte. Where the width is none, any.
+    fn right_table(&self, bytes: &mut Bytes) -> &[u64] {
+        let width = self.width();
+        let mut right: Vec<&HashTable> = self.hash_tables.iter().collect();
+        if WIDTHS.contains(&width) {
+            right.retain(|table| table.width() == width);
+        }
+        right[bytes.number(right.len() - 1)].entries()
     }
 
     // A work area of its length with the next byte everywhere, or of another length.
@@ -240,14 +284,14 @@ impl Trial {
     }
 
     fn search(&mut self, bytes: &mut Bytes) {
-        let key = bytes.key();
+        let key = bytes.key(self.width());
         let numbers = self.card.settings.numbers();
         let paper::Lookup {
             clipped,
             buckets,
             side,
         } = self.areas.lookup();
-        let table = self.hash_table.entries();
+        let table = self.right_table(bytes);
         let by_paper = paper::search(&self.card, self.areas.lookup(), &key);
         let listed = listing::search_item(&self.card, self.areas.lookup(), &key);
         let whole = doors::search(numbers, clipped, buckets, side, &key);
@@ -262,7 +306,7 @@ impl Trial {
 
     // The search with two numbers for the record's place, or with some other number of them.
     fn search_place(&mut self, bytes: &mut Bytes) {
-        let key = bytes.key();
+        let key = bytes.key(self.width());
         let length = match bytes.next() {
             255 => bytes.number(5),
             _ => 2,
@@ -282,13 +326,18 @@ impl Trial {
         note("search with the place", (found >> 32) as u32);
     }
 
-    // The right hash table, one with another entry, or one of another length; and a card that goes by it.
+    // A right hash table, one with another entry, one for the other width, or one of another length; and a card that goes by it.
     fn table(&self, bytes: &mut Bytes) -> (Vec<u64>, Card) {
         let settings = self.card.settings;
-        let mut table = self.hash_table.entries().to_vec();
+        let mut table = self.right_table(bytes).to_vec();
         let card = match bytes.next() {
             255 => {
                 table.resize(bytes.number(2 * table.len()), 0);
+                Card::new(settings)
+            }
+            253 => {
+                let any = &self.hash_tables[bytes.number(self.hash_tables.len() - 1)];
+                table = any.entries().to_vec();
                 Card::new(settings)
             }
             254 => {
@@ -304,7 +353,7 @@ impl Trial {
     // The search with three numbers for its counts, or with some other number of them, without and with a lent table. What it gives enters the
     // window.
     fn search_counts(&mut self, bytes: &mut Bytes) {
-        let key = bytes.key();
+        let key = bytes.key(self.width());
         let (table, card) = self.table(bytes);
         let lookup = self.areas.lookup();
         let numbers = self.card.settings.numbers();
@@ -392,7 +441,7 @@ impl Trial {
             255 => bytes.number(70),
             byte => usize::from(byte % 9),
         };
-        let keys: Vec<u8> = (0..count).flat_map(|_| bytes.key()).collect();
+        let keys: Vec<u8> = (0..count).flat_map(|_| bytes.key(self.width())).collect();
         let count = match bytes.next() {
             255 => bytes.number(70),
             _ => count,
@@ -418,7 +467,7 @@ impl Trial {
         );
         note("burst", answer);
         if answer == 0 {
-            for (key, found) in keys.chunks(KEY_BYTES).zip(answers) {
+            for (key, found) in keys.chunks(card.settings.key_bytes()).zip(answers) {
                 let alone = doors::search_lent(&table, numbers, clipped, buckets, side, key);
                 assert_eq!(found, alone, "{numbers:?}, {key:?}");
                 note("key of a burst", (found >> 32) as u32);
@@ -462,7 +511,11 @@ impl Trial {
         let count = ledger.get(..2).map_or(0, model::records::count) as usize;
         let length = match bytes.next() {
             255 => bytes.number(100),
-            _ => HEAD_BYTES + RECORD_BYTES * count,
+            _ if self.card.settings.allowed() => {
+                let record = self.card.settings.record_bytes();
+                head_bytes(first_count(self.width())) + record * count
+            }
+            _ => 16,
         };
         let mut target = vec![7; length];
         let mut expected = target.clone();
@@ -485,23 +538,37 @@ impl Trial {
                 && self.areas.fit(&settings, None)
                 && valid(&settings, &self.areas.ledger) =>
             {
-                snapshot(&settings, &list_of(&self.areas.ledger))
+                snapshot(&settings, &list_of(&settings, &self.areas.ledger))
             }
-            _ => snapshot(&settings, &[]),
+            // a file has 16 bits of a setting
+            _ => {
+                let width = settings.width % 65536;
+                snapshot(&Model { width, ..settings }, &[])
+            }
         };
+        // another first count, or a width put in, left out or exchanged
+        match bytes.next() {
+            255 if file.len() > 1 => file[1] = bytes.next() % 10,
+            254 if file.len() > 15 && file[1] == 6 => {
+                file.splice(14..14, [0, [13, 37, 14][bytes.number(2)]]);
+                file[1] = 7;
+            }
+            253 if file.len() > 15 => file[15] = [13, 37, 14, 0][bytes.number(3)],
+            _ => {}
+        }
         for _ in 0..bytes.next() % 4 {
             let at = bytes.number(file.len());
             match bytes.next() {
                 0 => file.truncate(at),
                 1 => file.push(bytes.next()),
                 _ if at < file.len() => file[at] = bytes.next(),
-                _ => file.extend(bytes.take(RECORD_BYTES)),
+                _ => file.extend(bytes.take([17, 41][usize::from(at % 2 == 0)])),
             }
         }
         let mut work = self.work(bytes);
         let mut numbers = match bytes.next() {
             255 => vec![7; bytes.number(10)],
-            _ => vec![7; 6],
+            _ => vec![7; 7],
         };
         let (mut expected, mut by_paper) = (self.areas.clone(), numbers.clone());
         let number = snapshot::load(&file, &mut expected, work.len(), &mut by_paper);
@@ -535,36 +602,68 @@ impl Trial {
         }
     }
 
+    // H with no table and with one, in one number or in another number of them, and now and then a table filled; at the table's width or another.
     fn hash(&mut self, bytes: &mut Bytes) {
-        let key = bytes.key();
-        let settings = &self.card.settings;
-        let (mut h, mut hashes, mut numbers) = ([7, 7], [7; 4], [7; 5]);
-        let answers = [
-            doors::hash(&key, &mut h[..1]),
-            doors::hash_lent(self.hash_table.entries(), &key, &mut h[1..]),
-            doors::key_buckets(settings.numbers(), &key, &mut hashes, &mut numbers),
-        ];
-        note("key buckets", answers[2]);
-        let allowed = settings.allowed();
-        let key: Key = match key.try_into() {
-            Ok(key) => key,
-            Err(_) => {
-                assert_eq!(answers, [3, 3, if allowed { 3 } else { 1 }]);
-                assert_eq!((h, hashes, numbers), ([7; 2], [7; 4], [7; 5]));
-                return;
-            }
+        let key = bytes.key(self.width());
+        let width = match bytes.next() {
+            255 => bytes.width(),
+            _ => self.width(),
         };
-        let by_paper = hash::h(&hash::rows(), &key);
-        assert_eq!(answers, [0, 0, if allowed { 0 } else { 1 }]);
-        assert_eq!(h, [by_paper; 2]);
-        if allowed {
-            let by_j = [0, 1, 2, 3].map(|j| hash::hash_j(settings, by_paper, j));
-            assert_eq!(hashes.map(u64::from), by_j);
-            let mut expected = hash::bucket_numbers(settings, by_paper);
-            expected.insert(0, expected.len() as u64);
-            expected.resize(5, 0);
-            assert!(numbers.iter().map(|&b| u64::from(b)).eq(expected));
+        let (mut table, _) = self.table(bytes);
+        let for_h = bytes.lent(1);
+        let (mut h, mut h_lent) = (vec![7; for_h], vec![7; for_h]);
+        let answer = doors::hash(width, &key, &mut h);
+        assert_eq!(answer, hash::hash_verdict(width, None, &key, for_h));
+        if answer == 0 {
+            assert_eq!(h, [hash::h(&hash::rows(key.len()), &key)], "{key:?}");
+        } else {
+            assert_eq!(h, vec![7; for_h]);
         }
+        note("hash", answer);
+        let answer = doors::hash_lent(width, &table, &key, &mut h_lent);
+        let by_paper = hash::hash_verdict(width, Some(table.len()), &key, for_h);
+        assert_eq!(answer, by_paper, "{width}, {} entries", table.len());
+        if answer == 0 {
+            assert_eq!(h_lent, [hash::h_by(&table, &key)], "{key:?}");
+        } else {
+            assert_eq!(h_lent, vec![7; for_h]);
+        }
+        note("hash lent", answer);
+
+        self.key_buckets(&key);
+        // a table is filled less often: it is much work for one answer
+        if bytes.next() % 8 != 0 {
+            return;
+        }
+        let before = table.clone();
+        let answer = doors::hash_table(width, &mut table);
+        assert_eq!(answer, hash::table_verdict(width, before.len()));
+        let filled = self
+            .hash_tables
+            .iter()
+            .find(|right| right.width() == width && right.entries().len() == before.len());
+        assert_eq!(table, filled.map_or(&before[..], |right| right.entries()));
+        note("hash table", answer);
+    }
+
+    fn key_buckets(&self, key: &[u8]) {
+        let settings = &self.card.settings;
+        let (mut hashes, mut numbers) = ([7; 4], [7; 5]);
+        let answer = doors::key_buckets(settings.numbers(), key, &mut hashes, &mut numbers);
+        note("key buckets", answer);
+        if !settings.allowed() || key.len() != settings.key_bytes() {
+            assert_eq!(answer, if settings.allowed() { 3 } else { 1 });
+            assert_eq!((hashes, numbers), ([7; 4], [7; 5]));
+            return;
+        }
+        assert_eq!(answer, 0);
+        let by_paper = hash::h(&hash::rows(key.len()), key);
+        let by_j = [0, 1, 2, 3].map(|j| hash::hash_j(settings, by_paper, j));
+        assert_eq!(hashes.map(u64::from), by_j);
+        let mut expected = hash::bucket_numbers(settings, by_paper);
+        expected.insert(0, expected.len() as u64);
+        expected.resize(5, 0);
+        assert!(numbers.iter().map(|&b| u64::from(b)).eq(expected));
     }
 
     fn other_length(&mut self, bytes: &mut Bytes) {
@@ -623,14 +722,33 @@ fn packet(bytes: &mut Bytes) {
         packet[6..8].copy_from_slice(&(came & 0xe000 | offset).to_be_bytes());
     }
     let mut key = match bytes.next() {
-        255 => vec![7; bytes.number(20)],
-        _ => vec![7; KEY_BYTES],
+        255 => vec![7; bytes.number(40)],
+        _ => vec![7; IPV4_WIDTH as usize],
     };
     let mut expected = key.clone();
     let by_paper = packet_key_into(&packet, &mut expected);
     let answer = doors::packet_key(&packet, &mut key);
     assert_eq!((answer, key), (by_paper, expected), "{packet:?}");
     note("packet key", answer);
+}
+
+fn packet6(bytes: &mut Bytes) {
+    let length = bytes.number(88);
+    let mut packet = bytes.take(length);
+    // mostly of version 6, often with ports
+    if length >= 7 && bytes.next() % 8 != 0 {
+        packet[0] = 96 + packet[0] % 16;
+        packet[6] = [packet[6], 6, 17, 44, 0][bytes.number(4)];
+    }
+    let mut key = match bytes.next() {
+        255 => vec![7; bytes.number(40)],
+        _ => vec![7; IPV6_WIDTH as usize],
+    };
+    let mut expected = key.clone();
+    let by_paper = packet6_key_into(&packet, &mut expected);
+    let answer = doors::packet6_key(&packet, &mut key);
+    assert_eq!((answer, key), (by_paper, expected), "{packet:?}");
+    note("IPv6 packet key", answer);
 }
 
 // Some numbers of a generator that starts at small numbers, at any, or at the largest.

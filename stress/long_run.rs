@@ -1,5 +1,5 @@
-//! Ten million calls through the doors, or as many as the first argument says: a random walk of adds, changes, removals, searches and bursts of
-//! searches near what each table can hold. Every answer is compared with the model's, and after every 10,000 calls all areas with the model's layout.
+//! Ten million calls through the doors at each width, or as many as the first argument says: a random walk of adds, changes, removals, searches and
+//! bursts of searches near what each table can hold. Every answer is compared with the model's, and after every 10,000 calls all areas with the model's layout.
 
 use flow::{doors, HashTable};
 use model::calls::Call;
@@ -7,18 +7,19 @@ use model::card::Card;
 use model::layout::{layout, Areas};
 use model::ledger::Ledger;
 use model::records::Key;
-use model::settings::Settings as Model;
+use model::settings::{Settings as Model, WIDTHS};
 use std::time::Instant;
 use testing::lending::{assert_areas, door, kind};
 use testing::made::{random_areas, random_class, random_key, random_work};
 use testing::random::Random;
 use testing::seen::Seen;
+use testing::widths::tables;
 
 const CALLS: u64 = 10_000_000;
 const CALLS_BETWEEN_COMPARISONS: u64 = 10_000;
 const MOST_KEYS_OF_A_BURST: u64 = 32;
 
-// Settings, and how many of a hundred calls go to them.
+// Settings but the width, and how many of a hundred calls go to them.
 const TABLES: [([u64; 6], u64); 5] = [
     // the side store is exhausted long before the capacity is reached
     ([4, 2, 1, 3, 24, 2], 25),
@@ -35,7 +36,8 @@ struct Walk {
     areas: Areas,
     work: Vec<u16>,
     ledger: Ledger,
-    hash_table: HashTable,
+    // every table for the width
+    hash_tables: Vec<HashTable>,
     // four times as many as the capacity
     keys: Vec<Key>,
     // of a hundred calls so many are searches or adds
@@ -45,13 +47,16 @@ struct Walk {
 impl Walk {
     fn start(random: &mut Random, card: Card) -> Walk {
         let settings = card.settings;
+        let width = settings.width;
         let mut walk = Walk {
             areas: random_areas(random, &settings),
             work: random_work(random, &settings),
             card,
             ledger: Ledger::default(),
-            hash_table: HashTable::new(),
-            keys: (0..4 * settings.n).map(|_| random_key(random)).collect(),
+            hash_tables: tables(width),
+            keys: (0..4 * settings.n)
+                .map(|_| random_key(random, width))
+                .collect(),
             adds: 0,
         };
         assert_eq!(walk.update(&Call::Clear), 0);
@@ -62,14 +67,14 @@ impl Walk {
     fn key(&self, random: &mut Random, of_held: u64) -> Vec<u8> {
         let held = self.ledger.list.len() as u64;
         let way = random.between(0, 99);
-        let key = if way < of_held && held > 0 {
-            self.ledger.list[random.between(0, held - 1) as usize].key
+        if way < of_held && held > 0 {
+            let some = random.between(0, held - 1) as usize;
+            self.ledger.list[some].key.clone()
         } else if way < 99 {
-            self.keys[random.between(0, self.keys.len() as u64 - 1) as usize]
+            self.keys[random.between(0, self.keys.len() as u64 - 1) as usize].clone()
         } else {
-            random_key(random)
-        };
-        key.to_vec()
+            random_key(random, self.card.settings.width)
+        }
     }
 
     fn update(&mut self, call: &Call) -> u32 {
@@ -79,7 +84,12 @@ impl Walk {
         answer
     }
 
-    fn search(&self, key: &[u8], lent: bool) -> u32 {
+    fn hash_table(&self, random: &mut Random) -> &[u64] {
+        let last = self.hash_tables.len() as u64 - 1;
+        self.hash_tables[random.between(0, last) as usize].entries()
+    }
+
+    fn search(&self, key: &[u8], table: Option<&[u64]>) -> u32 {
         let numbers = self.card.settings.numbers();
         let Areas {
             clipped,
@@ -87,11 +97,9 @@ impl Walk {
             side,
             ..
         } = &self.areas;
-        let found = if lent {
-            let table = self.hash_table.entries();
-            doors::search_lent(table, numbers, clipped, buckets, side, key)
-        } else {
-            doors::search(numbers, clipped, buckets, side, key)
+        let found = match table {
+            Some(table) => doors::search_lent(table, numbers, clipped, buckets, side, key),
+            None => doors::search(numbers, clipped, buckets, side, key),
         };
         let by_paper = self.ledger.search(&self.card, key);
         assert_eq!(found, by_paper.door(), "search of {key:?}");
@@ -109,7 +117,7 @@ impl Walk {
             side,
             ..
         } = &self.areas;
-        let table = self.hash_table.entries();
+        let table = self.hash_table(random);
         // what no door answers
         let mut answers = vec![u64::MAX; keys.len()];
         let lent = &keys.concat();
@@ -135,7 +143,11 @@ impl Walk {
         }
         if way < 30 {
             let key = self.key(random, 50);
-            return ("search", self.search(&key, way < 20));
+            if way < 20 {
+                let table = self.hash_table(random);
+                return ("search lent", self.search(&key, Some(table)));
+            }
+            return ("search", self.search(&key, None));
         }
         let call = if way < self.adds {
             Call::Add(self.key(random, 5), random_class(random))
@@ -159,16 +171,25 @@ fn main() {
         word.parse().expect("the argument is a number of calls")
     });
     let mut random = Random::new(81);
-    let mut seen = Seen::default();
     let before = Instant::now();
+    for width in WIDTHS {
+        walks_at(&mut random, width, calls);
+    }
+    println!("{:.0} s", before.elapsed().as_secs_f64());
+}
+
+// So many calls at a width.
+fn walks_at(random: &mut Random, width: u64, calls: u64) {
+    let mut seen = Seen::default();
     let mut comparisons = 0;
-    for (numbers, share) in TABLES {
+    for ([p, k, b, t, n, s], share) in TABLES {
         let start = Instant::now();
-        let mut walk = Walk::start(&mut random, Card::new(Model::of(numbers)));
+        let settings = Model::of([p, k, b, t, n, s, width]);
+        let mut walk = Walk::start(random, Card::new(settings));
         let (mut held, mut most) = (0, 0);
         let calls = calls * share / 100;
         for i in 1..=calls {
-            let (kind, answer) = walk.step(&mut random);
+            let (kind, answer) = walk.step(random);
             seen.note(kind, answer);
             held += walk.ledger.list.len() as u64;
             most = most.max(walk.ledger.list.len());
@@ -178,14 +199,14 @@ fn main() {
             }
         }
         println!(
-            "settings {numbers:?}: {calls} calls, {} flows held on average, at most {most}, {:.0} s",
+            "settings {:?}: {calls} calls, {} flows held on average, at most {most}, {:.0} s",
+            settings.numbers(),
             held / calls.max(1),
             start.elapsed().as_secs_f64()
         );
     }
-    seen.report("calls, by answer", &[]);
+    seen.report(&format!("calls at width {width}, by answer"), &[]);
     println!(
-        "all answers as the model's, and all areas in {comparisons} comparisons; {:.0} s",
-        before.elapsed().as_secs_f64()
+        "width {width}: all answers as the model's, and all areas in {comparisons} comparisons"
     );
 }

@@ -3,11 +3,15 @@
 //! [`doors`] has each door as it stands: numbers and slices in, the answer's number out. The rest of the crate is what a Rust user
 //! takes: [`Settings`] that are in range, a [`Table`] that owns its areas, a [`HashTable`] that is filled, [`LookupAreas`] to [`search`],
 //! by one key or by a burst of keys ([`search_burst`]), and to [`tally`] where others own them, a [`Window`] over the latest searches, the key
-//! of a packet by [`packet_key`], the [`Generator`] of a load for the bench, and a [`Refusal`] in place of a number.
+//! of a packet by [`packet_key`] or [`packet6_key`], the [`Generator`] of a load for the bench, and a [`Refusal`] in place of a number.
+//!
+//! A table's keys are all of one width, the last of its settings: [`IPV4_WIDTH`], 13 bytes, or [`IPV6_WIDTH`], 37. A call takes a key as a slice
+//! and refuses one of another width.
 
 #![deny(missing_docs)]
 
 mod generator;
+mod hash;
 mod lookup;
 mod packet;
 mod refusal;
@@ -17,29 +21,33 @@ mod window;
 pub mod doors;
 
 pub use generator::Generator;
+pub use hash::{hash, key_buckets, HashTable, KeyBuckets};
 pub use lookup::{
     search, search_burst, search_counts, search_counts_lent, search_lent, search_place, tally,
     Answers, LookupAreas, RecordPlace, SearchAnswer, SearchCounts, Store, Tally,
 };
-pub use packet::{packet_key, packet_key_into};
+pub use packet::{packet6_key, packet6_key_into, packet_key, packet_key_into};
 pub use refusal::Refusal;
 pub use table::{Table, TableAreas};
 pub use window::{Window, WindowCounts};
 
 /// A table has this many settings.
-pub const SETTINGS_COUNT: usize = 6;
+pub const SETTINGS_COUNT: usize = 7;
 
-/// A key has this many bytes.
-pub const KEY_BYTES: usize = 13;
+/// The width of an IPv4 flow's key, a setting.
+pub const IPV4_WIDTH: u64 = 13;
+
+/// The width of an IPv6 flow's key, a setting.
+pub const IPV6_WIDTH: u64 = 37;
+
+/// The key of an IPv4 flow: source address, destination address, source port, destination port, protocol.
+pub type Ipv4Key = [u8; IPV4_WIDTH as usize];
+
+/// The key of an IPv6 flow: source address, destination address, source port, destination port, next header.
+pub type Ipv6Key = [u8; IPV6_WIDTH as usize];
 
 /// A class has this many bytes, high byte first.
 pub const CLASS_BYTES: usize = 4;
-
-/// A record is the key, then the class.
-pub const RECORD_BYTES: usize = KEY_BYTES + CLASS_BYTES;
-
-/// The hash table has an entry for each of 13 byte positions and 256 byte values.
-pub const HASH_TABLE_ENTRIES: usize = KEY_BYTES * 256;
 
 /// A window over the latest searches has this many 16-bit numbers.
 pub const WINDOW_NUMBERS: usize = 1093;
@@ -47,7 +55,7 @@ pub const WINDOW_NUMBERS: usize = 1093;
 /// A window holds this many searches at most.
 pub const WINDOW_SEARCHES: usize = 1024;
 
-/// Six settings, each in its range.
+/// Seven settings, each in its range.
 #[derive(Clone, Copy, Debug, PartialEq, Eq)]
 pub struct Settings {
     p: u64,
@@ -56,6 +64,7 @@ pub struct Settings {
     top: u64,
     capacity: u64,
     side_places: u64,
+    width: u64,
 }
 
 /// The lengths of the six areas that a table is lent.
@@ -77,7 +86,21 @@ pub struct AreaLengths {
 
 impl Settings {
     /// p 4 to 12, with 2^p buckets; k 1 to 4 bucket hashes; room for 1 to 4 records a bucket; top count 2 to 15; capacity 1 to 4,096;
-    /// side places 0 to 64. Out of these ranges: [`Refusal::Setting`].
+    /// side places 0 to 64; width 13 or 37 bytes a key, which are [`IPV4_WIDTH`] and [`IPV6_WIDTH`]. Out of these ranges:
+    /// [`Refusal::Setting`].
+    ///
+    /// ```
+    /// use flow::{Refusal, Settings, IPV4_WIDTH, IPV6_WIDTH};
+    ///
+    /// let ipv4 = Settings::new(6, 3, 2, 4, 128, 8, IPV4_WIDTH)?;
+    /// let ipv6 = Settings::new(6, 3, 2, 4, 128, 8, IPV6_WIDTH)?;
+    /// assert_eq!((ipv4.key_bytes(), ipv4.record_bytes()), (13, 17));
+    /// assert_eq!((ipv6.key_bytes(), ipv6.record_bytes()), (37, 41));
+    /// assert_eq!(ipv4.area_lengths().ledger, 2 + 17 * 128);
+    /// assert_eq!(ipv6.area_lengths().ledger, 2 + 41 * 128);
+    /// assert_eq!(Settings::new(6, 3, 2, 4, 128, 8, 14), Err(Refusal::Setting));
+    /// # Ok::<(), Refusal>(())
+    /// ```
     pub fn new(
         p: u64,
         k: u64,
@@ -85,13 +108,15 @@ impl Settings {
         top: u64,
         capacity: u64,
         side_places: u64,
+        width: u64,
     ) -> Result<Settings, Refusal> {
-        Settings::of([p, k, room, top, capacity, side_places])
+        Settings::of([p, k, room, top, capacity, side_places, width])
     }
 
-    fn of(numbers: [u64; 6]) -> Result<Settings, Refusal> {
+    /// [`Settings::new`] of the seven numbers in its order.
+    pub fn of(numbers: [u64; SETTINGS_COUNT]) -> Result<Settings, Refusal> {
         accepted(doors::settings_check(numbers))?;
-        let [p, k, room, top, capacity, side_places] = numbers;
+        let [p, k, room, top, capacity, side_places, width] = numbers;
         Ok(Settings {
             p,
             k,
@@ -99,11 +124,12 @@ impl Settings {
             top,
             capacity,
             side_places,
+            width,
         })
     }
 
-    /// The six numbers, in the order of [`Settings::new`].
-    pub fn numbers(&self) -> [u64; 6] {
+    /// The seven numbers, in the order of [`Settings::new`].
+    pub fn numbers(&self) -> [u64; SETTINGS_COUNT] {
         [
             self.p,
             self.k,
@@ -111,7 +137,18 @@ impl Settings {
             self.top,
             self.capacity,
             self.side_places,
+            self.width,
         ]
+    }
+
+    /// The width: the bytes of a key.
+    pub fn key_bytes(&self) -> usize {
+        self.width as usize
+    }
+
+    /// The bytes of a record: the key, then the class.
+    pub fn record_bytes(&self) -> usize {
+        self.key_bytes() + CLASS_BYTES
     }
 
     /// The lengths of the six areas under these settings.
@@ -129,78 +166,6 @@ impl Settings {
             work,
         }
     }
-}
-
-/// The table that gives H with one read for each byte of a key.
-#[derive(Clone, Debug)]
-pub struct HashTable {
-    entries: Vec<u64>,
-}
-
-impl HashTable {
-    /// The filled table, 26,624 bytes.
-    pub fn new() -> HashTable {
-        let mut entries = vec![0; HASH_TABLE_ENTRIES];
-        accepted(doors::hash_table(&mut entries)).expect("a table of 3,328 numbers is filled");
-        HashTable { entries }
-    }
-
-    /// H of a key. [`Refusal::KeyLength`] where the key is not of 13 bytes.
-    pub fn hash(&self, key: &[u8]) -> Result<u64, Refusal> {
-        let mut h = [0];
-        accepted(doors::hash_lent(&self.entries, key, &mut h))?;
-        Ok(h[0])
-    }
-
-    /// The 3,328 entries; 256 * a + v is that of value v at key byte a.
-    pub fn entries(&self) -> &[u64] {
-        &self.entries
-    }
-}
-
-impl Default for HashTable {
-    fn default() -> HashTable {
-        HashTable::new()
-    }
-}
-
-/// H of a key, with no table. [`Refusal::KeyLength`] where the key is not of 13 bytes.
-pub fn hash(key: &[u8]) -> Result<u64, Refusal> {
-    let mut h = [0];
-    accepted(doors::hash(key, &mut h))?;
-    Ok(h[0])
-}
-
-/// A key's hashes and bucket numbers under some settings.
-#[derive(Clone, Copy, Debug, PartialEq, Eq)]
-pub struct KeyBuckets {
-    hashes: [u16; 4],
-    numbers: [u16; 5],
-}
-
-impl KeyBuckets {
-    /// Hash 0 to hash 3.
-    pub fn hashes(&self) -> &[u16; 4] {
-        &self.hashes
-    }
-
-    /// The bucket numbers: the first k hashes, repeats dropped.
-    pub fn numbers(&self) -> &[u16] {
-        &self.numbers[1..][..usize::from(self.numbers[0])]
-    }
-}
-
-/// A key's hashes and bucket numbers. [`Refusal::KeyLength`] where the key is not of 13 bytes.
-pub fn key_buckets(settings: &Settings, key: &[u8]) -> Result<KeyBuckets, Refusal> {
-    let mut hashes = [0; 4];
-    let mut numbers = [0; 5];
-    accepted(doors::key_buckets(
-        settings.numbers(),
-        key,
-        &mut hashes,
-        &mut numbers,
-    ))?;
-    Ok(KeyBuckets { hashes, numbers })
 }
 
 // A door's answer: 0, or the number of a refusal.

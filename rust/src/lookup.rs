@@ -1,6 +1,6 @@
 //! The calls that only read: search and tally.
 
-use crate::{accepted, doors, HashTable, Refusal, Settings, RECORD_BYTES};
+use crate::{accepted, doors, HashTable, Refusal, Settings};
 
 // The answer of a search that finds nothing.
 const ABSENT: u32 = 100;
@@ -32,14 +32,14 @@ pub struct Tally {
 
 /// The class of a held flow, or None for an absent one.
 ///
-/// [`Refusal::AreaLength`] where an area is not of its length, [`Refusal::KeyLength`] where the key is not of 13 bytes,
+/// [`Refusal::AreaLength`] where an area is not of its length, [`Refusal::KeyLength`] where the key is not of the settings' width,
 /// [`Refusal::DamagedLookup`] where a counter, mark or side count that the search reads is too high.
 ///
 /// ```
 /// use flow::{search, LookupAreas, Refusal, Settings};
 ///
 /// // the areas of an empty table are all zeros
-/// let settings = Settings::new(6, 3, 2, 4, 128, 8)?;
+/// let settings = Settings::new(6, 3, 2, 4, 128, 8, 13)?;
 /// let lengths = settings.area_lengths();
 /// let clipped_counts = vec![0; lengths.clipped_counts as usize];
 /// let buckets = vec![0; lengths.buckets as usize];
@@ -67,13 +67,14 @@ pub fn search(
     ))
 }
 
-/// [`search`] with a table that is kept from call to call: one read for each byte of the key in place of a computation.
+/// [`search`] with a table that is kept from call to call: reads of it, for each byte or half-byte of the key, in place of a computation. Also
+/// [`Refusal::AreaLength`] where the table is for keys of another width.
 ///
 /// ```
 /// use flow::{search_lent, HashTable, LookupAreas, Refusal, Settings};
 ///
 /// // One flow of class 7, by hand. The zero key has bucket 0 alone: counter 1, mark 1 and the record.
-/// let settings = Settings::new(4, 1, 1, 2, 1, 0)?;
+/// let settings = Settings::new(4, 1, 1, 2, 1, 0, 13)?;
 /// let mut clipped_counts = [0; 8];
 /// clipped_counts[0] = 1;
 /// let mut buckets = [0; 16 * 18];
@@ -84,7 +85,7 @@ pub fn search(
 ///     buckets: &buckets,
 ///     side_store: &[0; 2],
 /// };
-/// let table = HashTable::new();
+/// let table = HashTable::ipv4();
 /// assert_eq!(search_lent(&table, &settings, &areas, &[0; 13]), Ok(Some(7)));
 /// # Ok::<(), Refusal>(())
 /// ```
@@ -122,16 +123,18 @@ pub struct RecordPlace {
     pub store: Store,
     /// The byte of that area where it starts.
     pub start: usize,
+    /// The record's bytes: the key's, and four of the class.
+    pub length: usize,
 }
 
 impl RecordPlace {
-    /// The record's 17 bytes in the areas that were searched: the key, then the class, high byte first.
+    /// The record in the areas that were searched: the key, then the class, high byte first.
     pub fn record<'a>(&self, areas: &LookupAreas<'a>) -> &'a [u8] {
         let area = match self.store {
             Store::Buckets => areas.buckets,
             Store::SideStore => areas.side_store,
         };
-        &area[self.start..self.start + RECORD_BYTES]
+        &area[self.start..self.start + self.length]
     }
 }
 
@@ -141,7 +144,7 @@ impl RecordPlace {
 /// use flow::{search_place, LookupAreas, Refusal, Settings, Store};
 ///
 /// // One flow of class 7, by hand. The zero key has bucket 0 alone: counter 1, mark 1 and the record.
-/// let settings = Settings::new(4, 1, 1, 2, 1, 0)?;
+/// let settings = Settings::new(4, 1, 1, 2, 1, 0, 13)?;
 /// let mut clipped_counts = [0; 8];
 /// clipped_counts[0] = 1;
 /// let mut buckets = [0; 16 * 18];
@@ -179,6 +182,7 @@ pub fn search_place(
             _ => Store::SideStore,
         },
         start: start as usize,
+        length: settings.record_bytes(),
     }))
 }
 
@@ -208,7 +212,7 @@ pub struct SearchAnswer {
 /// use flow::{search_counts, LookupAreas, Refusal, SearchCounts, Settings};
 ///
 /// // One flow of class 7, by hand. The zero key has bucket 0 alone: counter 1, mark 1 and the record.
-/// let settings = Settings::new(4, 1, 1, 2, 1, 0)?;
+/// let settings = Settings::new(4, 1, 1, 2, 1, 0, 13)?;
 /// let mut clipped_counts = [0; 8];
 /// clipped_counts[0] = 1;
 /// let mut buckets = [0; 16 * 18];
@@ -259,13 +263,13 @@ pub fn search_counts(
 /// use flow::{search_counts_lent, HashTable, LookupAreas, Refusal, Settings};
 ///
 /// // the areas of an empty table are all zeros, and a zero counter ends a search
-/// let settings = Settings::new(4, 1, 1, 2, 1, 0)?;
+/// let settings = Settings::new(4, 1, 1, 2, 1, 0, 13)?;
 /// let areas = LookupAreas {
 ///     clipped_counts: &[0; 8],
 ///     buckets: &[0; 16 * 18],
 ///     side_store: &[0; 2],
 /// };
-/// let table = HashTable::new();
+/// let table = HashTable::ipv4();
 /// let answer = search_counts_lent(&table, &settings, &areas, &[1; 13])?;
 /// assert_eq!((answer.class, answer.counts.buckets_read), (None, 0));
 /// # Ok::<(), Refusal>(())
@@ -313,14 +317,14 @@ impl ExactSizeIterator for Answers<'_> {}
 /// A number is lent for each answer, with any contents, so that nothing is allocated. The [`Answers`] that come back read these numbers, which
 /// are answer x 2^32 + class, as [`doors::search_burst`] leaves them.
 ///
-/// [`Refusal::AreaLength`] where an area is not of its length, [`Refusal::KeyLength`] where the keys are not of 13 bytes for each number
-/// that is lent. Then the numbers stay. Damaged areas refuse only the keys whose searches read what is damaged.
+/// [`Refusal::AreaLength`] where an area is not of its length or the table for keys of another width, [`Refusal::KeyLength`] where the keys have
+/// not the settings' width for each number that is lent. Then the numbers stay. Damaged areas refuse only the keys whose searches read what is damaged.
 ///
 /// ```
 /// use flow::{search_burst, HashTable, LookupAreas, Refusal, Settings};
 ///
 /// // One flow of class 7, by hand. The zero key has bucket 0 alone: counter 1, mark 1 and the record.
-/// let settings = Settings::new(4, 1, 1, 2, 1, 0)?;
+/// let settings = Settings::new(4, 1, 1, 2, 1, 0, 13)?;
 /// let mut clipped_counts = [0; 8];
 /// clipped_counts[0] = 1;
 /// let mut buckets = [0; 16 * 18];
@@ -331,7 +335,7 @@ impl ExactSizeIterator for Answers<'_> {}
 ///     buckets: &buckets,
 ///     side_store: &[0; 2],
 /// };
-/// let table = HashTable::new();
+/// let table = HashTable::ipv4();
 ///
 /// // kept from burst to burst, with room for 32 packets, of which two came
 /// let mut keys = [0; 32 * 13];
@@ -374,7 +378,7 @@ pub fn search_burst<'a>(
 /// use flow::{tally, LookupAreas, Refusal, Settings};
 ///
 /// // an empty table
-/// let settings = Settings::new(4, 1, 1, 2, 1, 0)?;
+/// let settings = Settings::new(4, 1, 1, 2, 1, 0, 13)?;
 /// let areas = LookupAreas {
 ///     clipped_counts: &[0; 8],
 ///     buckets: &[0; 16 * 18],

@@ -1,6 +1,6 @@
-//! The key of an IPv4 packet.
+//! The key of an IPv4 packet, and that of an IPv6 packet.
 
-use crate::{accepted, doors, Refusal, KEY_BYTES};
+use crate::{accepted, doors, Ipv4Key, Ipv6Key, Refusal, IPV4_WIDTH, IPV6_WIDTH};
 
 /// The key of an IPv4 packet (RFC 791): source address, destination address, source port, destination port, protocol. The ports are zero
 /// unless the protocol is 6 or 17 and the fragment offset (low 13 bits of bytes 6 and 7) is zero.
@@ -54,8 +54,8 @@ use crate::{accepted, doors, Refusal, KEY_BYTES};
 /// );
 /// assert_eq!(packet_key(&later[..20]), packet_key(&later));
 /// ```
-pub fn packet_key(packet: &[u8]) -> Result<[u8; KEY_BYTES], Refusal> {
-    let mut key = [0; KEY_BYTES];
+pub fn packet_key(packet: &[u8]) -> Result<Ipv4Key, Refusal> {
+    let mut key = [0; IPV4_WIDTH as usize];
     packet_key_into(packet, &mut key)?;
     Ok(key)
 }
@@ -64,4 +64,48 @@ pub fn packet_key(packet: &[u8]) -> Result<[u8; KEY_BYTES], Refusal> {
 /// bytes.
 pub fn packet_key_into(packet: &[u8], key: &mut [u8]) -> Result<(), Refusal> {
     accepted(doors::packet_key(packet, key))
+}
+
+/// The key of an IPv6 packet (RFC 8200): source address, destination address, source port, destination port, next header. The ports are the first
+/// four bytes after the header of 40 bytes where its next header is 6 or 17, and zero for any other next header, an extension header among them.
+/// The payload length is not read.
+///
+/// [`Refusal::Packet6Header`] where the packet has under 40 bytes or is not of version 6; [`Refusal::PacketPorts`] where the next header is 6 or
+/// 17, with under 4 bytes after the header.
+///
+/// ```
+/// use flow::{packet6_key, Refusal};
+///
+/// let mut packet = vec![0; 44];
+/// packet[0] = 0x60; // version 6
+/// packet[6] = 17;
+/// packet[8..12].copy_from_slice(&[0x20, 0x01, 0x0d, 0xb8]); // from 2001:db8::1
+/// packet[23] = 1;
+/// packet[24..28].copy_from_slice(&[0x20, 0x01, 0x0d, 0xb8]); // to 2001:db8::2
+/// packet[39] = 2;
+/// packet[40..44].copy_from_slice(&[0x13, 0xc4, 0x13, 0xc4]);
+/// let key = packet6_key(&packet)?;
+/// assert_eq!(key[..32], packet[8..40]);
+/// assert_eq!(key[32..], [0x13, 0xc4, 0x13, 0xc4, 17]);
+/// assert_eq!(packet6_key(&packet[..43]), Err(Refusal::PacketPorts));
+/// assert_eq!(packet6_key(&packet[..39]), Err(Refusal::Packet6Header));
+///
+/// // behind an extension header, here one for a fragment, the ports are not looked for
+/// packet[6] = 44;
+/// assert_eq!(packet6_key(&packet)?[32..], [0, 0, 0, 0, 44]);
+/// # Ok::<(), Refusal>(())
+/// ```
+///
+/// So the packets of a flow that come behind an extension header are found only if a flow of the same addresses with zero ports and that
+/// extension header's number is held: control software adds that flow beside the flow itself.
+pub fn packet6_key(packet: &[u8]) -> Result<Ipv6Key, Refusal> {
+    let mut key = [0; IPV6_WIDTH as usize];
+    packet6_key_into(packet, &mut key)?;
+    Ok(key)
+}
+
+/// [`packet6_key`] into a lent buffer, which a refused call leaves as it was. Also [`Refusal::KeyLength`] where the buffer is not of 37
+/// bytes.
+pub fn packet6_key_into(packet: &[u8], key: &mut [u8]) -> Result<(), Refusal> {
+    accepted(doors::packet6_key(packet, key))
 }

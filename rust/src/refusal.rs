@@ -10,7 +10,8 @@ pub enum Refusal {
     Setting = 1,
     /// 2: an area that the call is lent is not of its length.
     AreaLength = 2,
-    /// 3: a key, or a buffer for a packet's key, is not of 13 bytes; or the keys of a burst are not of 13 bytes for each answer.
+    /// 3: a key is not of the width, or a buffer for a packet's key not of 13 bytes, or of 37 for an IPv6 packet; or the keys of a burst have not
+    /// the width for each answer.
     KeyLength = 3,
     /// 4: the ledger's count is above the capacity, its keys do not rise, or a byte after its last record is not zero.
     DamagedLedger = 4,
@@ -26,9 +27,11 @@ pub enum Refusal {
     SideFull = 9,
     /// 10: the packet has under 20 bytes, is not of version 4, or has a header length under 20 or beyond the packet.
     PacketHeader = 10,
-    /// 11: a packet of protocol 6 or 17 whose fragment offset is zero has under 4 bytes after its header.
+    /// 11: a packet of protocol 6 or 17 whose fragment offset is zero, or an IPv6 packet of next header 6 or 17, has under 4 bytes after its
+    /// header.
     PacketPorts = 11,
-    /// 12: the file is cut or overlong, its first count is not 6, or the target of a save is not of the file's length.
+    /// 12: the file is cut or overlong, its first count is not 6 or 7, or is 7 with width 13, or the target of a save is not of the file's
+    /// length.
     FileLength = 12,
     /// 13: the file's keys do not rise.
     FileOrder = 13,
@@ -36,11 +39,13 @@ pub enum Refusal {
     Input = 14,
     /// 15: the program's load has a zero s or a flow count outside 1 to 4,096, or its input is not of 32 bytes.
     BenchLoad = 15,
+    /// 16: the IPv6 packet has under 40 bytes or is not of version 6.
+    Packet6Header = 16,
 }
 
 impl Refusal {
     /// Every refusal, in the order of the numbers.
-    pub const ALL: [Refusal; 15] = [
+    pub const ALL: [Refusal; 16] = [
         Refusal::Setting,
         Refusal::AreaLength,
         Refusal::KeyLength,
@@ -56,9 +61,10 @@ impl Refusal {
         Refusal::FileOrder,
         Refusal::Input,
         Refusal::BenchLoad,
+        Refusal::Packet6Header,
     ];
 
-    /// Its number, 1 to 15. Doors answer up to 13; 14 and 15 are the programs'.
+    /// Its number, 1 to 16. Of these 14 and 15 are the programs' alone.
     pub fn number(self) -> u32 {
         self as u32
     }
@@ -74,7 +80,7 @@ impl Refusal {
             Refusal::Setting => "a setting is out of range",
             Refusal::AreaLength => "a lent area is not of its length",
             Refusal::KeyLength => {
-                "a key or the buffer for one is not of 13 bytes, or a burst has not 13 for each answer"
+                "a key or the buffer for one is not of the width, or a burst has not that for each answer"
             }
             Refusal::DamagedLedger => "the ledger's count, key order or unused bytes are wrong",
             Refusal::DamagedLookup => "a clipped count, a mark or the side count is too high",
@@ -87,13 +93,14 @@ impl Refusal {
             }
             Refusal::PacketPorts => "the packet ends before its ports",
             Refusal::FileLength => {
-                "the file is cut or overlong, or its target has the wrong length"
+                "the file is cut or overlong, begins wrongly, or its target has the wrong length"
             }
             Refusal::FileOrder => "the file's keys do not rise",
             Refusal::Input => "the program's input has an unknown letter or ends within a call",
             Refusal::BenchLoad => {
                 "the program's load has a zero s, a flow count outside 1 to 4,096, or not 32 bytes"
             }
+            Refusal::Packet6Header => "the IPv6 packet's header is too short or not of version 6",
         }
     }
 }

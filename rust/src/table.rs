@@ -3,18 +3,18 @@
 use crate::doors::{self, LentAreas};
 use crate::{
     accepted, lookup, Answers, HashTable, LookupAreas, RecordPlace, Refusal, SearchAnswer,
-    Settings, Tally, RECORD_BYTES, SETTINGS_COUNT,
+    Settings, Tally, IPV4_WIDTH, SETTINGS_COUNT,
 };
 
-// A snapshot: a two-byte count of settings, these in two bytes each, a two-byte count of records, and these.
-const FILE_HEAD: usize = 2 + 2 * SETTINGS_COUNT + 2;
+// A snapshot: a two-byte count of settings, these in two bytes each, a two-byte count of records, and these. Width 13 is left out of it.
+const SETTINGS_WITHOUT_WIDTH: usize = SETTINGS_COUNT - 1;
 
 /// A table with its five areas and its work area. Whatever was called, the areas hold the layout of the flows held.
 ///
 /// ```
 /// use flow::{Refusal, Settings, Table};
 ///
-/// let mut table = Table::new(Settings::new(6, 3, 2, 4, 128, 8)?);
+/// let mut table = Table::new(Settings::new(6, 3, 2, 4, 128, 8, 13)?);
 /// let key = [1; 13];
 /// table.add(&key, 7)?;
 /// assert_eq!(table.search(&key), Ok(Some(7)));
@@ -23,6 +23,12 @@ const FILE_HEAD: usize = 2 + 2 * SETTINGS_COUNT + 2;
 /// assert_eq!(table.search(&key), Ok(Some(8)));
 /// table.remove(&key)?;
 /// assert_eq!(table.search(&key), Ok(None));
+///
+/// // the flows of a table are all of its width
+/// let mut ipv6 = Table::new(Settings::new(6, 3, 2, 4, 128, 8, 37)?);
+/// ipv6.add(&[1; 37], 7)?;
+/// assert_eq!(ipv6.search(&[1; 37]), Ok(Some(7)));
+/// assert_eq!(ipv6.search(&key), Err(Refusal::KeyLength));
 /// # Ok::<(), Refusal>(())
 /// ```
 #[derive(Clone, Debug)]
@@ -125,7 +131,7 @@ impl Table {
         accepted(doors::clear(numbers, areas)).expect("areas of their lengths are cleared");
     }
 
-    /// Adds a flow. [`Refusal::KeyLength`] where the key is not of 13 bytes, [`Refusal::Held`] where it is held, [`Refusal::Full`] where
+    /// Adds a flow. [`Refusal::KeyLength`] where the key is not of the table's width, [`Refusal::Held`] where it is held, [`Refusal::Full`] where
     /// the capacity is reached, [`Refusal::SideFull`] where more flows would belong to the side than there are side places.
     pub fn add(&mut self, key: &[u8], class: u32) -> Result<(), Refusal> {
         let numbers = self.settings.numbers();
@@ -133,7 +139,7 @@ impl Table {
         accepted(doors::add(numbers, areas, work, key, class))
     }
 
-    /// Gives a held flow another class. [`Refusal::KeyLength`] where the key is not of 13 bytes, [`Refusal::NotHeld`] where it is not
+    /// Gives a held flow another class. [`Refusal::KeyLength`] where the key is not of the table's width, [`Refusal::NotHeld`] where it is not
     /// held.
     pub fn change(&mut self, key: &[u8], class: u32) -> Result<(), Refusal> {
         let numbers = self.settings.numbers();
@@ -141,7 +147,7 @@ impl Table {
         accepted(doors::change(numbers, areas, work, key, class))
     }
 
-    /// Takes a held flow out. [`Refusal::KeyLength`] where the key is not of 13 bytes, [`Refusal::NotHeld`] where it is not held,
+    /// Takes a held flow out. [`Refusal::KeyLength`] where the key is not of the table's width, [`Refusal::NotHeld`] where it is not held,
     /// [`Refusal::SideFull`] where flows that the removal moves would belong to the side, and it has too few places.
     pub fn remove(&mut self, key: &[u8]) -> Result<(), Refusal> {
         let numbers = self.settings.numbers();
@@ -149,7 +155,7 @@ impl Table {
         accepted(doors::remove(numbers, areas, work, key))
     }
 
-    /// The class of a held flow, or None for an absent one. [`Refusal::KeyLength`] where the key is not of 13 bytes.
+    /// The class of a held flow, or None for an absent one. [`Refusal::KeyLength`] where the key is not of the table's width.
     pub fn search(&self, key: &[u8]) -> Result<Option<u32>, Refusal> {
         lookup::search(&self.settings, &self.areas().lookup(), key)
     }
@@ -180,14 +186,15 @@ impl Table {
     }
 
     /// [`Table::search_lent`] for many keys at once, one after the other in `keys`, with a number lent for each answer: as
-    /// [`search_burst`](crate::search_burst). [`Refusal::KeyLength`] where the keys are not of 13 bytes for each number; then these stay.
+    /// [`search_burst`](crate::search_burst). [`Refusal::KeyLength`] where the keys have not the table's width for each number; then these
+    /// stay.
     ///
     /// ```
     /// use flow::{HashTable, Refusal, Settings, Table};
     ///
-    /// let mut table = Table::new(Settings::new(6, 3, 2, 4, 128, 8)?);
+    /// let mut table = Table::new(Settings::new(6, 3, 2, 4, 128, 8, 13)?);
     /// table.add(&[1; 13], 7)?;
-    /// let hash_table = HashTable::new();
+    /// let hash_table = HashTable::ipv4();
     /// let keys = [[1; 13], [2; 13], [1; 13]].concat();
     /// let mut numbers = [0; 3];
     /// for (i, class) in table.search_burst(&hash_table, &keys, &mut numbers)?.enumerate() {
@@ -216,18 +223,30 @@ impl Table {
     /// ```
     /// use flow::{Refusal, Settings, Table};
     ///
-    /// let mut table = Table::new(Settings::new(6, 3, 2, 4, 128, 8)?);
+    /// let mut table = Table::new(Settings::new(6, 3, 2, 4, 128, 8, 13)?);
     /// table.add(&[1; 13], 7)?;
     /// let file = table.save();
     /// assert_eq!(file.len(), 16 + 17);
     /// let loaded = Table::load(&file)?;
     /// assert_eq!(loaded.search(&[1; 13]), Ok(Some(7)));
     /// assert_eq!(Table::load(&file[..20]).err(), Some(Refusal::FileLength));
+    ///
+    /// // at width 37 the file has the width too
+    /// let mut table = Table::new(Settings::new(6, 3, 2, 4, 128, 8, 37)?);
+    /// table.add(&[1; 37], 7)?;
+    /// let file = table.save();
+    /// assert_eq!(file.len(), 18 + 41);
+    /// assert_eq!(Table::load(&file)?.search(&[1; 37]), Ok(Some(7)));
     /// # Ok::<(), Refusal>(())
     /// ```
     pub fn save(&mut self) -> Vec<u8> {
         let held = u16::from_be_bytes([self.own.ledger[0], self.own.ledger[1]]);
-        let mut file = vec![0; FILE_HEAD + RECORD_BYTES * usize::from(held)];
+        let settings_saved = match self.settings.numbers() {
+            [.., IPV4_WIDTH] => SETTINGS_WITHOUT_WIDTH,
+            _ => SETTINGS_COUNT,
+        };
+        let head = 2 + 2 * settings_saved + 2;
+        let mut file = vec![0; head + self.settings.record_bytes() * usize::from(held)];
         accepted(doors::save(
             self.settings.numbers(),
             &self.own.ledger,
@@ -240,16 +259,16 @@ impl Table {
 
     /// The table of a snapshot, with the settings of the file.
     ///
-    /// [`Refusal::FileLength`] where the file is cut or overlong or its first count is not 6, [`Refusal::Setting`] where one of its settings
-    /// is out of range, [`Refusal::Full`] where it has more flows than its capacity, [`Refusal::FileOrder`] where its keys do not rise,
-    /// [`Refusal::SideFull`] where more flows would belong to the side than there are side places.
+    /// [`Refusal::FileLength`] where the file is cut or overlong or its first count is not 6 or 7, or is 7 with width 13, [`Refusal::Setting`]
+    /// where one of its settings is out of range, [`Refusal::Full`] where it has more flows than its capacity, [`Refusal::FileOrder`] where its
+    /// keys do not rise, [`Refusal::SideFull`] where more flows would belong to the side than there are side places.
     pub fn load(file: &[u8]) -> Result<Table, Refusal> {
         let mut own = match Settings::of(file_settings(file)) {
             Ok(settings) => OwnAreas::of(&settings),
             // no settings, no lengths: the door says why it refuses the file
             Err(_) => OwnAreas::default(),
         };
-        let mut numbers = [0; 6];
+        let mut numbers = [0; SETTINGS_COUNT];
         let (areas, work) = own.lend();
         accepted(doors::load(file, areas, work, &mut numbers))?;
         let settings = Settings::of(numbers)?;
@@ -257,12 +276,18 @@ impl Table {
     }
 }
 
-// The settings that a file's head has, and zeros where it is cut.
-fn file_settings(file: &[u8]) -> [u64; 6] {
-    let mut settings = [0; 6];
-    let places = file.get(2..).unwrap_or(&[]).chunks_exact(2);
-    for (setting, bytes) in settings.iter_mut().zip(places) {
-        *setting = u64::from(u16::from_be_bytes([bytes[0], bytes[1]]));
+// The settings that a file's head has, and zeros where it is cut. Without a seventh the width is 13.
+fn file_settings(file: &[u8]) -> [u64; SETTINGS_COUNT] {
+    let mut places = file
+        .chunks_exact(2)
+        .map(|bytes| u64::from(u16::from_be_bytes([bytes[0], bytes[1]])));
+    let count = places.next();
+    let mut settings = [0; SETTINGS_COUNT];
+    for (setting, number) in settings.iter_mut().zip(places) {
+        *setting = number;
+    }
+    if count == Some(SETTINGS_WITHOUT_WIDTH as u64) {
+        settings[SETTINGS_WITHOUT_WIDTH] = IPV4_WIDTH;
     }
     settings
 }

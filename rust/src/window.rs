@@ -19,7 +19,7 @@ pub struct WindowCounts {
 /// ```
 /// use flow::{Refusal, Settings, Table, Window, WindowCounts, WINDOW_SEARCHES};
 ///
-/// let mut table = Table::new(Settings::new(6, 3, 2, 4, 128, 8)?);
+/// let mut table = Table::new(Settings::new(6, 3, 2, 4, 128, 8, 13)?);
 /// table.add(&[1; 13], 7)?;
 /// let mut window = Window::new();
 /// window.enter(table.search_counts(&[1; 13]));

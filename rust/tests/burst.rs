@@ -1,19 +1,20 @@
-//! The door for a burst of searches against the model, and key by key against the door for one: with every number of keys from 0 to 70, on
+//! The door for a burst of searches against the model, at both widths and with every hash table, and key by key against the door for one: with every number of keys from 0 to 70, on
 //! layouts that the model makes, on damaged areas, with wrong lengths and settings, and with hash tables of any contents.
 
-use flow::{doors, HashTable, LookupAreas, Refusal, Settings, Table, HASH_TABLE_ENTRIES};
+use flow::{doors, LookupAreas, Refusal, Settings, Table};
 use model::card::Card;
-use model::hash::KEY_BYTES;
 use model::layout::{layout, Areas};
 use model::lookup::{self as paper, Lookup};
 use model::records::{Key, Record};
-use model::settings::{Settings as Model, LIMITS};
+use model::settings::Settings as Model;
+use testing::at_both_widths;
 use testing::made::{
-    damage_lookup, filled, random_card, random_class, random_key, random_table, spoiled,
-    wrong_length,
+    damage_lookup, each_out_of_range, filled, other_width, random_card, random_class, random_key,
+    random_table, spoiled, turn_a_bit, wrong_length, wrong_table_lengths,
 };
 use testing::random::Random;
 use testing::seen::Seen;
+use testing::widths::{settings_of, tables};
 
 // Bursts of each test have so many keys, from none, and each number occurs.
 const MOST_KEYS: usize = 70;
@@ -33,24 +34,34 @@ fn before(i: usize) -> u64 {
 
 // What a test calls the door with.
 struct Doors {
-    table: HashTable,
+    // the right tables, which take turns
+    tables: Vec<Vec<u64>>,
+    turn: usize,
     seen: Seen,
     // bursts in which some keys have the answer 5, and others have not
     partly_damaged: u64,
 }
 
 impl Doors {
-    fn new() -> Doors {
+    fn new(width: u64) -> Doors {
+        let tables = tables(width);
         Doors {
-            table: HashTable::new(),
+            tables: tables.iter().map(|t| t.entries().to_vec()).collect(),
+            turn: 0,
             seen: Seen::default(),
             partly_damaged: 0,
         }
     }
 
-    // A burst with the right table.
+    // A right table, another at each turn where there are more.
+    fn table(&mut self) -> Vec<u64> {
+        self.turn += 1;
+        self.tables[self.turn % self.tables.len()].clone()
+    }
+
+    // A burst with a right table.
     fn burst(&mut self, card: &Card, areas: Lookup, keys: &[u8], n: usize) -> (u32, Vec<u64>) {
-        let table = self.table.entries().to_vec();
+        let table = self.table();
         self.burst_by(&table, card, areas, keys, n)
     }
 
@@ -81,7 +92,7 @@ impl Doors {
             assert!((0..n).all(|i| answers[i] == before(i)));
             return (answer, answers);
         }
-        for (key, &found) in keys.chunks(KEY_BYTES).zip(&answers) {
+        for (key, &found) in keys.chunks(card.settings.key_bytes()).zip(&answers) {
             let alone = doors::search_lent(table, numbers, clipped, buckets, side, key);
             assert_eq!(found, alone, "{numbers:?}, {key:?}");
             self.seen.note("key of a burst", (found >> 32) as u32);
@@ -95,19 +106,19 @@ impl Doors {
 }
 
 // So many keys: held ones, held ones with a bit turned, the one before again, and random ones.
-fn random_keys(random: &mut Random, list: &[Record], n: usize) -> Vec<Key> {
+fn random_keys(random: &mut Random, width: u64, list: &[Record], n: usize) -> Vec<Key> {
     let mut keys: Vec<Key> = Vec::new();
     while keys.len() < n {
-        let mut key = random_key(random);
+        let mut key = random_key(random, width);
         let way = random.between(0, 9);
         if way < 6 && !list.is_empty() {
-            key = list[random.between(0, list.len() as u64 - 1) as usize].key;
+            key.clone_from(&list[random.between(0, list.len() as u64 - 1) as usize].key);
         }
         if way == 5 {
-            key[random.between(0, 12) as usize] ^= 1 << random.between(0, 7);
+            turn_a_bit(random, &mut key);
         }
-        if way == 6 {
-            key = *keys.last().unwrap_or(&key);
+        if let (6, Some(last)) = (way, keys.last()) {
+            key.clone_from(last);
         }
         keys.push(key);
     }
@@ -132,23 +143,22 @@ fn bursts_of_each_size(
     areas: &Areas,
 ) {
     for n in 0..=MOST_KEYS {
-        let keys = random_keys(random, list, n);
+        let keys = random_keys(random, card.settings.width, list, n);
         let (answer, answers) = doors.burst_by(table, card, areas.lookup(), &keys.concat(), n);
         let expected: Vec<u64> = keys.iter().map(|key| by_list(list, key)).collect();
         assert_eq!((answer, answers), (0, expected));
     }
 }
 
-#[test]
-fn bursts_on_layouts() {
+fn bursts_on_layouts(width: u64) {
     let mut random = Random::new(101);
-    let mut doors = Doors::new();
-    let table = doors.table.entries().to_vec();
+    let mut doors = Doors::new(width);
     let mut in_side = 0;
     for _ in 0..LAYOUTS {
-        let card = random_card(&mut random);
+        let card = random_card(&mut random, width);
         let (list, areas) = random_table(&mut random, &card);
         in_side += model::records::count(&areas.side);
+        let table = doors.table();
         bursts_of_each_size(&mut random, &mut doors, &table, &card, &list, &areas);
     }
     doors.seen.report(
@@ -160,13 +170,12 @@ fn bursts_on_layouts() {
 }
 
 // The card's largest settings: every flow in one burst, and more keys than flows.
-#[test]
-fn large_bursts() {
+fn large_bursts(width: u64) {
     let mut random = Random::new(102);
-    let mut doors = Doors::new();
-    let card = Card::new(Model::of([12, 3, 4, 15, 4096, 64]));
+    let mut doors = Doors::new(width);
+    let card = Card::new(Model::of([12, 3, 4, 15, 4096, 64, width]));
     let (list, areas) = filled(&mut random, &card, 4000);
-    let keys: Vec<Key> = list.iter().map(|r| r.key).collect();
+    let keys: Vec<Key> = list.iter().map(|r| r.key.clone()).collect();
     let (answer, answers) = doors.burst(&card, areas.lookup(), &keys.concat(), keys.len());
     assert_eq!(answer, 0);
     assert!(list
@@ -174,11 +183,11 @@ fn large_bursts() {
         .zip(answers)
         .all(|(r, found)| found == u64::from(r.class)));
     for n in [4_096, 65_536] {
-        let keys = random_keys(&mut random, &list, n);
+        let keys = random_keys(&mut random, width, &list, n);
         let (answer, answers) = doors.burst(&card, areas.lookup(), &keys.concat(), n);
         assert_eq!(answer, 0);
         for (key, found) in keys.iter().zip(answers) {
-            let place = list.binary_search_by_key(key, |r| r.key);
+            let place = list.binary_search_by(|r| r.key.cmp(key));
             let expected = place.map_or(100 << 32, |i| u64::from(list[i].class));
             assert_eq!(found, expected);
         }
@@ -189,19 +198,18 @@ fn large_bursts() {
     );
 }
 
-#[test]
-fn bursts_on_damaged_areas() {
+fn bursts_on_damaged_areas(width: u64) {
     let mut random = Random::new(103);
-    let mut doors = Doors::new();
+    let mut doors = Doors::new(width);
     for _ in 0..DAMAGED {
-        let card = random_card(&mut random);
+        let card = random_card(&mut random, width);
         let (list, mut areas) = random_table(&mut random, &card);
-        let planted = random_keys(&mut random, &list, 4);
+        let planted = random_keys(&mut random, width, &list, 4);
         damage_lookup(&mut random, &card, &mut areas, &planted);
         for n in 0..=MOST_KEYS {
-            let mut keys = random_keys(&mut random, &list, n);
+            let mut keys = random_keys(&mut random, width, &list, n);
             if n > 0 {
-                keys[random.between(0, n as u64 - 1) as usize] = planted[n % 4];
+                keys[random.between(0, n as u64 - 1) as usize].clone_from(&planted[n % 4]);
             }
             let (answer, _) = doors.burst(&card, areas.lookup(), &keys.concat(), n);
             assert_eq!(answer, 0);
@@ -215,40 +223,42 @@ fn bursts_on_damaged_areas() {
     assert!(doors.partly_damaged > 0);
 }
 
-// Bytes that are not n keys: a byte less or more, a key less or more, or any other number of bytes.
-fn wrong_keys(random: &mut Random, n: usize) -> usize {
-    let right = KEY_BYTES * n;
-    match random.between(0, 5) {
+// Bytes that are not n keys: a byte less or more, a key less or more, n keys of the other width, or any other number of bytes.
+fn wrong_keys(random: &mut Random, width: u64, n: usize) -> usize {
+    let key_bytes = width as usize;
+    let right = key_bytes * n;
+    match random.between(0, 6) {
         0 if n > 0 => right - 1,
         1 => right + 1,
-        2 if n > 0 => right - KEY_BYTES,
-        3 => right + KEY_BYTES,
+        2 if n > 0 => right - key_bytes,
+        3 => right + key_bytes,
         // whole keys, but not n of them
-        4 => KEY_BYTES * (n + 1 + random.between(0, 40) as usize),
+        4 => key_bytes * (n + 1 + random.between(0, 40) as usize),
+        5 if n > 0 => other_width(width) as usize * n,
         _ => wrong_length(random, right),
     }
 }
 
 // Some of: a setting out of range, a table or areas of wrong lengths, keys that are not n, damage. The lowest that applies is given.
-#[test]
-fn bursts_with_wrong_lengths_and_settings() {
+fn bursts_with_wrong_lengths_and_settings(width: u64) {
     let mut random = Random::new(104);
-    let mut doors = Doors::new();
+    let mut doors = Doors::new(width);
+    let wrong_tables = wrong_table_lengths(width);
     let mut faults = Seen::default();
     while faults.total() < ON_WRONG_LENGTHS {
-        let card = random_card(&mut random);
+        let card = random_card(&mut random, width);
         let (list, areas) = random_table(&mut random, &card);
         for n in 0..=MOST_KEYS {
             let mut areas = areas.clone();
             let mut settings = card.settings;
-            let mut table = doors.table.entries().to_vec();
-            let mut keys = random_keys(&mut random, &list, n).concat();
+            let mut table = doors.table();
+            let mut keys = random_keys(&mut random, width, &list, n).concat();
             let [mut of_settings, mut of_lengths, mut of_keys] = [false; 3];
             if random.between(0, 3) == 0 {
                 damage_lookup(&mut random, &card, &mut areas, &[]);
             }
             if random.between(0, 3) == 0 {
-                keys.resize(wrong_keys(&mut random, n), 7);
+                keys.resize(wrong_keys(&mut random, width, n), 7);
                 of_keys = true;
             }
             for area in [&mut areas.clipped, &mut areas.buckets, &mut areas.side] {
@@ -258,7 +268,8 @@ fn bursts_with_wrong_lengths_and_settings() {
                 }
             }
             if random.between(0, 11) == 0 {
-                table.resize(wrong_length(&mut random, table.len()), 0);
+                let some = random.between(0, wrong_tables.len() as u64 - 1) as usize;
+                table.resize(wrong_tables[some], 0);
                 of_lengths = true;
             }
             if random.between(0, 3) == 0 {
@@ -301,16 +312,15 @@ fn bursts_with_wrong_lengths_and_settings() {
 }
 
 // Each wrong length by itself, with every number of keys: of the keys, of the table, and of each area; then with keys that are wrong too.
-#[test]
-fn each_wrong_length() {
+fn each_wrong_length(width: u64) {
     let mut random = Random::new(105);
-    let card = Card::new(Model::of([4, 3, 2, 4, 60, 8]));
+    let card = Card::new(Model::of([4, 3, 2, 4, 60, 8, width]));
     let (list, right) = filled(&mut random, &card, 30);
-    let mut doors = Doors::new();
-    let table = doors.table.entries().to_vec();
+    let mut doors = Doors::new(width);
     for n in 0..=MOST_KEYS {
-        let keys = random_keys(&mut random, &list, n).concat();
-        for length in (0..=KEY_BYTES * (MOST_KEYS + 3)).filter(|&length| length != keys.len()) {
+        let keys = random_keys(&mut random, width, &list, n).concat();
+        let most = width as usize * (MOST_KEYS + 3);
+        for length in (0..=most).filter(|&length| length != keys.len()) {
             let mut keys = keys.clone();
             keys.resize(length, 7);
             assert_eq!(doors.burst(&card, right.lookup(), &keys, n).0, 3);
@@ -318,14 +328,14 @@ fn each_wrong_length() {
         let mut other_keys = keys.clone();
         other_keys.push(7);
         for keys in [&keys, &other_keys] {
-            for length in [0, 1, 13, 256, 3072, 3327, 3329, 3584, 6656] {
-                let mut table = table.clone();
+            for length in wrong_table_lengths(width) {
+                let mut table = doors.table();
                 table.resize(length, 1);
                 let (answer, _) = doors.burst_by(&table, &card, right.lookup(), keys, n);
                 assert_eq!(answer, 2);
             }
             for area in 0..3 {
-                for change in [-17, -1, 1, 17] {
+                for change in [-41, -17, -1, 1, 17, 41] {
                     let mut areas = right.clone();
                     let area = match area {
                         0 => &mut areas.clipped,
@@ -349,38 +359,28 @@ fn each_wrong_length() {
 }
 
 // Every setting around its limits, each by itself, also where all else is wrong.
-#[test]
-fn each_setting_out_of_range() {
+fn each_setting_out_of_range(width: u64) {
     let mut random = Random::new(106);
-    let card = Card::new(Model::of([6, 3, 2, 4, 128, 8]));
+    let card = Card::new(Model::of([6, 3, 2, 4, 128, 8, width]));
     let (list, areas) = filled(&mut random, &card, 60);
     let empty = Lookup {
         clipped: &[],
         buckets: &[],
         side: &[],
     };
-    let mut doors = Doors::new();
-    for (i, (low, high)) in LIMITS.into_iter().enumerate() {
-        let mut values = vec![high + 1, (1 << 32) + low, (1 << 16) + low, u64::MAX];
-        if low > 0 {
-            values.push(low - 1);
-            values.push(0);
-        }
-        for value in values {
-            let mut numbers = card.settings.numbers();
-            numbers[i] = value;
-            let other = Card::new(Model::of(numbers));
-            for n in [0, 1, 2, 32] {
-                let keys = random_keys(&mut random, &list, n).concat();
-                assert_eq!(doors.burst(&other, areas.lookup(), &keys, n).0, 1);
-                assert_eq!(doors.burst(&other, areas.lookup(), &keys, n + 1).0, 1);
-                assert_eq!(doors.burst_by(&[], &other, empty, &keys, n + 1).0, 1);
-            }
+    let mut doors = Doors::new(width);
+    for (_, settings) in each_out_of_range(&card.settings) {
+        let other = Card::new(settings);
+        for n in [0, 1, 2, 32] {
+            let keys = random_keys(&mut random, width, &list, n).concat();
+            assert_eq!(doors.burst(&other, areas.lookup(), &keys, n).0, 1);
+            assert_eq!(doors.burst(&other, areas.lookup(), &keys, n + 1).0, 1);
+            assert_eq!(doors.burst_by(&[], &other, empty, &keys, n + 1).0, 1);
         }
     }
 }
 
-// A table of 3,328 numbers that the door for it did not fill: random, alike, or the right one with some entries altered.
+// A table of a right length that the door for it did not fill: random, alike, or the right one with some entries altered.
 fn other_table(random: &mut Random, right: &[u64]) -> Vec<u64> {
     match random.between(0, 5) {
         0 => vec![0; right.len()],
@@ -397,25 +397,23 @@ fn other_table(random: &mut Random, right: &[u64]) -> Vec<u64> {
     }
 }
 
-// With any table of 3,328 numbers: the search by the xor of the entries that are read, by both doors that are lent one. On a layout by that
+// With any table of a right length: the search by the xor of the entries that are read, by both doors that are lent one. On a layout by that
 // table each flow is found.
-#[test]
-fn tables_of_any_contents() {
+fn tables_of_any_contents(width: u64) {
     let mut random = Random::new(107);
-    let mut doors = Doors::new();
-    let right = doors.table.entries().to_vec();
+    let mut doors = Doors::new(width);
     let (mut laid_out, mut differ) = (0, 0);
     for _ in 0..OTHER_TABLES {
-        let table = other_table(&mut random, &right);
-        let right_card = random_card(&mut random);
+        let table = other_table(&mut random, &doors.table());
+        let right_card = random_card(&mut random, width);
         let card = Card::with_table(right_card.settings, table.clone());
         let (list, mut areas) = random_table(&mut random, &right_card);
         if random.between(0, 1) == 0 {
-            let planted = random_keys(&mut random, &list, 4);
+            let planted = random_keys(&mut random, width, &list, 4);
             damage_lookup(&mut random, &card, &mut areas, &planted);
         }
         for n in 0..=MOST_KEYS {
-            let keys = random_keys(&mut random, &list, n).concat();
+            let keys = random_keys(&mut random, width, &list, n).concat();
             let (answer, answers) = doors.burst_by(&table, &card, areas.lookup(), &keys, n);
             assert_eq!(answer, 0);
             for found in &answers {
@@ -441,15 +439,13 @@ fn tables_of_any_contents() {
 }
 
 // The safe crate hands on what the door says.
-#[test]
-fn safe_wrappers() {
+fn safe_wrappers(width: u64) {
     let mut random = Random::new(108);
-    let table = HashTable::new();
+    let tables = tables(width);
     let mut seen = Seen::default();
     for _ in 0..300 {
-        let card = random_card(&mut random);
-        let [p, k, room, top, capacity, side_places] = card.settings.numbers();
-        let settings = Settings::new(p, k, room, top, capacity, side_places).unwrap();
+        let card = random_card(&mut random, width);
+        let settings = settings_of(&card.settings);
         let (list, mut areas) = random_table(&mut random, &card);
         if random.between(0, 1) == 0 {
             damage_lookup(&mut random, &card, &mut areas, &[]);
@@ -463,29 +459,25 @@ fn safe_wrappers() {
             side_store: &areas.side,
         };
         for n in 0..=MOST_KEYS {
-            let mut keys = random_keys(&mut random, &list, n).concat();
+            let mut keys = random_keys(&mut random, width, &list, n).concat();
             if random.between(0, 9) == 0 {
-                keys.resize(wrong_keys(&mut random, n), 7);
+                keys.resize(wrong_keys(&mut random, width, n), 7);
             }
             let mut numbers: Vec<u64> = (0..n).map(before).collect();
             let mut expected = numbers.clone();
-            let by_paper = paper::burst(
-                &card,
-                HASH_TABLE_ENTRIES,
-                areas.lookup(),
-                &keys,
-                &mut expected,
-            );
+            let table = &tables[n % tables.len()];
+            let length = table.entries().len();
+            let by_paper = paper::burst(&card, length, areas.lookup(), &keys, &mut expected);
             seen.note("burst", by_paper);
-            let answers = flow::search_burst(&table, &settings, &lent, &keys, &mut numbers);
+            let answers = flow::search_burst(table, &settings, &lent, &keys, &mut numbers);
             match Refusal::from_number(by_paper) {
                 Some(refusal) => assert_eq!(answers.err(), Some(refusal)),
                 None => {
                     let answers = answers.unwrap();
                     assert_eq!(answers.len(), n);
                     let alone = keys
-                        .chunks(KEY_BYTES)
-                        .map(|key| flow::search_lent(&table, &settings, &lent, key));
+                        .chunks(width as usize)
+                        .map(|key| flow::search_lent(table, &settings, &lent, key));
                     assert!(answers.clone().eq(alone));
                     for answer in answers {
                         seen.note("key of a burst", answer.map_or(5, |c| c.map_or(100, |_| 0)));
@@ -502,15 +494,15 @@ fn safe_wrappers() {
 }
 
 // A table that owns its areas: what it holds, and nothing else, also after removals.
-#[test]
-fn bursts_of_a_safe_table() {
+fn bursts_of_a_safe_table(width: u64) {
     let mut random = Random::new(109);
-    let hash_table = HashTable::new();
-    for _ in 0..40 {
-        let mut table = Table::new(Settings::new(6, 3, 2, 4, 128, 8).unwrap());
+    let tables = tables(width);
+    for round in 0..40 {
+        let hash_table = &tables[round % tables.len()];
+        let mut table = Table::new(Settings::new(6, 3, 2, 4, 128, 8, width).unwrap());
         let mut list: Vec<Record> = Vec::new();
         for n in 0..=MOST_KEYS {
-            let key = random_key(&mut random);
+            let key = random_key(&mut random, width);
             let class = random_class(&mut random);
             if table.add(&key, class).is_ok() {
                 list.push(Record { key, class });
@@ -521,13 +513,13 @@ fn bursts_of_a_safe_table() {
                     list.remove(i);
                 }
             }
-            let keys = random_keys(&mut random, &list, n);
+            let keys = random_keys(&mut random, width, &list, n);
             let mut numbers: Vec<u64> = (0..n + 1).map(before).collect();
-            let refused = table.search_burst(&hash_table, &keys.concat(), &mut numbers);
+            let refused = table.search_burst(hash_table, &keys.concat(), &mut numbers);
             assert_eq!(refused.err(), Some(Refusal::KeyLength));
             assert!((0..n + 1).all(|i| numbers[i] == before(i)));
             let answers = table
-                .search_burst(&hash_table, &keys.concat(), &mut numbers[..n])
+                .search_burst(hash_table, &keys.concat(), &mut numbers[..n])
                 .unwrap();
             let expected = keys
                 .iter()
@@ -537,3 +529,15 @@ fn bursts_of_a_safe_table() {
         }
     }
 }
+
+at_both_widths!(
+    bursts_on_layouts,
+    large_bursts,
+    bursts_on_damaged_areas,
+    bursts_with_wrong_lengths_and_settings,
+    each_wrong_length,
+    each_setting_out_of_range,
+    tables_of_any_contents,
+    safe_wrappers,
+    bursts_of_a_safe_table,
+);

@@ -2,40 +2,67 @@
 
 use model::card::Card;
 use model::hash;
-use model::hash::KEY_BYTES;
 use model::layout::layout;
 use model::ledger::{list_of, valid, Ledger};
 use model::lookup::{fill, search, second_search, tally, Part};
 use model::placing::Placing;
-use model::records::{Key, Record, RECORD_BYTES};
+use model::records::{Key, Record};
 use model::settings::Settings;
 use model::snapshot::snapshot;
+use testing::at_both_widths;
+use testing::made::random_bytes;
 use testing::random::Random;
 
-// k is not looked at: the bucket numbers are given.
+// k and the width are not looked at: the bucket numbers are given.
 fn placed(b: u64, t: u64, numbers: &[&[u64]]) -> Placing {
     let numbers: Vec<Vec<u64>> = numbers.iter().map(|own| own.to_vec()).collect();
-    Placing::of(&Settings::of([4, 4, b, t, 128, 8]), &numbers)
+    Placing::of(&Settings::of([4, 4, b, t, 128, 8, 13]), &numbers)
 }
 
-#[test]
-fn zero_key() {
-    let rows = hash::rows();
+// "The zero key: H 0, bucket 0 alone", of 13 bytes and of 37.
+fn zero_key(width: u64) {
+    let rows = hash::rows(width as usize);
     assert_eq!(rows[0], 8748534153485358512);
-    assert_eq!(hash::h(&rows, &[0; KEY_BYTES]), 0);
+    let key = vec![0; width as usize];
+    assert_eq!(hash::h(&rows, &key), 0);
     for k in 1..=4 {
-        let card = Card::new(Settings::of([12, k, 1, 2, 1, 0]));
-        assert_eq!(card.numbers(&[0; KEY_BYTES]), [0]);
+        let card = Card::new(Settings::of([12, k, 1, 2, 1, 0, width]));
+        assert_eq!(card.numbers(&key), [0]);
     }
 }
 
+// "Rows go on to 295": the rows of 13 bytes are the first of those of 37.
 #[test]
-fn table_gives_h() {
-    let rows = hash::rows();
+fn rows_go_on() {
+    let (short, long) = (hash::rows(13), hash::rows(37));
+    assert_eq!((short.len(), long.len()), (104, 296));
+    assert_eq!(short, long[..104]);
+}
+
+fn every_table_gives_h(width: u64) {
+    let rows = hash::rows(width as usize);
+    let tables = hash::tables(width);
+    let lengths: Vec<usize> = tables.iter().map(|&by| hash::entries(width, by)).collect();
+    assert_eq!(
+        lengths,
+        if width == 13 {
+            vec![13 * 256]
+        } else {
+            vec![74 * 16, 37 * 256]
+        }
+    );
     let mut random = Random::new(7);
     for _ in 0..10_000 {
-        let key: Key = random.bytes();
-        assert_eq!(hash::h_by_table(&key), hash::h(&rows, &key));
+        let key = random_bytes(&mut random, width);
+        let h = hash::h(&rows, &key);
+        assert_eq!(hash::h_by_table(&key), h);
+    }
+    for &by in tables {
+        let table = hash::table(width, by);
+        for _ in 0..10_000 {
+            let key = random_bytes(&mut random, width);
+            assert_eq!(hash::h_by(&table, &key), hash::h(&rows, &key));
+        }
     }
 }
 
@@ -67,9 +94,8 @@ fn three_keys_on_1_and_5() {
     assert_eq!(placed(3, 4, &three).side_need(), 0);
 }
 
-#[test]
-fn clipped_counts_3_and_20() {
-    let settings = Settings::of([4, 1, 4, 15, 128, 64]);
+fn clipped_counts_3_and_20(width: u64) {
+    let settings = Settings::of([4, 1, 4, 15, 128, 64, width]);
     let mut numbers = vec![vec![2]; 3];
     numbers.resize(23, vec![3]);
     let placing = Placing::of(&settings, &numbers);
@@ -82,14 +108,14 @@ fn clipped_counts_3_and_20() {
     for (bucket, wanted) in [(2, 3), (3, 20)] {
         let mut found = 0;
         while found < wanted {
-            let key: Key = random.bytes();
+            let key = random_bytes(&mut random, width);
             if card.numbers(&key) == [bucket] {
                 list.push(Record { key, class: 1 });
                 found += 1;
             }
         }
     }
-    list.sort_by_key(|r| r.key);
+    list.sort_by(|a, b| a.key.cmp(&b.key));
     let areas = layout(&card, &list).unwrap();
     assert_eq!(areas.clipped[1], 0xf3);
     assert_eq!((areas.true_counts[2], areas.true_counts[3]), (3, 20));
@@ -103,12 +129,14 @@ fn fill_for_16_buckets() {
 #[test]
 fn snapshot_of_an_empty_list() {
     let file = [0, 6, 0, 4, 0, 1, 0, 1, 0, 2, 0, 1, 0, 0, 0, 0];
-    assert_eq!(snapshot(&Settings::of([4, 1, 1, 2, 1, 0]), &[]), file);
+    assert_eq!(snapshot(&Settings::of([4, 1, 1, 2, 1, 0, 13]), &[]), file);
+    // "Width 37 is saved with first count 7, the width last"
+    let file = [0, 7, 0, 4, 0, 1, 0, 1, 0, 2, 0, 1, 0, 0, 0, 37, 0, 0];
+    assert_eq!(snapshot(&Settings::of([4, 1, 1, 2, 1, 0, 37]), &[]), file);
 }
 
 // From a clear, a list of random calls: the layout of the plain ledger's list answers every search and tally as the plain ledger does.
-#[test]
-fn plain_ledger_and_layout() {
+fn plain_ledger_and_layout(width: u64) {
     let mut random = Random::new(6);
     let mut answers = std::collections::BTreeMap::new();
     for _ in 0..300 {
@@ -119,17 +147,17 @@ fn plain_ledger_and_layout() {
             random.between(2, 4),
             random.between(1, 40),
             random.between(0, 6),
+            width,
         ]);
         let card = Card::new(settings);
-        let keys: Vec<Key> = (0..30).map(|_| random.bytes()).collect();
+        let keys: Vec<Key> = (0..30).map(|_| random_bytes(&mut random, width)).collect();
         let mut ledger = Ledger::default();
         for _ in 0..100 {
             let key = &keys[random.between(0, 29) as usize];
-            let key = &key[..if random.between(0, 50) == 0 {
-                KEY_BYTES - 1
-            } else {
-                KEY_BYTES
-            }];
+            let key = match random.between(0, 50) {
+                0 => &key[1..],
+                _ => key,
+            };
             let class = random.number() as u32;
             let before = ledger.clone();
             let answer = match random.between(0, 99) {
@@ -142,7 +170,7 @@ fn plain_ledger_and_layout() {
             assert!(answer == 0 || ledger == before);
             let areas = layout(&card, &ledger.list).expect("an accepted call leaves a layout");
             assert!(valid(&settings, &areas.ledger));
-            assert_eq!(list_of(&areas.ledger), ledger.list);
+            assert_eq!(list_of(&settings, &areas.ledger), ledger.list);
             assert_eq!(
                 tally(&card, &areas.ledger, areas.lookup()),
                 Ok(ledger.tally(&card))
@@ -157,11 +185,11 @@ fn plain_ledger_and_layout() {
                     Part::Empty => panic!("{record:?} is held"),
                     Part::OfBuckets { at, bytes } => {
                         assert_eq!(bytes, record.bytes());
-                        assert_eq!(bytes, areas.buckets[at..at + RECORD_BYTES]);
+                        assert_eq!(bytes, areas.buckets[at..at + bytes.len()]);
                     }
                     Part::OfSide { at, bytes } => {
                         assert_eq!(bytes, record.bytes());
-                        assert_eq!(bytes, areas.side[at..at + RECORD_BYTES]);
+                        assert_eq!(bytes, areas.side[at..at + bytes.len()]);
                     }
                 },
             }
@@ -172,3 +200,10 @@ fn plain_ledger_and_layout() {
         assert!(answers.contains_key(&number), "no update answered {number}");
     }
 }
+
+at_both_widths!(
+    zero_key,
+    every_table_gives_h,
+    clipped_counts_3_and_20,
+    plain_ledger_and_layout,
+);

@@ -3,8 +3,9 @@
 use model::card::Card;
 use model::flowrun::{output, settings};
 use model::records::{Key, Record};
+use model::settings::IPV4_WIDTH;
 use std::time::Duration;
-use testing::made::{random_class, random_key};
+use testing::made::{random_bytes, random_class, random_key};
 use testing::programs::{flowrun_compared, flowrun_compared_whole, note_lines};
 use testing::random::Random;
 use testing::seen::Seen;
@@ -12,9 +13,10 @@ use testing::seen::Seen;
 const INPUTS: u64 = 200;
 const IN_PIECES: u64 = 20;
 
-fn call(letter: u8, key: &Key, class: u32) -> [u8; 18] {
+fn call(letter: u8, key: &[u8], class: u32) -> [u8; 18] {
     let mut call = [letter; 18];
-    call[1..].copy_from_slice(&Record { key: *key, class }.bytes());
+    let key = key.to_vec();
+    call[1..].copy_from_slice(&Record { key, class }.bytes());
     call
 }
 
@@ -61,7 +63,7 @@ fn left_overs() {
             let part = call(letter, &[1; 13], 7);
             let alone = flowrun_compared_whole(&part[..length]);
             assert!(alone.ends_with("\n1 ? 14 0 0 0\n"));
-            let mut input = call(b'I', &random.bytes(), 1).to_vec();
+            let mut input = call(b'I', &random_bytes(&mut random, IPV4_WIDTH), 1).to_vec();
             input.extend(&part[..length]);
             let after = flowrun_compared_whole(&input);
             assert!(after.ends_with("\n2 ? 14 0 0 0\n"));
@@ -75,7 +77,7 @@ fn tidy_keys(random: &mut Random) -> Vec<Key> {
     let mut found = vec![0; card.settings.m() as usize];
     let mut keys = Vec::new();
     while (keys.len() as u64) < card.settings.n {
-        let key = random.bytes();
+        let key = random_bytes(random, IPV4_WIDTH);
         let numbers = card.numbers(&key);
         let times = &mut found[numbers[0] as usize];
         if numbers.len() == 1 && *times < card.settings.b {
@@ -96,7 +98,7 @@ fn some_keys(random: &mut Random, tidy: &[Key]) -> Vec<Key> {
         _ => (random.between(1, 20), random.between(1, 100)),
     };
     let mut keys = tidy[..tidy_ones as usize].to_vec();
-    keys.extend((0..others).map(|_| random_key(random)));
+    keys.extend((0..others).map(|_| random_key(random, IPV4_WIDTH)));
     keys
 }
 
@@ -116,8 +118,8 @@ fn random_input(random: &mut Random, tidy: &[Key], calls: u64) -> Vec<u8> {
             _ => b'D',
         };
         let key = match random.between(0, 99) {
-            0 => random_key(random),
-            _ => keys[random.between(0, keys.len() as u64 - 1) as usize],
+            0 => random_key(random, IPV4_WIDTH),
+            _ => keys[random.between(0, keys.len() as u64 - 1) as usize].clone(),
         };
         input.extend(call(letter, &key, random_class(random)));
     }

@@ -1,23 +1,25 @@
-//! Both search doors and tally against the model: on layouts that the model makes, on damaged areas, on wrong lengths and settings. The listing of
+//! Both search doors and tally against the model, at both widths and with every hash table: on layouts that the model makes, on damaged areas, on wrong lengths and settings. The listing of
 //! source document 001 is compared with them in every search: the doors' number, and the model's whole answer.
 
-use flow::{doors, HashTable, LookupAreas, Refusal, Settings, Store, Tally};
+use flow::{doors, HashTable, LookupAreas, Refusal, Store, Tally};
 use model::card::Card;
-use model::hash::KEY_BYTES;
 use model::layout::{layout, Areas};
 use model::ledger::Ledger;
 use model::listing::{self, Counter};
 use model::lookup::{self as paper, Answer, Lookup, Part, Place};
-use model::records::{Key, Record, RECORD_BYTES};
-use model::settings::{Settings as Model, LIMITS};
+use model::records::{Key, Record};
+use model::settings::Settings as Model;
+use testing::at_both_widths;
 use testing::made::{
-    damage_ledger, damage_lookup, filled, random_card, random_key, random_table, set_count,
-    spoiled, wrong_length, wrong_search,
+    anywhere, damage_ledger, damage_lookup, each_out_of_range, filled, other_width, random_card,
+    random_key, random_table, set_count, spoiled, turn_a_bit, wrong_length, wrong_search,
+    wrong_table_lengths,
 };
 use testing::random::Random;
 use testing::seen::{Halves, Seen};
+use testing::widths::{settings_of, tables};
 
-// Searches of each test, each through both doors and by the listing.
+// Searches of each test at each width, each through both doors and by the listing.
 const ON_LAYOUTS: u64 = 400_000;
 const ON_LARGE_LAYOUTS: u64 = 100_000;
 const ON_DAMAGED_AREAS: u64 = 700_000;
@@ -30,16 +32,16 @@ const TALLIES: u64 = 60_000;
 
 // What a test calls the doors with.
 struct Doors {
-    table: HashTable,
+    tables: Vec<HashTable>,
     seen: Seen,
     places: Seen,
     cases: Seen,
 }
 
 impl Doors {
-    fn new() -> Doors {
+    fn new(width: u64) -> Doors {
         Doors {
-            table: HashTable::new(),
+            tables: tables(width),
             seen: Seen::default(),
             places: Seen::default(),
             cases: Seen::default(),
@@ -56,13 +58,18 @@ impl Doors {
             side,
         } = areas;
         let whole = doors::search(numbers, clipped, buckets, side, key);
-        let lent = doors::search_lent(self.table.entries(), numbers, clipped, buckets, side, key);
-        assert_eq!(
-            (whole, lent),
-            (expected.door(), expected.door()),
-            "{:?} {key:?}",
-            card.settings
-        );
+        assert_eq!(whole, expected.door(), "{:?} {key:?}", card.settings);
+        for table in &self.tables {
+            let table = table.entries();
+            let lent = doors::search_lent(table, numbers, clipped, buckets, side, key);
+            assert_eq!(
+                lent,
+                paper::search_lent(card, table.len(), areas, key).door(),
+                "{} entries: {:?} {key:?}",
+                table.len(),
+                card.settings
+            );
+        }
         let listed = listing::search_item(card, areas, key);
         assert_eq!(
             (listed.door(), listed),
@@ -95,9 +102,10 @@ impl Doors {
         );
         if expected.number == 0 {
             let area = if place[0] == 1 { buckets } else { side };
-            let record = &area[place[1] as usize..place[1] as usize + RECORD_BYTES];
-            assert_eq!(record[..KEY_BYTES], *key);
-            assert_eq!(record[KEY_BYTES..], expected.class.to_be_bytes());
+            let record = &area[place[1] as usize..][..card.settings.record_bytes()];
+            let (its_key, its_class) = record.split_at(key.len());
+            assert_eq!(its_key, key);
+            assert_eq!(its_class, expected.class.to_be_bytes());
         }
         self.places.note("place", expected.number);
         expected
@@ -147,7 +155,7 @@ fn note_cases(cases: &mut Seen, card: &Card, areas: Lookup, key: &[u8], answer: 
         return;
     }
     let Model { b, t, .. } = card.settings;
-    let counters = listing::counters(card, areas, key.try_into().unwrap());
+    let counters = listing::counters(card, areas, key);
     let first_with = |i: u64| counters.iter().position(|counter| counter.i == i);
     if (0..counters.len()).any(|j| first_with(counters[j].i) != Some(j)) {
         cases.note("repeated hashes", answer);
@@ -294,15 +302,14 @@ fn search_layout(
     }
 }
 
-#[test]
-fn searches_on_layouts() {
+fn searches_on_layouts(width: u64) {
     let mut random = Random::new(11);
-    let mut doors = Doors::new();
+    let mut doors = Doors::new(width);
     let mut places = Places::default();
     let mut clipped_below_true = 0;
     let mut tables = 0;
     while doors.seen.total() < ON_LAYOUTS {
-        let card = random_card(&mut random);
+        let card = random_card(&mut random, width);
         let (list, areas) = random_table(&mut random, &card);
         clipped_below_true += areas
             .true_counts
@@ -310,10 +317,10 @@ fn searches_on_layouts() {
             .filter(|&&count| u64::from(count) > card.settings.t)
             .count();
         // absent keys: random ones, and held ones with a bit turned
-        let mut absent: Vec<Key> = (0..20).map(|_| random_key(&mut random)).collect();
+        let mut absent: Vec<Key> = (0..20).map(|_| random_key(&mut random, width)).collect();
         for record in list.iter().take(10) {
-            let mut key = record.key;
-            key[random.between(0, 12) as usize] ^= 1 << random.between(0, 7);
+            let mut key = record.key.clone();
+            turn_a_bit(&mut random, &mut key);
             absent.push(key);
         }
         search_layout(&mut doors, &mut places, &card, &list, &areas, &absent);
@@ -337,21 +344,22 @@ fn searches_on_layouts() {
 }
 
 // The card's largest settings, and random large ones.
-#[test]
-fn searches_on_large_layouts() {
+fn searches_on_large_layouts(width: u64) {
     let mut random = Random::new(12);
-    let mut doors = Doors::new();
+    let mut doors = Doors::new(width);
     let mut places = Places::default();
     let mut largest = 0;
-    let mut card = Card::new(Model::of([12, 3, 4, 15, 4096, 64]));
+    let mut card = Card::new(Model::of([12, 3, 4, 15, 4096, 64, width]));
     while doors.seen.total() < ON_LARGE_LAYOUTS {
         let (list, areas) = filled(&mut random, &card, 4000.min(card.settings.n));
-        let absent: Vec<Key> = (0..4000).map(|_| random_key(&mut random)).collect();
+        let absent: Vec<Key> = (0..4000).map(|_| random_key(&mut random, width)).collect();
         search_layout(&mut doors, &mut places, &card, &list, &areas, &absent);
         largest = largest.max(list.len());
-        let mut numbers = LIMITS.map(|(low, high)| random.between(low, high));
-        numbers[0] = random.between(9, 12);
-        card = Card::new(Model::of(numbers));
+        let p = random.between(9, 12);
+        card = Card::new(Model {
+            p,
+            ..anywhere(&mut random, width)
+        });
     }
     doors
         .seen
@@ -363,16 +371,15 @@ fn searches_on_large_layouts() {
     assert_eq!(largest, 4000);
 }
 
-#[test]
-fn searches_on_damaged_areas() {
+fn searches_on_damaged_areas(width: u64) {
     let mut random = Random::new(13);
-    let mut doors = Doors::new();
+    let mut doors = Doors::new(width);
     let (mut held_of_side, mut held_of_buckets) = (0, 0);
     while doors.seen.total() < ON_DAMAGED_AREAS {
-        let card = random_card(&mut random);
+        let card = random_card(&mut random, width);
         let (list, areas) = random_table(&mut random, &card);
-        let mut keys: Vec<Key> = list.iter().take(40).map(|r| r.key).collect();
-        keys.extend((0..20).map(|_| random_key(&mut random)));
+        let mut keys: Vec<Key> = list.iter().take(40).map(|r| r.key.clone()).collect();
+        keys.extend((0..20).map(|_| random_key(&mut random, width)));
         for _ in 0..4 {
             let mut areas = areas.clone();
             let some = random.between(0, keys.len() as u64 - 4) as usize;
@@ -402,12 +409,11 @@ fn searches_on_damaged_areas() {
 }
 
 // Some of: settings out of range, areas of wrong lengths, a key of a wrong length, damage. The lowest that applies is given.
-#[test]
-fn searches_with_wrong_lengths_and_settings() {
+fn searches_with_wrong_lengths_and_settings(width: u64) {
     let mut random = Random::new(14);
-    let mut doors = Doors::new();
+    let mut doors = Doors::new(width);
     while doors.seen.total() < ON_WRONG_LENGTHS {
-        let card = random_card(&mut random);
+        let card = random_card(&mut random, width);
         let (list, areas) = random_table(&mut random, &card);
         for _ in 0..50 {
             let (settings, areas, key) = wrong_search(&mut random, &card, &list, &areas);
@@ -428,16 +434,14 @@ fn searches_with_wrong_lengths_and_settings() {
 }
 
 // Each length by itself, and the lent table's, which is judged with the areas'.
-#[test]
-fn each_wrong_length() {
+fn each_wrong_length(width: u64) {
     let mut random = Random::new(15);
-    let card = Card::new(Model::of([6, 3, 2, 4, 128, 8]));
+    let card = Card::new(Model::of([6, 3, 2, 4, 128, 8, width]));
     let (list, areas) = filled(&mut random, &card, 60);
     let numbers = card.settings.numbers();
-    let table = HashTable::new();
-    let key = list[0].key;
+    let key = &list[0].key;
     let right = [areas.clipped.len(), areas.buckets.len(), areas.side.len()];
-    let mut doors = Doors::new();
+    let mut doors = Doors::new(width);
     for i in 0..3 {
         for n in (0..=2 * right[i] + 2).filter(|&n| n != right[i]) {
             let mut lengths = right;
@@ -446,11 +450,11 @@ fn each_wrong_length() {
             areas.clipped.resize(lengths[0], 0);
             areas.buckets.resize(lengths[1], 0);
             areas.side.resize(lengths[2], 0);
-            assert_eq!(doors.search(&card, areas.lookup(), &key).number, 2);
+            assert_eq!(doors.search(&card, areas.lookup(), key).number, 2);
             assert_eq!(doors.search(&card, areas.lookup(), &key[1..]).number, 2);
         }
     }
-    for n in (0..=40).filter(|&n| n != KEY_BYTES) {
+    for n in (0..=80).filter(|&n| n as u64 != width) {
         let key = vec![7; n];
         assert_eq!(doors.search(&card, areas.lookup(), &key).number, 3);
     }
@@ -463,7 +467,7 @@ fn each_wrong_length() {
         let mut spoiled = numbers;
         spoiled[3] = 16;
         let other = Card::new(Model::of(spoiled));
-        let found = doors.search_place(&other, areas.lookup(), &key, n);
+        let found = doors.search_place(&other, areas.lookup(), key, n);
         assert_eq!(found.number, 1);
     }
     let Lookup {
@@ -471,7 +475,7 @@ fn each_wrong_length() {
         buckets,
         side,
     } = areas.lookup();
-    for n in [0, 1, 13, 256, 3072, 3327, 3329, 3584, 6656] {
+    for n in wrong_table_lengths(width) {
         let other = vec![1; n];
         for key in [&key[..], &key[1..]] {
             assert_eq!(
@@ -482,58 +486,60 @@ fn each_wrong_length() {
         let mut spoiled = numbers;
         spoiled[3] = 16;
         assert_eq!(
-            doors::search_lent(&other, spoiled, clipped, buckets, side, &key),
+            doors::search_lent(&other, spoiled, clipped, buckets, side, key),
             1 << 32
         );
     }
-    assert_eq!(
-        doors::search_lent(table.entries(), numbers, clipped, buckets, side, &key),
-        u64::from(list[0].class)
-    );
+    for table in tables(width) {
+        assert_eq!(
+            doors::search_lent(table.entries(), numbers, clipped, buckets, side, key),
+            u64::from(list[0].class)
+        );
+    }
+    // the other width: its tables are no longer of its length, and neither are the areas that hold records
+    let mut other = card.settings;
+    other.width = other_width(width);
+    for table in tables(other.width) {
+        let refused = doors::search_lent(table.entries(), numbers, clipped, buckets, side, key);
+        assert_eq!(refused, 2 << 32);
+    }
+    let other = Card::new(other);
+    assert_eq!(doors.search(&other, areas.lookup(), key).number, 2);
+    let (_, areas) = filled(&mut random, &other, 60);
+    let mut of_other = Doors::new(other.settings.width);
+    assert_eq!(of_other.search(&other, areas.lookup(), key).number, 3);
 }
 
 // Every setting at and around its limits, each by itself.
-#[test]
-fn each_setting_out_of_range() {
+fn each_setting_out_of_range(width: u64) {
     let mut random = Random::new(16);
-    let card = Card::new(Model::of([6, 3, 2, 4, 128, 8]));
+    let card = Card::new(Model::of([6, 3, 2, 4, 128, 8, width]));
     let (list, areas) = filled(&mut random, &card, 60);
-    let mut doors = Doors::new();
-    for (i, (low, high)) in LIMITS.into_iter().enumerate() {
-        let mut values = vec![high + 1, (1 << 32) + low, (1 << 16) + low, u64::MAX];
-        if low > 0 {
-            values.push(low - 1);
-            values.push(0);
-        }
-        for value in values {
-            let mut numbers = card.settings.numbers();
-            numbers[i] = value;
-            let other = Card::new(Model::of(numbers));
-            assert_eq!(doors.search(&other, areas.lookup(), &list[0].key).number, 1);
-            assert_eq!(doors.search(&other, areas.lookup(), &[]).number, 1);
-            let tallied = doors.tally(&other, &areas.ledger, areas.lookup());
-            assert_eq!(tallied, Err(1));
-        }
+    let mut doors = Doors::new(width);
+    for (_, settings) in each_out_of_range(&card.settings) {
+        let other = Card::new(settings);
+        assert_eq!(doors.search(&other, areas.lookup(), &list[0].key).number, 1);
+        assert_eq!(doors.search(&other, areas.lookup(), &[]).number, 1);
+        let tallied = doors.tally(&other, &areas.ledger, areas.lookup());
+        assert_eq!(tallied, Err(1));
     }
 }
 
 // On a lent table with other contents the search goes by the entries that it reads.
-#[test]
-fn lent_table_of_any_contents() {
+fn lent_table_of_any_contents(width: u64) {
     let mut random = Random::new(17);
     let mut seen = Seen::default();
-    let right = HashTable::new();
-    for _ in 0..400 {
-        let card = random_card(&mut random);
+    let rights = tables(width);
+    for round in 0..400 {
+        let right = rights[round % rights.len()].entries();
+        let card = random_card(&mut random, width);
         let (list, mut areas) = random_table(&mut random, &card);
         damage_lookup(&mut random, &card, &mut areas, &[]);
-        let mut table: Vec<u64> = (0..right.entries().len())
-            .map(|_| random.number())
-            .collect();
+        let mut table: Vec<u64> = right.iter().map(|_| random.number()).collect();
         if random.between(0, 1) == 0 {
             // but for one entry the right one, so that flows are found too
             let entry = random.between(0, table.len() as u64 - 1) as usize;
-            table = right.entries().to_vec();
+            table = right.to_vec();
             table[entry] = random.number();
         }
         let numbers = card.settings.numbers();
@@ -563,16 +569,15 @@ fn lent_table_of_any_contents() {
 }
 
 // At most one bucket is read: with other bytes in all other buckets the answer is the same. Where no bucket is read, in all buckets.
-#[test]
-fn other_buckets_do_not_count() {
+fn other_buckets_do_not_count(width: u64) {
     let mut random = Random::new(18);
-    let mut doors = Doors::new();
+    let mut doors = Doors::new(width);
     let (mut one, mut none) = (0, 0);
     while doors.seen.total() < BY_LOCALITY {
-        let card = random_card(&mut random);
+        let card = random_card(&mut random, width);
         let (list, mut areas) = random_table(&mut random, &card);
-        let mut keys: Vec<Key> = list.iter().take(10).map(|r| r.key).collect();
-        keys.extend((0..10).map(|_| random_key(&mut random)));
+        let mut keys: Vec<Key> = list.iter().take(10).map(|r| r.key.clone()).collect();
+        keys.extend((0..10).map(|_| random_key(&mut random, width)));
         if random.between(0, 1) == 0 {
             damage_lookup(&mut random, &card, &mut areas, &keys[..4]);
         }
@@ -601,13 +606,12 @@ fn other_buckets_do_not_count() {
     assert!(one > 0 && none > 0);
 }
 
-#[test]
-fn tallies() {
+fn tallies(width: u64) {
     let mut random = Random::new(19);
-    let mut doors = Doors::new();
+    let mut doors = Doors::new(width);
     let (mut in_side, mut marked, mut of_layouts) = (0, 0, 0);
     while doors.seen.total() < TALLIES {
-        let card = random_card(&mut random);
+        let card = random_card(&mut random, width);
         let (list, areas) = random_table(&mut random, &card);
         // a layout: the plain ledger's numbers
         let totals = doors.tally(&card, &areas.ledger, areas.lookup()).unwrap();
@@ -620,7 +624,7 @@ fn tallies() {
             let mut areas = areas.clone();
             let mut settings = card.settings;
             if random.between(0, 1) == 0 {
-                let keys = [random_key(&mut random)];
+                let keys = [random_key(&mut random, width)];
                 damage_lookup(&mut random, &card, &mut areas, &keys);
             }
             if random.between(0, 1) == 0 {
@@ -648,17 +652,17 @@ fn tallies() {
 }
 
 // The fill of every count of a ledger, for every p. The lookup areas are those of an empty table: tally does not compare them with the ledger.
-#[test]
-fn every_fill() {
+fn every_fill(width: u64) {
     const MOST: u64 = 4_096;
-    let mut doors = Doors::new();
+    let mut doors = Doors::new(width);
     let mut halves = Halves::default();
     for p in 4..=12 {
-        let card = Card::new(Model::of([p, 1, 1, 2, MOST, 0]));
+        let card = Card::new(Model::of([p, 1, 1, 2, MOST, 0, width]));
         let mut areas = layout(&card, &[]).unwrap();
         for count in 0..=MOST {
             if count > 0 {
-                let record = &mut areas.ledger[2 + RECORD_BYTES * (count as usize - 1)..];
+                let at = 2 + card.settings.record_bytes() * (count as usize - 1);
+                let record = &mut areas.ledger[at..];
                 record[..8].copy_from_slice(&count.to_be_bytes());
                 set_count(&mut areas.ledger, count);
             }
@@ -673,17 +677,18 @@ fn every_fill() {
 }
 
 // Each single fault of areas that are right otherwise, so that no other can hide it.
-#[test]
-fn each_fault_of_a_tally() {
+fn each_fault_of_a_tally(width: u64) {
     let mut random = Random::new(20);
-    let mut doors = Doors::new();
+    let mut doors = Doors::new(width);
     for _ in 0..60 {
-        let card = random_card(&mut random);
+        let card = random_card(&mut random, width);
         let settings = card.settings;
         let (_, right) = random_table(&mut random, &card);
         let tally =
             |doors: &mut Doors, areas: &Areas| doors.tally(&card, &areas.ledger, areas.lookup());
-        for b in 0..settings.m() as usize {
+        // of many buckets every third, fifth or ninth: even and odd ones
+        let m = settings.m() as usize;
+        for b in (0..m).step_by(if m > 512 { m / 512 + 1 } else { 1 }) {
             let mut areas = right.clone();
             let low = b % 2 == 0;
             for count in 0..16 {
@@ -713,7 +718,7 @@ fn each_fault_of_a_tally() {
         }
     }
     // totals of another length
-    let card = Card::new(Model::of([4, 1, 1, 2, 1, 0]));
+    let card = Card::new(Model::of([4, 1, 1, 2, 1, 0, width]));
     let areas = layout(&card, &[]).unwrap();
     for n in (0..=10).filter(|&n| n != 4) {
         let mut totals = vec![7; n];
@@ -727,8 +732,9 @@ fn each_fault_of_a_tally() {
                 &mut totals,
             )
         };
-        assert_eq!(call([4, 1, 1, 2, 1, 0]), 2);
-        assert_eq!(call([4, 1, 1, 1, 1, 0]), 1);
+        assert_eq!(call([4, 1, 1, 2, 1, 0, width]), 2);
+        assert_eq!(call([4, 1, 1, 1, 1, 0, width]), 1);
+        assert_eq!(call([4, 1, 1, 2, 1, 0, width + 1]), 1);
         assert_eq!(totals, vec![7; n]);
     }
     doors
@@ -737,14 +743,12 @@ fn each_fault_of_a_tally() {
 }
 
 // The safe crate hands on what the doors say.
-#[test]
-fn safe_wrappers() {
+fn safe_wrappers(width: u64) {
     let mut random = Random::new(21);
-    let table = HashTable::new();
+    let tables = tables(width);
     for _ in 0..300 {
-        let card = random_card(&mut random);
-        let [p, k, room, top, capacity, side_places] = card.settings.numbers();
-        let settings = Settings::new(p, k, room, top, capacity, side_places).unwrap();
+        let card = random_card(&mut random, width);
+        let settings = settings_of(&card.settings);
         let (list, mut areas) = random_table(&mut random, &card);
         if random.between(0, 2) == 0 {
             damage_lookup(&mut random, &card, &mut areas, &[]);
@@ -757,8 +761,8 @@ fn safe_wrappers() {
             buckets: &areas.buckets,
             side_store: &areas.side,
         };
-        let mut keys: Vec<Vec<u8>> = list.iter().map(|r| r.key.to_vec()).collect();
-        keys.extend((0..20).map(|n| vec![7; n]));
+        let mut keys: Vec<Key> = list.iter().map(|r| r.key.clone()).collect();
+        keys.extend((0..40).map(|n| vec![7; n]));
         for key in &keys {
             let answer = paper::search(&card, areas.lookup(), key);
             let expected = match answer.number {
@@ -767,7 +771,9 @@ fn safe_wrappers() {
                 number => Err(Refusal::from_number(number).unwrap()),
             };
             assert_eq!(flow::search(&settings, &lent, key), expected);
-            assert_eq!(flow::search_lent(&table, &settings, &lent, key), expected);
+            for table in &tables {
+                assert_eq!(flow::search_lent(table, &settings, &lent, key), expected);
+            }
             let place = flow::search_place(&settings, &lent, key);
             assert_eq!(place.map(|p| p.map(|p| p.class)), expected);
             let bytes = match paper::second_search(&card, areas.lookup(), key) {
@@ -776,7 +782,10 @@ fn safe_wrappers() {
                 Part::OfSide { at, bytes } => Some((Store::SideStore, at, bytes)),
             };
             let place = place.ok().flatten();
-            assert_eq!(place.map(|p| (p.store, p.start)), bytes.map(|b| (b.0, b.1)));
+            assert_eq!(
+                place.map(|p| (p.store, p.start)),
+                bytes.as_ref().map(|b| (b.0, b.1))
+            );
             if let (Some(place), Some((_, _, bytes))) = (place, bytes) {
                 assert_eq!(place.record(&lent), bytes);
             }
@@ -792,3 +801,18 @@ fn safe_wrappers() {
         assert_eq!(flow::tally(&settings, &areas.ledger, &lent), expected);
     }
 }
+
+at_both_widths!(
+    searches_on_layouts,
+    searches_on_large_layouts,
+    searches_on_damaged_areas,
+    searches_with_wrong_lengths_and_settings,
+    each_wrong_length,
+    each_setting_out_of_range,
+    lent_table_of_any_contents,
+    other_buckets_do_not_count,
+    tallies,
+    every_fill,
+    each_fault_of_a_tally,
+    safe_wrappers,
+);

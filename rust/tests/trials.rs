@@ -141,7 +141,7 @@ fn first_trials() {
     ];
     assert_eq!(calls, by_hand);
     // with p 4 and k 1, keys 0 and 4 meet in bucket 0, and all others are alone
-    let card = Card::new(Settings::of([4, 1, 1, 2, 2, 0]));
+    let card = Card::new(Settings::of([4, 1, 1, 2, 2, 0, 13]));
     for (key, bucket) in [(0, 0), (1, 8), (3, 1), (4, 0)] {
         let numbers = card.numbers(&[0, 0, 0, 0, 0, 0, 0, key, 0, 0, 0, 0, 0]);
         assert_eq!(numbers, [bucket]);
@@ -429,7 +429,9 @@ fn loads_at_their_limits() {
 fn sums_of_lines_of_flowrun() {
     let mut random = Random::new(104);
     let mut seen = Seen::default();
-    assert_eq!(flowrun::settings().numbers(), USUAL);
+    // U1, U3 and flowrun use width 13
+    let [usual @ .., width] = flowrun::settings().numbers();
+    assert_eq!((usual, width), (USUAL, 13));
     for f in [1, 10, 50, 100, 120, 200, 1000, 4096] {
         let count = random.between(5_000, LONG_LOAD);
         let load = load(random.number().max(1), random.number(), f, count);

@@ -1,23 +1,25 @@
-//! The doors that write against the model: lists of calls with all five areas compared after every call, areas that no call left behind,
+//! The doors that write against the model, at both widths: lists of calls with all five areas compared after every call, areas that no call left behind,
 //! damaged ledgers, wrong lengths and settings, and lists that end with the same flows.
 
-use flow::{doors, HashTable, Refusal, Settings, Table, Tally};
+use flow::{doors, HashTable, Refusal, Table, Tally};
 use model::calls::{perform, Call};
 use model::card::Card;
-use model::hash::KEY_BYTES;
 use model::layout::{layout, placing, Areas};
 use model::ledger::{list_of, Ledger};
 use model::lookup as paper;
-use model::records::{counted_area, Key, Record, RECORD_BYTES};
-use model::settings::{Settings as Model, LIMITS};
+use model::records::{counted_area, Key, Record};
+use model::settings::Settings as Model;
 use std::collections::BTreeMap;
+use testing::at_both_widths;
 use testing::lending::{assert_areas, door, kind};
 use testing::made::{
-    damage_ledger, filled, random_areas, random_class, random_key, random_list, random_work,
-    resize, small_card, spoiled, wrong_length,
+    damage_ledger, each_out_of_range, filled, other_width, random_areas, random_bytes,
+    random_class, random_key, random_list, random_work, resize, small_card, spoiled, wrong_key,
+    wrong_length,
 };
 use testing::random::Random;
 use testing::seen::{Halves, Seen};
+use testing::widths::{settings_of, tables};
 
 const LISTS: u64 = 4_000;
 const CALLS_OF_A_LIST: u64 = 200;
@@ -30,36 +32,34 @@ const _: () = assert!(LISTS >= 2_000 && CALLS_OF_A_LIST >= 200 && PAIRS >= 1_000
 
 // What a list of calls goes by.
 struct Mix {
+    width: u64,
     keys: Vec<Key>,
     // of a hundred updates so many are adds
     adds: u64,
 }
 
 impl Mix {
-    fn of(random: &mut Random, keys: Vec<Key>) -> Mix {
+    fn of(random: &mut Random, width: u64, keys: Vec<Key>) -> Mix {
         let adds = [30, 50, 60, 70, 85][random.between(0, 4) as usize];
-        Mix { keys, adds }
+        Mix { width, keys, adds }
     }
 
     // About as many keys as the table holds.
     fn new(random: &mut Random, card: &Card) -> Mix {
         let most = (card.settings.n + 6).min(2 * card.settings.m()).min(150);
         let count = random.between(2, most.max(2));
-        let keys = (0..count).map(|_| random_key(random)).collect();
-        Mix::of(random, keys)
+        let width = card.settings.width;
+        let keys = (0..count).map(|_| random_key(random, width)).collect();
+        Mix::of(random, width, keys)
     }
 
     // One of the keys, or another, or one of a wrong length.
     fn key(&self, random: &mut Random) -> Vec<u8> {
-        let key = self.keys[random.between(0, self.keys.len() as u64 - 1) as usize];
+        let key = &self.keys[random.between(0, self.keys.len() as u64 - 1) as usize];
         match random.between(0, 49) {
-            0 => random_key(random).to_vec(),
-            1 => {
-                let mut key = key.to_vec();
-                key.resize(wrong_length(random, KEY_BYTES), 0);
-                key
-            }
-            _ => key.to_vec(),
+            0 => random_key(random, self.width),
+            1 => wrong_key(random, key, self.width),
+            _ => key.clone(),
         }
     }
 
@@ -116,17 +116,19 @@ impl Beside {
         assert_areas(&self.areas, &self.expected, &self.card.settings, call);
     }
 
-    fn search(&self, table: &HashTable, lent: bool, key: &[u8]) -> u32 {
+    // With no table, or with one.
+    fn search(&self, table: Option<&HashTable>, key: &[u8]) -> u32 {
         let numbers = self.card.settings.numbers();
         let paper::Lookup {
             clipped,
             buckets,
             side,
         } = self.areas.lookup();
-        let answer = if lent {
-            doors::search_lent(table.entries(), numbers, clipped, buckets, side, key)
-        } else {
-            doors::search(numbers, clipped, buckets, side, key)
+        let answer = match table {
+            Some(table) => {
+                doors::search_lent(table.entries(), numbers, clipped, buckets, side, key)
+            }
+            None => doors::search(numbers, clipped, buckets, side, key),
         };
         let by_paper = self.ledger.search(&self.card, key);
         assert_eq!(answer, by_paper.door(), "{:?}", self.card.settings);
@@ -164,25 +166,25 @@ impl Beside {
     }
 }
 
-#[test]
-fn lists_of_calls() {
+fn lists_of_calls(width: u64) {
     let mut random = Random::new(41);
-    let table = HashTable::new();
+    let tables = tables(width);
     let mut seen = Seen::default();
     let (mut in_side, mut marked, mut clipped, mut most) = (0, 0, 0, 0);
     let mut halves = Halves::default();
     for _ in 0..LISTS {
-        let card = small_card(&mut random);
+        let card = small_card(&mut random, width);
         let mix = Mix::new(&mut random, &card);
         let mut beside = Beside::cleared(&mut random, card);
         for _ in 0..CALLS_OF_A_LIST {
             let way = random.between(0, 99);
             let (kind, answer) = if way < 12 {
                 let key = mix.key(&mut random);
-                ("search", beside.search(&table, false, &key))
+                ("search", beside.search(None, &key))
             } else if way < 24 {
                 let key = mix.key(&mut random);
-                ("search lent", beside.search(&table, true, &key))
+                let table = &tables[way as usize % tables.len()];
+                ("search lent", beside.search(Some(table), &key))
             } else if way < 28 {
                 halves.note(beside.ledger.list.len() as u64, beside.card.settings.m());
                 ("tally", beside.tally())
@@ -227,14 +229,14 @@ fn lists_of_calls() {
 }
 
 // The card's largest settings, near and at the capacity.
-#[test]
-fn calls_on_a_large_table() {
+fn calls_on_a_large_table(width: u64) {
     let mut random = Random::new(42);
     let mut seen = Seen::default();
-    let card = Card::new(Model::of([12, 3, 4, 15, 4096, 64]));
+    let card = Card::new(Model::of([12, 3, 4, 15, 4096, 64, width]));
     let (list, expected) = filled(&mut random, &card, 4090);
     assert!(list.len() > 4000);
-    let mix = Mix::of(&mut random, list.iter().map(|r| r.key).collect());
+    let keys = list.iter().map(|r| r.key.clone()).collect();
+    let mix = Mix::of(&mut random, width, keys);
     let mut beside = Beside {
         card,
         areas: expected.clone(),
@@ -243,7 +245,7 @@ fn calls_on_a_large_table() {
     };
     for i in 0..200 {
         let call = match i {
-            0..=99 => Call::Add(random_key(&mut random).to_vec(), random_class(&mut random)),
+            0..=99 => Call::Add(random_key(&mut random, width), random_class(&mut random)),
             _ => mix.update(&mut random),
         };
         seen.note(kind(&call), beside.update(&mut random, &call));
@@ -265,28 +267,27 @@ fn update_as_they_stand(card: &Card, areas: &Areas, work: &mut [u16], call: &Cal
 
 // Areas that no call left behind: a valid ledger, also one whose list has no layout, beside random bytes. An accepted update repairs all
 // from the ledger alone.
-#[test]
-fn updates_on_foreign_areas() {
+fn updates_on_foreign_areas(width: u64) {
     let mut random = Random::new(43);
     let mut seen = Seen::default();
     let (mut no_layout, mut repaired) = (0, 0);
     while seen.total() < ON_FOREIGN_AREAS {
-        let card = small_card(&mut random);
+        let card = small_card(&mut random, width);
         let settings = card.settings;
         let most = settings.n.min(2 * settings.m()).min(300);
         let count = match random.between(0, 2) {
             0 => most,
             _ => random.between(0, most),
         };
-        let list = random_list(&mut random, count);
+        let list = random_list(&mut random, width, count);
         let mut areas = random_areas(&mut random, &settings);
-        areas.ledger = counted_area(&list, settings.n);
+        areas.ledger = counted_area(&list, settings.record_bytes(), settings.n);
         if placing(&card, &list).side_need() > settings.s {
             no_layout += 1;
         }
-        let mut keys: Vec<Key> = list.iter().map(|r| r.key).collect();
-        keys.push(random_key(&mut random));
-        let mix = Mix::of(&mut random, keys);
+        let mut keys: Vec<Key> = list.iter().map(|r| r.key.clone()).collect();
+        keys.push(random_key(&mut random, width));
+        let mix = Mix::of(&mut random, width, keys);
         for _ in 0..6 {
             let call = mix.update(&mut random);
             let mut work = random_work(&mut random, &settings);
@@ -317,8 +318,9 @@ fn updates_on_foreign_areas() {
 
 // A single fault of a ledger that is right otherwise, by its kind.
 fn fault(random: &mut Random, settings: &Model, ledger: &mut [u8]) -> Option<&'static str> {
-    let n = list_of(ledger).len();
-    let end = 2 + RECORD_BYTES * n;
+    let n = list_of(settings, ledger).len();
+    let (key_bytes, record) = (settings.key_bytes(), settings.record_bytes());
+    let end = 2 + record * n;
     match random.between(0, 3) {
         0 => {
             let count = settings.n + random.between(1, 65535 - settings.n);
@@ -327,14 +329,14 @@ fn fault(random: &mut Random, settings: &Model, ledger: &mut [u8]) -> Option<&'s
             Some("count above N")
         }
         1 if n > 1 => {
-            let at = 2 + RECORD_BYTES * random.between(0, n as u64 - 2) as usize;
-            let (first, second) = ledger[at..at + 2 * RECORD_BYTES].split_at_mut(RECORD_BYTES);
+            let at = 2 + record * random.between(0, n as u64 - 2) as usize;
+            let (first, second) = ledger[at..at + 2 * record].split_at_mut(record);
             first.swap_with_slice(second);
             Some("falling keys")
         }
         2 if n > 1 => {
-            let at = 2 + RECORD_BYTES * random.between(0, n as u64 - 2) as usize;
-            ledger.copy_within(at..at + KEY_BYTES, at + RECORD_BYTES);
+            let at = 2 + record * random.between(0, n as u64 - 2) as usize;
+            ledger.copy_within(at..at + key_bytes, at + record);
             Some("equal keys")
         }
         3 if end < ledger.len() => {
@@ -350,19 +352,18 @@ fn fault(random: &mut Random, settings: &Model, ledger: &mut [u8]) -> Option<&'s
     }
 }
 
-#[test]
-fn updates_on_damaged_ledgers() {
+fn updates_on_damaged_ledgers(width: u64) {
     let mut random = Random::new(44);
     let mut seen = Seen::default();
     let mut faults = BTreeMap::new();
     while seen.total() < ON_DAMAGED_LEDGERS {
-        let card = small_card(&mut random);
+        let card = small_card(&mut random, width);
         let settings = card.settings;
         let count = random.between(0, settings.n.min(100));
         let (list, right) = filled(&mut random, &card, count);
-        let mut keys: Vec<Key> = list.iter().map(|r| r.key).collect();
-        keys.push(random_key(&mut random));
-        let mix = Mix::of(&mut random, keys);
+        let mut keys: Vec<Key> = list.iter().map(|r| r.key.clone()).collect();
+        keys.push(random_key(&mut random, width));
+        let mix = Mix::of(&mut random, width, keys);
         for i in 0..16 {
             let mut areas = right.clone();
             let single = if i % 2 == 0 {
@@ -378,7 +379,7 @@ fn updates_on_damaged_ledgers() {
             if let (Some(fault), Some(key)) = (single, call.key()) {
                 assert_eq!(
                     answer,
-                    if key.len() == KEY_BYTES { 4 } else { 3 },
+                    if key.len() as u64 == width { 4 } else { 3 },
                     "{fault}"
                 );
                 *faults.entry((fault, kind(&call))).or_insert(0) += 1;
@@ -400,17 +401,16 @@ fn updates_on_damaged_ledgers() {
 
 // Some of: settings out of range, areas of wrong lengths, work of a wrong length, a key of a wrong length, a damaged ledger. The lowest that
 // applies is given.
-#[test]
-fn updates_with_wrong_lengths_and_settings() {
+fn updates_with_wrong_lengths_and_settings(width: u64) {
     let mut random = Random::new(45);
     let mut seen = Seen::default();
     while seen.total() < ON_WRONG_LENGTHS {
-        let card = small_card(&mut random);
+        let card = small_card(&mut random, width);
         let count = random.between(0, card.settings.n.min(100));
         let (list, right) = filled(&mut random, &card, count);
-        let mut keys: Vec<Key> = list.iter().map(|r| r.key).collect();
-        keys.push(random_key(&mut random));
-        let mix = Mix::of(&mut random, keys);
+        let mut keys: Vec<Key> = list.iter().map(|r| r.key.clone()).collect();
+        keys.push(random_key(&mut random, width));
+        let mix = Mix::of(&mut random, width, keys);
         for _ in 0..16 {
             let mut areas = right.clone();
             let mut work = random_work(&mut random, &card.settings);
@@ -459,21 +459,23 @@ fn updates_with_wrong_lengths_and_settings() {
 }
 
 // Each area by itself of each of some wrong lengths, and each setting by itself out of range, on calls that are right otherwise.
-#[test]
-fn each_wrong_length_and_setting() {
+fn each_wrong_length_and_setting(width: u64) {
     let mut random = Random::new(46);
     let (mut lengths_wrong, mut settings_wrong) = (0, 0);
     for _ in 0..100 {
-        let card = small_card(&mut random);
+        let card = small_card(&mut random, width);
         let count = card.settings.n.min(20);
         let (list, right) = filled(&mut random, &card, count);
-        let held = list.first().map_or(random_key(&mut random), |r| r.key);
-        let other: Key = random.bytes();
+        let held = match list.first() {
+            Some(record) => record.key.clone(),
+            None => random_key(&mut random, width),
+        };
+        let other = random_bytes(&mut random, width);
         let calls = [
             Call::Clear,
-            Call::Add(other.to_vec(), 7),
-            Call::Change(held.to_vec(), 7),
-            Call::Remove(held.to_vec()),
+            Call::Add(other, 7),
+            Call::Change(held.clone(), 7),
+            Call::Remove(held),
         ];
         for call in &calls {
             for area in 0..if *call == Call::Clear { 5 } else { 6 } {
@@ -491,18 +493,23 @@ fn each_wrong_length_and_setting() {
                 assert_eq!(answer, 2, "area {area}, {call:?}");
                 lengths_wrong += 1;
             }
-            for i in 0..6 {
-                let (low, high) = LIMITS[i];
-                for value in [low.wrapping_sub(1), high + 1, (1 << 32) + low, u64::MAX] {
-                    let mut numbers = card.settings.numbers();
-                    numbers[i] = value;
-                    let card = Card::new(Model::of(numbers));
-                    let mut work = random_work(&mut random, &Model::of([4, 1, 1, 2, 1, 0]));
-                    let (answer, _) = update_as_they_stand(&card, &right, &mut work, call);
-                    assert_eq!(answer, 1, "setting {i} is {value}, {call:?}");
-                    settings_wrong += 1;
-                }
+            for (i, settings) in each_out_of_range(&card.settings) {
+                let card = Card::new(settings);
+                let mut work = vec![7; 32];
+                let (answer, _) = update_as_they_stand(&card, &right, &mut work, call);
+                assert_eq!(answer, 1, "setting {i}: {settings:?}, {call:?}");
+                settings_wrong += 1;
             }
+            // under the other width the areas that hold records are no longer of their lengths
+            let mut settings = card.settings;
+            settings.width = other_width(width);
+            let mut work = random_work(&mut random, &settings);
+            let (answer, _) = update_as_they_stand(&Card::new(settings), &right, &mut work, call);
+            assert_eq!(answer, 2, "{settings:?}, {call:?}");
+            // and on areas of its lengths a key of this width is refused
+            let mut areas = layout(&Card::new(settings), &[]).unwrap();
+            let answer = door(&settings, &mut areas, &mut work, call);
+            assert_eq!(answer, if *call == Call::Clear { 0 } else { 3 });
         }
     }
     println!("2 for {lengths_wrong} wrong lengths, 1 for {settings_wrong} settings out of range");
@@ -534,7 +541,7 @@ impl Alone<'_> {
     }
 
     fn list(&self) -> Vec<Record> {
-        list_of(&self.areas.ledger)
+        list_of(&self.card.settings, &self.areas.ledger)
     }
 
     // Calls in random order that lead to these flows, as long as one is accepted.
@@ -547,16 +554,16 @@ impl Alone<'_> {
             let mut calls = Vec::new();
             for r in flows {
                 match now.iter().find(|other| other.key == r.key) {
-                    None => calls.push(Call::Add(r.key.to_vec(), r.class)),
+                    None => calls.push(Call::Add(r.key.clone(), r.class)),
                     Some(other) if other.class != r.class => {
-                        calls.push(Call::Change(r.key.to_vec(), r.class))
+                        calls.push(Call::Change(r.key.clone(), r.class))
                     }
                     Some(_) => {}
                 }
             }
             for r in &now {
                 if !flows.iter().any(|other| other.key == r.key) {
-                    calls.push(Call::Remove(r.key.to_vec()));
+                    calls.push(Call::Remove(r.key.clone()));
                 }
             }
             for i in (1..calls.len()).rev() {
@@ -574,12 +581,11 @@ impl Alone<'_> {
 }
 
 // Two different lists of calls that end with the same flows leave the same bytes in all five areas.
-#[test]
-fn same_flows_same_bytes() {
+fn same_flows_same_bytes(width: u64) {
     let mut random = Random::new(47);
     let (mut pairs, mut stuck, mut flows, mut in_side, mut moved) = (0, 0, 0, 0, 0);
     while pairs < PAIRS {
-        let card = small_card(&mut random);
+        let card = small_card(&mut random, width);
         let mix = Mix::new(&mut random, &card);
         let mut one = Alone::cleared(&mut random, &card);
         for _ in 0..random.between(1, 80) {
@@ -618,15 +624,13 @@ fn same_flows_same_bytes() {
 }
 
 // The safe table hands on what the doors say, and owns the areas that they leave.
-#[test]
-fn safe_table() {
+fn safe_table(width: u64) {
     let mut random = Random::new(48);
-    let hash_table = HashTable::new();
+    let tables = tables(width);
     let mut seen = Seen::default();
     for _ in 0..LISTS_THROUGH_TABLE {
-        let card = small_card(&mut random);
-        let [p, k, room, top, capacity, side_places] = card.settings.numbers();
-        let settings = Settings::new(p, k, room, top, capacity, side_places).unwrap();
+        let card = small_card(&mut random, width);
+        let settings = settings_of(&card.settings);
         let mix = Mix::new(&mut random, &card);
         let mut table = Table::new(settings);
         assert_eq!(*table.settings(), settings);
@@ -660,7 +664,9 @@ fn safe_table() {
                 number => Err(Refusal::from_number(number).unwrap()),
             };
             assert_eq!(table.search(&key), found);
-            assert_eq!(table.search_lent(&hash_table, &key), found);
+            for hash_table in &tables {
+                assert_eq!(table.search_lent(hash_table, &key), found);
+            }
         }
         let totals = ledger.tally(&card);
         assert_eq!(
@@ -683,3 +689,14 @@ fn safe_table() {
         ],
     );
 }
+
+at_both_widths!(
+    lists_of_calls,
+    calls_on_a_large_table,
+    updates_on_foreign_areas,
+    updates_on_damaged_ledgers,
+    updates_with_wrong_lengths_and_settings,
+    each_wrong_length_and_setting,
+    same_flows_same_bytes,
+    safe_table,
+);

@@ -1,22 +1,23 @@
-//! The window over the latest searches, and the searches that give their counts, through their doors against the model: lists of calls with
+//! The window over the latest searches, and at both widths the searches that give their counts, through their doors against the model: lists of calls with
 //! the whole area and a fresh count compared after every one, areas of any contents, wrong lengths, searches of tables that enter windows.
 
 use flow::{doors, HashTable, LookupAreas, Refusal, SearchAnswer, SearchCounts, Settings, Table};
 use model::card::Card;
-use model::hash::KEY_BYTES;
 use model::layout::{layout, Areas};
 use model::ledger::Ledger;
 use model::lookup::{self as paper, Answer, Lookup, Place};
-use model::records::Key;
+use model::records::{Key, Record};
 use model::settings::Settings as Model;
 use model::window::{Window, SEARCHES};
 use model::window_area::{self, ENTRIES, HELD, NUMBERS, OLDEST, RING};
+use testing::at_both_widths;
 use testing::made::{
     damage_lookup, filled, random_card, random_class, random_key, random_numbers, random_table,
-    set_count, wrong_length, wrong_search,
+    set_count, wrong_length, wrong_search, wrong_table_lengths,
 };
 use testing::random::Random;
 use testing::seen::Seen;
+use testing::widths::{settings_of, tables};
 use testing::windows::BesideModel;
 
 // Calls of windows: each enters a search, removes the oldest or clears.
@@ -356,7 +357,7 @@ fn wrong_lengths_of_windows() {
 
 // What a test calls the search doors with.
 struct Doors {
-    table: HashTable,
+    tables: Vec<HashTable>,
     seen: Seen,
     places: Places,
 }
@@ -395,9 +396,9 @@ struct Found {
 }
 
 impl Doors {
-    fn new() -> Doors {
+    fn new(width: u64) -> Doors {
         Doors {
-            table: HashTable::new(),
+            tables: tables(width),
             seen: Seen::default(),
             places: Places::default(),
         }
@@ -406,15 +407,16 @@ impl Doors {
     // A search through both doors with so many numbers for its counts: number, class and counts are the model's, and refused the counts stay.
     fn search(&mut self, card: &Card, areas: Lookup, key: &[u8], lent: usize) -> Found {
         let found = search_counts(card, areas, key, lent);
-        let table = self.table.entries();
-        let by_table = search_counts_lent(card, table, areas, key, lent);
-        assert_eq!(
-            (by_table.number, &by_table.counts),
-            (found.number, &found.counts)
-        );
+        for table in &self.tables {
+            let by_table = search_counts_lent(card, table.entries(), areas, key, lent);
+            assert_eq!(
+                (by_table.number, &by_table.counts),
+                (found.number, &found.counts)
+            );
+        }
         let number = found.by_paper.number;
         self.seen.note("search", number);
-        if let (0 | 5 | 100, Ok(key)) = (number, key.try_into()) {
+        if let 0 | 5 | 100 = number {
             self.places.note(paper::place(card, areas, key));
         }
         found
@@ -537,30 +539,29 @@ impl Fed {
 }
 
 // A random card, or now and then one whose side store gets 64 records.
-fn card_of_searches(random: &mut Random) -> Card {
+fn card_of_searches(random: &mut Random, width: u64) -> Card {
     match random.between(0, 9) {
-        0 => Card::new(Model::of([4, random.between(1, 2), 1, 2, 200, 64])),
-        _ => random_card(random),
+        0 => Card::new(Model::of([4, random.between(1, 2), 1, 2, 200, 64, width])),
+        _ => random_card(random, width),
     }
 }
 
 // Held keys, and keys that mostly are not.
-fn keys_of_searches(random: &mut Random, held: impl Iterator<Item = Key>) -> Vec<Key> {
-    let mut keys: Vec<Key> = held.take(100).collect();
-    keys.extend((0..20).map(|_| random_key(random)));
+fn keys_of_searches(random: &mut Random, width: u64, held: &[Record]) -> Vec<Key> {
+    let mut keys: Vec<Key> = held.iter().take(100).map(|r| r.key.clone()).collect();
+    keys.extend((0..20).map(|_| random_key(random, width)));
     keys
 }
 
 // The counts are also those of the plain ledger, and one window is over the searches of all tables.
-#[test]
-fn searches_on_layouts() {
+fn searches_on_layouts(width: u64) {
     let mut random = Random::new(114);
-    let mut doors = Doors::new();
+    let mut doors = Doors::new(width);
     let mut fed = Fed::start(&mut random);
     while doors.seen.total() < ON_LAYOUTS {
-        let card = card_of_searches(&mut random);
+        let card = card_of_searches(&mut random, width);
         let (list, areas) = random_table(&mut random, &card);
-        let keys = keys_of_searches(&mut random, list.iter().map(|r| r.key));
+        let keys = keys_of_searches(&mut random, width, &list);
         let ledger = Ledger { list };
         for key in keys {
             let found = doors.search(&card, areas.lookup(), &key, 3);
@@ -583,15 +584,14 @@ fn searches_on_layouts() {
     assert_eq!((places.damaged, places.empty_side_by_mark), (0, 0));
 }
 
-#[test]
-fn searches_on_damaged_areas() {
+fn searches_on_damaged_areas(width: u64) {
     let mut random = Random::new(115);
-    let mut doors = Doors::new();
+    let mut doors = Doors::new(width);
     let mut fed = Fed::start(&mut random);
     while doors.seen.total() < ON_DAMAGED_AREAS {
-        let card = card_of_searches(&mut random);
+        let card = card_of_searches(&mut random, width);
         let (list, areas) = random_table(&mut random, &card);
-        let keys = keys_of_searches(&mut random, list.iter().map(|r| r.key));
+        let keys = keys_of_searches(&mut random, width, &list);
         for _ in 0..4 {
             let mut areas = areas.clone();
             let some = random.between(0, keys.len() as u64 - 4) as usize;
@@ -619,15 +619,14 @@ fn searches_on_damaged_areas() {
 
 // Some of: settings out of range, areas or counts of wrong lengths, a key of a wrong length, damage. The lowest that applies is given, and
 // no counts; a refused search does not enter a window.
-#[test]
-fn searches_with_wrong_lengths_and_settings() {
+fn searches_with_wrong_lengths_and_settings(width: u64) {
     let mut random = Random::new(116);
-    let mut doors = Doors::new();
+    let mut doors = Doors::new(width);
     let mut window = BesideModel::of(vec![7; NUMBERS]);
     assert_eq!(window.clear(), 0);
     let (mut entered, mut refused) = (0, 0);
     while doors.seen.total() < ON_WRONG_LENGTHS {
-        let card = random_card(&mut random);
+        let card = random_card(&mut random, width);
         let (list, areas) = random_table(&mut random, &card);
         for _ in 0..50 {
             let (settings, areas, key) = wrong_search(&mut random, &card, &list, &areas);
@@ -658,14 +657,13 @@ fn searches_with_wrong_lengths_and_settings() {
 }
 
 // Each length by itself: of an area, of the counts, of the lent table. Settings are judged before, the key after.
-#[test]
-fn each_wrong_length() {
+fn each_wrong_length(width: u64) {
     let mut random = Random::new(117);
-    let card = Card::new(Model::of([6, 3, 2, 4, 128, 8]));
-    let other = Card::new(Model::of([6, 3, 2, 16, 128, 8]));
+    let card = Card::new(Model::of([6, 3, 2, 4, 128, 8, width]));
+    let other = Card::new(Model::of([6, 3, 2, 16, 128, 8, width]));
     let (list, areas) = filled(&mut random, &card, 60);
-    let key = list[0].key;
-    let mut doors = Doors::new();
+    let key = &list[0].key;
+    let mut doors = Doors::new(width);
     let mut refused = |areas: &Areas, lent: usize| {
         for key in [&key[..], &key[1..]] {
             let found = doors.search(&card, areas.lookup(), key, lent);
@@ -692,11 +690,11 @@ fn each_wrong_length() {
     for lent in [0, 1, 2, 4, 5, 65_536] {
         refused(&areas, lent);
     }
-    for n in (0..=40).filter(|&n| n != KEY_BYTES) {
+    for n in (0..=80).filter(|&n| n as u64 != width) {
         let found = doors.search(&card, areas.lookup(), &vec![7; n], 3);
         assert_eq!(found.by_paper.number, 3);
     }
-    for n in [0, 1, 13, 256, 3072, 3327, 3329, 3584, 6656] {
+    for n in wrong_table_lengths(width) {
         let table = vec![1; n];
         for key in [&key[..], &key[1..]] {
             for lent in [3, 2] {
@@ -709,28 +707,26 @@ fn each_wrong_length() {
             }
         }
     }
-    let found = doors.search(&card, areas.lookup(), &key, 3);
+    let found = doors.search(&card, areas.lookup(), key, 3);
     assert_eq!(found.number, u64::from(list[0].class));
 }
 
 // On a lent table with other contents the search goes by the entries that it reads, and so do its counts.
-#[test]
-fn lent_table_of_any_contents() {
+fn lent_table_of_any_contents(width: u64) {
     let mut random = Random::new(118);
     let mut seen = Seen::default();
     let mut side_compared = 0;
-    let right = HashTable::new();
-    for _ in 0..400 {
-        let card = card_of_searches(&mut random);
+    let rights = tables(width);
+    for round in 0..400 {
+        let right = rights[round % rights.len()].entries();
+        let card = card_of_searches(&mut random, width);
         let (list, mut areas) = random_table(&mut random, &card);
         damage_lookup(&mut random, &card, &mut areas, &[]);
-        let mut table: Vec<u64> = (0..right.entries().len())
-            .map(|_| random.number())
-            .collect();
+        let mut table: Vec<u64> = right.iter().map(|_| random.number()).collect();
         if random.between(0, 1) == 0 {
             // but for one entry the right one, so that flows are found too
             let entry = random.between(0, table.len() as u64 - 1) as usize;
-            table = right.entries().to_vec();
+            table = right.to_vec();
             table[entry] = random.number();
         }
         let by_table = Card::with_table(card.settings, table.clone());
@@ -749,11 +745,10 @@ fn lent_table_of_any_contents() {
 }
 
 // Where a search can come to, by hand. With k 1 the zero key has bucket 0 alone.
-#[test]
-fn each_place_by_hand() {
-    let card = Card::new(Model::of([4, 1, 2, 3, 9, 4]));
-    let mut doors = Doors::new();
-    let key = [0; KEY_BYTES];
+fn each_place_by_hand(width: u64) {
+    let card = Card::new(Model::of([4, 1, 2, 3, 9, 4, width]));
+    let mut doors = Doors::new(width);
+    let key = vec![0; width as usize];
     // counter of bucket 0, its mark, the side count, how many records of other flows stand before the key's own in the side store
     let mut search = |counter: u8, mark: u8, side_count: u64, others: usize| {
         let mut areas = layout(&card, &[]).unwrap();
@@ -761,7 +756,7 @@ fn each_place_by_hand() {
         areas.buckets[0] = mark;
         set_count(&mut areas.side, side_count);
         for other in 0..others {
-            areas.side[2 + 17 * other] = 1;
+            areas.side[2 + (width as usize + 4) * other] = 1;
         }
         let found = doors.search(&card, areas.lookup(), &key, 3);
         (found.number >> 32, found.counts)
@@ -785,10 +780,9 @@ fn each_place_by_hand() {
 }
 
 // The safe crate hands on what the doors say: a table's searches enter its window.
-#[test]
-fn safe_wrappers() {
+fn safe_wrappers(width: u64) {
     let mut random = Random::new(119);
-    let hash_table = HashTable::new();
+    let tables = tables(width);
     let mut window = flow::Window::new();
     let mut plain = Window::default();
     let mut seen = Seen::default();
@@ -800,31 +794,31 @@ fn safe_wrappers() {
         );
     };
     for _ in 0..150 {
-        let card = card_of_searches(&mut random);
-        let [p, k, room, top, capacity, side_places] = card.settings.numbers();
-        let settings = Settings::new(p, k, room, top, capacity, side_places).unwrap();
+        let card = card_of_searches(&mut random, width);
+        let settings = settings_of(&card.settings);
         let mut table = Table::new(settings);
         let mut ledger = Ledger::default();
-        let held = filled(&mut random, &card, capacity.min(60)).0;
+        let held = filled(&mut random, &card, card.settings.n.min(60)).0;
         for record in &held {
             let answer = ledger.add(&card, &record.key, record.class);
             let expected = Refusal::from_number(answer).map_or(Ok(()), Err);
             assert_eq!(table.add(&record.key, record.class), expected);
         }
-        let keys = keys_of_searches(&mut random, held.iter().map(|r| r.key));
-        let mut keys: Vec<Vec<u8>> = keys.iter().map(|key| key.to_vec()).collect();
-        keys.extend([vec![7; 12], vec![7; 14]]);
+        let mut keys = keys_of_searches(&mut random, width, &held);
+        keys.extend([12, 14, 36, 38].map(|n| vec![7; n]));
         let areas = table.areas().lookup();
         for key in keys {
             let answer = ledger.search(&card, &key);
             let expected = as_result(answer);
             assert_eq!(table.search_counts(&key), expected);
-            assert_eq!(table.search_counts_lent(&hash_table, &key), expected);
             assert_eq!(flow::search_counts(&settings, &areas, &key), expected);
-            let lent = flow::search_counts_lent(&hash_table, &settings, &areas, &key);
-            assert_eq!(lent, expected);
+            for hash_table in &tables {
+                assert_eq!(table.search_counts_lent(hash_table, &key), expected);
+                let lent = flow::search_counts_lent(hash_table, &settings, &areas, &key);
+                assert_eq!(lent, expected);
+            }
             seen.note("search", answer.number);
-            window.enter(lent);
+            window.enter(expected);
             plain.enter(&answer);
             compare(&window, &plain);
         }
@@ -840,13 +834,14 @@ fn safe_wrappers() {
         }
     }
     // damaged areas are refused, and do not enter
-    let settings = Settings::new(4, 1, 1, 2, 1, 0).unwrap();
+    let settings = Settings::new(4, 1, 1, 2, 1, 0, width).unwrap();
+    let key = vec![1; width as usize];
     let areas = LookupAreas {
         clipped_counts: &[0xff; 8],
-        buckets: &[0; 16 * 18],
+        buckets: &vec![0; 16 * (1 + settings.record_bytes())],
         side_store: &[0; 2],
     };
-    let refused = flow::search_counts(&settings, &areas, &[1; 13]);
+    let refused = flow::search_counts(&settings, &areas, &key);
     assert_eq!(refused, Err(Refusal::DamagedLookup));
     window.enter(refused);
     compare(&window, &plain);
@@ -885,3 +880,13 @@ fn as_result(answer: Answer) -> Result<SearchAnswer, Refusal> {
         },
     })
 }
+
+at_both_widths!(
+    searches_on_layouts,
+    searches_on_damaged_areas,
+    searches_with_wrong_lengths_and_settings,
+    each_wrong_length,
+    lent_table_of_any_contents,
+    each_place_by_hand,
+    safe_wrappers,
+);

@@ -1,8 +1,9 @@
 //! Document 02, 'A load for the bench': the generator, the calls made of its numbers, and the program's whole output.
 
 use crate::flowrun::CALL_BYTES;
-use crate::hash::{xorshift64, KEY_BYTES};
+use crate::hash::xorshift64;
 use crate::records::Record;
+use crate::settings::IPV4_WIDTH;
 
 /// s, w, F and the count of calls, in eight bytes each.
 pub const INPUT_BYTES: usize = 4 * 8;
@@ -26,7 +27,7 @@ impl Generator {
 /// Two numbers as a call of flowrun. "the first mod 4, from 0, picks add, change, remove or search", the letters I, C, D and S; the key is
 /// the second mod F in eight bytes, high byte first, then five zero bytes; the class is the low 32 bits of the first, whatever the kind.
 pub fn call_of(first: u64, second: u64, f: u64) -> [u8; CALL_BYTES] {
-    let mut key = [0; KEY_BYTES];
+    let mut key = vec![0; IPV4_WIDTH as usize];
     for (i, byte) in key[..8].iter_mut().enumerate() {
         *byte = (second % f / 256u64.pow(7 - i as u32) % 256) as u8;
     }

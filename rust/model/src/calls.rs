@@ -1,7 +1,6 @@
 //! 'The calls' that write, on areas with any contents and lengths: clear, add, change, remove.
 
 use crate::card::Card;
-use crate::hash::KEY_BYTES;
 use crate::layout::{layout, Areas};
 use crate::ledger::{list_of, valid, Ledger};
 
@@ -51,13 +50,13 @@ pub fn perform(card: &Card, areas: &mut Areas, work: usize, call: &Call) -> u32 
     }
     let mut ledger = Ledger::default();
     if let Some(key) = call.key() {
-        if key.len() != KEY_BYTES {
+        if key.len() as u64 != settings.width {
             return 3;
         }
         if !valid(settings, &areas.ledger) {
             return 4;
         }
-        ledger.list = list_of(&areas.ledger);
+        ledger.list = list_of(settings, &areas.ledger);
     }
     let answer = ledger.step(card, call);
     if answer == 0 {

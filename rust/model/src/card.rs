@@ -1,7 +1,6 @@
 //! Settings with the hash: what placing, layout and search go by.
 
 use crate::hash;
-use crate::records::{Key, RECORD_BYTES};
 use crate::settings::Settings;
 
 pub struct Card {
@@ -18,7 +17,7 @@ impl Card {
         }
     }
 
-    /// A card that reads what it takes for H from this table, one entry for each byte of a key.
+    /// A card that reads what it takes for H from this table, which has the length of one for its width.
     pub fn with_table(settings: Settings, table: Vec<u64>) -> Card {
         Card {
             settings,
@@ -26,7 +25,7 @@ impl Card {
         }
     }
 
-    fn h(&self, key: &Key) -> u64 {
+    fn h(&self, key: &[u8]) -> u64 {
         match &self.other_table {
             None => hash::h_by_table(key),
             Some(table) => hash::h_by(table, key),
@@ -34,7 +33,7 @@ impl Card {
     }
 
     /// A key's first k hashes.
-    pub fn hashes(&self, key: &Key) -> Vec<u64> {
+    pub fn hashes(&self, key: &[u8]) -> Vec<u64> {
         let h = self.h(key);
         (0..self.settings.k as u32)
             .map(|j| hash::hash_j(&self.settings, h, j))
@@ -42,12 +41,12 @@ impl Card {
     }
 
     /// A key's bucket numbers: those hashes, repeats dropped.
-    pub fn numbers(&self, key: &Key) -> Vec<u64> {
+    pub fn numbers(&self, key: &[u8]) -> Vec<u64> {
         hash::bucket_numbers(&self.settings, self.h(key))
     }
 
     /// The bytes of one bucket: a mark, then B places.
     pub fn bucket_bytes(&self) -> usize {
-        1 + RECORD_BYTES * self.settings.b as usize
+        1 + self.settings.record_bytes() * self.settings.b as usize
     }
 }

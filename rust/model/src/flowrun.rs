@@ -1,17 +1,19 @@
 //! 'Program flowrun': its whole output.
 
 use crate::card::Card;
-use crate::hash::KEY_BYTES;
 use crate::ledger::Ledger;
 use crate::lookup::Answer;
-use crate::settings::Settings;
+use crate::settings::{Settings, IPV4_WIDTH};
 use std::fmt::Write;
+
+/// "U1, U3 and flowrun use 13" (document 02, U7).
+const KEY_BYTES: usize = IPV4_WIDTH as usize;
 
 /// A letter, a key, a class of four bytes.
 pub const CALL_BYTES: usize = 1 + KEY_BYTES + 4;
 
 pub fn settings() -> Settings {
-    Settings::of([6, 3, 2, 4, 128, 8])
+    Settings::of([6, 3, 2, 4, 128, 8, IPV4_WIDTH])
 }
 
 /// A header, and a line for each call and for what is left over.

@@ -44,13 +44,14 @@ pub fn layout(card: &Card, list: &[Record]) -> Option<Areas> {
     if list.len() as u64 > settings.n || placing.side_need() > settings.s {
         return None;
     }
-    let side: Vec<Record> = placing.side.iter().map(|&i| list[i]).collect();
+    let record_bytes = settings.record_bytes();
+    let side: Vec<Record> = placing.side.iter().map(|&i| list[i].clone()).collect();
     Some(Areas {
-        ledger: counted_area(list, settings.n),
+        ledger: counted_area(list, record_bytes, settings.n),
         true_counts: placing.true_counts.iter().map(|c| c.0 as u16).collect(),
         clipped: clipped(card, &placing),
         buckets: buckets(card, &placing, list),
-        side: counted_area(&side, settings.s),
+        side: counted_area(&side, record_bytes, settings.s),
     })
 }
 

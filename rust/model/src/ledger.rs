@@ -1,16 +1,15 @@
 //! 'The plain ledger', and what makes a ledger area valid.
 
 use crate::card::Card;
-use crate::hash::KEY_BYTES;
 use crate::layout::placing;
 use crate::lookup::{fill, Answer, Totals};
 use crate::placing::ClippedCount;
-use crate::records::{below, count, first_records, rising, Key, Record, RECORD_BYTES};
+use crate::records::{below, count, first_records, rising, Record};
 use crate::settings::Settings;
 
 /// The records of a ledger area, as its count says.
-pub fn list_of(area: &[u8]) -> Vec<Record> {
-    first_records(&area[2..], count(area))
+pub fn list_of(settings: &Settings, area: &[u8]) -> Vec<Record> {
+    first_records(&area[2..], settings.record_bytes(), count(area))
 }
 
 /// Not 4: a count of at most N, rising keys, and zeros after the last record.
@@ -18,9 +17,9 @@ pub fn valid(settings: &Settings, area: &[u8]) -> bool {
     if count(area) > settings.n {
         return false;
     }
-    let list = list_of(area);
+    let list = list_of(settings, area);
     rising(&list)
-        && area[2 + RECORD_BYTES * list.len()..]
+        && area[2 + settings.record_bytes() * list.len()..]
             .iter()
             .all(|&x| x == 0)
 }
@@ -32,8 +31,8 @@ pub struct Ledger {
 }
 
 impl Ledger {
-    pub fn position(&self, key: &Key) -> Option<usize> {
-        self.list.iter().position(|r| r.key == *key)
+    pub fn position(&self, key: &[u8]) -> Option<usize> {
+        self.list.iter().position(|r| r.key == key)
     }
 
     pub fn clear(&mut self) -> u32 {
@@ -42,27 +41,27 @@ impl Ledger {
     }
 
     pub fn add(&mut self, card: &Card, key: &[u8], class: u32) -> u32 {
-        if key.len() != KEY_BYTES {
+        if key.len() as u64 != card.settings.width {
             return 3;
         }
-        let key: Key = key.try_into().unwrap();
-        if self.position(&key).is_some() {
+        if self.position(key).is_some() {
             return 6;
         }
         if self.list.len() as u64 >= card.settings.n {
             return 8;
         }
         let mut new = self.list.clone();
-        let before = new.iter().filter(|r| below(&r.key, &key)).count();
+        let before = new.iter().filter(|r| below(&r.key, key)).count();
+        let key = key.to_vec();
         new.insert(before, Record { key, class });
         self.become_if_side_suffices(card, new)
     }
 
     pub fn change(&mut self, card: &Card, key: &[u8], class: u32) -> u32 {
-        if key.len() != KEY_BYTES {
+        if key.len() as u64 != card.settings.width {
             return 3;
         }
-        let i = match self.position(key.try_into().unwrap()) {
+        let i = match self.position(key) {
             None => return 7,
             Some(i) => i,
         };
@@ -72,10 +71,10 @@ impl Ledger {
     }
 
     pub fn remove(&mut self, card: &Card, key: &[u8]) -> u32 {
-        if key.len() != KEY_BYTES {
+        if key.len() as u64 != card.settings.width {
             return 3;
         }
-        let i = match self.position(key.try_into().unwrap()) {
+        let i = match self.position(key) {
             None => return 7,
             Some(i) => i,
         };
@@ -95,12 +94,11 @@ impl Ledger {
 
     /// 3, or held or absent by the list, with counts by the list's layout.
     pub fn search(&self, card: &Card, key: &[u8]) -> Answer {
-        if key.len() != KEY_BYTES {
+        if key.len() as u64 != card.settings.width {
             return Answer::refused(3);
         }
-        let key: Key = key.try_into().unwrap();
-        let held = self.position(&key);
-        let (buckets_read, compared, side_compared) = self.counts(card, &key);
+        let held = self.position(key);
+        let (buckets_read, compared, side_compared) = self.counts(card, key);
         Answer {
             number: if held.is_some() { 0 } else { 100 },
             class: held.map_or(0, |i| self.list[i].class),
@@ -111,7 +109,7 @@ impl Ledger {
     }
 
     /// Buckets read, records compared, and 1 where the side store is the place compared.
-    fn counts(&self, card: &Card, key: &Key) -> (u64, u64, u64) {
+    fn counts(&self, card: &Card, key: &[u8]) -> (u64, u64, u64) {
         let settings = &card.settings;
         let placing = placing(card, &self.list);
         let numbers = card.numbers(key);
@@ -131,9 +129,7 @@ impl Ledger {
         } else {
             &placing.choosers[chosen as usize]
         };
-        let position = compared_place
-            .iter()
-            .position(|&i| self.list[i].key == *key);
+        let position = compared_place.iter().position(|&i| self.list[i].key == key);
         let compared = match position {
             Some(i) => i + 1,
             None => compared_place.len(),
@@ -143,8 +139,7 @@ impl Ledger {
 
     /// The second search call: the record itself.
     pub fn second_search(&self, key: &[u8]) -> Option<Record> {
-        let key: Key = key.try_into().ok()?;
-        self.position(&key).map(|i| self.list[i])
+        self.position(key).map(|i| self.list[i].clone())
     }
 
     pub fn tally(&self, card: &Card) -> Totals {

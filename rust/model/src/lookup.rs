@@ -2,11 +2,11 @@
 //! counts, a burst of searches, tally.
 
 use crate::card::Card;
-use crate::hash::KEY_BYTES;
+use crate::hash::read_by;
 use crate::layout::Areas;
 use crate::ledger;
 use crate::placing::ClippedCount;
-use crate::records::{count, first_records, Key, RECORD_BYTES};
+use crate::records::{count, first_records};
 use crate::settings::Settings;
 
 /// The three lookup areas.
@@ -85,18 +85,12 @@ pub enum Place {
     SideByMark { b: u64, records: u64 },
 }
 
-/// What the second search call hands back: 17 bytes from byte `at` of one of two areas, or the empty part.
-#[derive(Clone, Copy, Debug, PartialEq, Eq)]
+/// What the second search call hands back: a record's bytes from byte `at` of one of two areas, or the empty part.
+#[derive(Clone, Debug, PartialEq, Eq)]
 pub enum Part {
     Empty,
-    OfBuckets {
-        at: usize,
-        bytes: [u8; RECORD_BYTES],
-    },
-    OfSide {
-        at: usize,
-        bytes: [u8; RECORD_BYTES],
-    },
+    OfBuckets { at: usize, bytes: Vec<u8> },
+    OfSide { at: usize, bytes: Vec<u8> },
 }
 
 /// Refusals 1, 2 and 3 of a search, the lowest that applies.
@@ -107,7 +101,7 @@ pub fn refused_at_once(card: &Card, areas: Lookup, key: &[u8]) -> Option<u32> {
     if !areas.fit(&card.settings) {
         return Some(2);
     }
-    if key.len() != KEY_BYTES {
+    if key.len() as u64 != card.settings.width {
         return Some(3);
     }
     None
@@ -119,7 +113,7 @@ fn counter(areas: Lookup, b: u64) -> ClippedCount {
 }
 
 /// The bucket that a search goes to, by the counters alone: None where it reads no bucket.
-pub fn chosen_bucket(card: &Card, areas: Lookup, key: &Key) -> Option<u64> {
+pub fn chosen_bucket(card: &Card, areas: Lookup, key: &[u8]) -> Option<u64> {
     let t = card.settings.t;
     let numbers = card.numbers(key);
     let counters: Vec<u64> = numbers.iter().map(|&b| counter(areas, b).0).collect();
@@ -134,7 +128,7 @@ pub fn chosen_bucket(card: &Card, areas: Lookup, key: &Key) -> Option<u64> {
 }
 
 /// All counters of the key are read, then at most one bucket, then perhaps the side count.
-pub fn place(card: &Card, areas: Lookup, key: &Key) -> Place {
+pub fn place(card: &Card, areas: Lookup, key: &[u8]) -> Place {
     let settings = &card.settings;
     let numbers = card.numbers(key);
     if numbers.iter().any(|&b| counter(areas, b).0 > settings.t) {
@@ -182,8 +176,7 @@ pub fn search(card: &Card, areas: Lookup, key: &[u8]) -> Answer {
     if let Some(number) = refused_at_once(card, areas, key) {
         return Answer::refused(number);
     }
-    let key: Key = key.try_into().unwrap();
-    let place = place(card, areas, &key);
+    let place = place(card, areas, key);
     if place == Place::Damaged {
         return Answer::refused(5);
     }
@@ -206,7 +199,7 @@ pub fn search(card: &Card, areas: Lookup, key: &[u8]) -> Answer {
         } else {
             areas.side
         };
-        for record in first_records(&area[from..], n) {
+        for record in first_records(&area[from..], card.settings.record_bytes(), n) {
             answer.compared += 1;
             if record.key == key {
                 answer.number = 0;
@@ -224,10 +217,11 @@ pub fn second_search(card: &Card, areas: Lookup, key: &[u8]) -> Part {
         return Part::Empty;
     }
     // held: the last record compared is the one
-    let place = place(card, areas, key.try_into().unwrap());
+    let place = place(card, areas, key);
     let (in_buckets, from, _) = span(card, place).unwrap();
-    let at = from + RECORD_BYTES * (answer.compared as usize - 1);
-    let part = |area: &[u8]| area[at..at + RECORD_BYTES].try_into().unwrap();
+    let record_bytes = card.settings.record_bytes();
+    let at = from + record_bytes * (answer.compared as usize - 1);
+    let part = |area: &[u8]| area[at..at + record_bytes].to_vec();
     if in_buckets {
         Part::OfBuckets {
             at,
@@ -276,7 +270,15 @@ pub fn search_counts(card: &Card, areas: Lookup, key: &[u8], counts: &mut [u32])
     answer
 }
 
-/// The search with its counts, and a lent hash table of so many entries: 2 also where they are not 3,328.
+/// The search, and a lent hash table of so many entries: 2 also where that is not the length of one for the width.
+pub fn search_lent(card: &Card, table: usize, areas: Lookup, key: &[u8]) -> Answer {
+    if card.settings.allowed() && read_by(card.settings.width, table).is_none() {
+        return Answer::refused(2);
+    }
+    search(card, areas, key)
+}
+
+/// The search with its counts, and a lent hash table as for [`search_lent`].
 pub fn search_counts_lent(
     card: &Card,
     table: usize,
@@ -284,26 +286,27 @@ pub fn search_counts_lent(
     key: &[u8],
     counts: &mut [u32],
 ) -> Answer {
-    if card.settings.allowed() && table != 256 * KEY_BYTES {
+    if card.settings.allowed() && read_by(card.settings.width, table).is_none() {
         return Answer::refused(2);
     }
     search_counts(card, areas, key, counts)
 }
 
-/// Many searches at once: a key of 13 bytes for each answer, and a lent hash table of so many entries. 0 with what the driver gets for each
+/// Many searches at once: a key of the width for each answer, and a lent hash table as for [`search_lent`]. 0 with what the driver gets for each
 /// key, or the lowest of 1, 2 and 3 that applies and the answers as they were.
 pub fn burst(card: &Card, table: usize, areas: Lookup, keys: &[u8], answers: &mut [u64]) -> u32 {
     if !card.settings.allowed() {
         return 1;
     }
-    if table != 256 * KEY_BYTES || !areas.fit(&card.settings) {
+    let key_bytes = card.settings.key_bytes();
+    if read_by(card.settings.width, table).is_none() || !areas.fit(&card.settings) {
         return 2;
     }
-    if keys.len() != KEY_BYTES * answers.len() {
+    if keys.len() != key_bytes * answers.len() {
         return 3;
     }
     for (i, answer) in answers.iter_mut().enumerate() {
-        let key = &keys[KEY_BYTES * i..KEY_BYTES * (i + 1)];
+        let key = &keys[key_bytes * i..key_bytes * (i + 1)];
         *answer = search(card, areas, key).door();
     }
     0

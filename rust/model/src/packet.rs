@@ -1,7 +1,8 @@
-//! 'Packet': the key of an IPv4 packet. The header is read field by field, each as wide as RFC 791, section 3.1, draws it.
+//! 'Packet': the key of an IPv4 packet, and that of an IPv6 packet (document 02, U7). A header is read field by field, each as wide as RFC 791,
+//! section 3.1, or RFC 8200, section 3, draws it.
 
-use crate::hash::KEY_BYTES;
 use crate::records::Key;
+use crate::settings::{IPV4_WIDTH, IPV6_WIDTH};
 
 /// The bits of a packet from the first on, as the RFC numbers them: the most significant bit of a byte comes first.
 struct Bits<'a> {
@@ -52,9 +53,12 @@ impl Header {
 
     /// Document 02, U2: only the first fragment of a packet has them, and a packet that was not cut into fragments.
     fn has_ports(&self) -> bool {
-        self.fragment_offset == 0 && [6, 17].contains(&self.protocol)
+        self.fragment_offset == 0 && WITH_PORTS.contains(&self.protocol)
     }
 }
+
+/// The protocols that have ports.
+const WITH_PORTS: [u32; 2] = [6, 17];
 
 /// Source address, destination address, source port, destination port, protocol; or 10 or 11.
 pub fn packet_key(packet: &[u8]) -> Result<Key, u32> {
@@ -70,7 +74,7 @@ pub fn packet_key(packet: &[u8]) -> Result<Key, u32> {
     if header.has_ports() && data.len() < 4 {
         return Err(11);
     }
-    let mut key = [0; KEY_BYTES];
+    let mut key = vec![0; IPV4_WIDTH as usize];
     key[..4].copy_from_slice(&header.source.to_be_bytes());
     key[4..8].copy_from_slice(&header.destination.to_be_bytes());
     if header.has_ports() {
@@ -80,12 +84,53 @@ pub fn packet_key(packet: &[u8]) -> Result<Key, u32> {
     Ok(key)
 }
 
+/// The bytes of an IPv6 header; what follows it, an extension header among that, is data here.
+const IPV6_HEADER_BYTES: usize = 40;
+
+/// Source address, destination address, source port, destination port, next header; or 16 or 11.
+pub fn packet6_key(packet: &[u8]) -> Result<Key, u32> {
+    if packet.len() < IPV6_HEADER_BYTES {
+        return Err(16);
+    }
+    let mut bits = Bits { packet, at: 0 };
+    let version = bits.field(4);
+    let [_traffic_class, _flow_label, _payload_length] = [8, 20, 16].map(|width| bits.field(width));
+    let [next_header, _hop_limit] = [8, 8].map(|width| bits.field(width));
+    let addresses: Vec<u8> = (0..32).map(|_| bits.field(8) as u8).collect();
+    if version != 6 {
+        return Err(16);
+    }
+    let data = &packet[IPV6_HEADER_BYTES..];
+    let mut ports = [0; 4];
+    if WITH_PORTS.contains(&next_header) {
+        // "a short port part remains 11"
+        ports.copy_from_slice(data.get(..4).ok_or(11u32)?);
+    }
+    let key = [&addresses[..], &ports, &[next_header as u8]].concat();
+    assert_eq!(key.len() as u64, IPV6_WIDTH);
+    Ok(key)
+}
+
 /// 0 with the key in the buffer, or a refusal and the buffer as it was.
 pub fn packet_key_into(packet: &[u8], buffer: &mut [u8]) -> u32 {
-    if buffer.len() != KEY_BYTES {
+    into(IPV4_WIDTH, packet_key, packet, buffer)
+}
+
+/// The same for an IPv6 packet.
+pub fn packet6_key_into(packet: &[u8], buffer: &mut [u8]) -> u32 {
+    into(IPV6_WIDTH, packet6_key, packet, buffer)
+}
+
+fn into(
+    width: u64,
+    key_of: impl Fn(&[u8]) -> Result<Key, u32>,
+    packet: &[u8],
+    buffer: &mut [u8],
+) -> u32 {
+    if buffer.len() as u64 != width {
         return 3;
     }
-    match packet_key(packet) {
+    match key_of(packet) {
         Err(number) => number,
         Ok(key) => {
             buffer.copy_from_slice(&key);

@@ -1,24 +1,44 @@
-//! 'Snapshot': a file of settings and records, saved from a ledger area and loaded into every area.
+//! 'Snapshot': a file of settings and records, saved from a ledger area and loaded into every area. Document 02, U7: "Width 37 is saved with
+//! first count 7, the width last; width 13 still with 6, and a 7 with width 13 gives 12."
 
 use crate::card::Card;
 use crate::layout::{layout, placing, Areas};
 use crate::ledger::{list_of, valid};
-use crate::records::{count, counted_area, first_records, rising, Record, RECORD_BYTES};
-use crate::settings::Settings;
+use crate::records::{count, counted_area, first_records, rising, Record};
+use crate::settings::{Settings, IPV4_WIDTH, SETTINGS_COUNT};
 
-/// p, k, B, T, N and S.
-pub const SETTINGS_COUNT: usize = 6;
+/// A first count with which a file may begin: 6 leaves the width out, which is 13.
+pub const WITHOUT_WIDTH: u64 = 6;
+/// Likewise: 7 has it last.
+pub const WITH_WIDTH: u64 = 7;
 
-/// The first count, the settings and the second count, of two bytes each.
-pub const HEAD_BYTES: usize = 2 + 2 * SETTINGS_COUNT + 2;
+/// The first count that a table of this width is saved with.
+pub fn first_count(width: u64) -> u64 {
+    if width == IPV4_WIDTH {
+        WITHOUT_WIDTH
+    } else {
+        WITH_WIDTH
+    }
+}
+
+/// The bytes before the first record: the first count, so many settings and the second count, of two bytes each.
+pub fn head_bytes(first_count: u64) -> usize {
+    2 + 2 * first_count as usize + 2
+}
 
 /// Two sections, each after its count: the settings, then the records.
 pub fn snapshot(settings: &Settings, list: &[Record]) -> Vec<u8> {
-    let mut file = vec![0, SETTINGS_COUNT as u8];
-    for number in settings.numbers() {
+    let first = first_count(settings.width);
+    let written = &settings.numbers()[..first as usize];
+    let mut file = Vec::new();
+    for number in [&[first], written].concat() {
         file.extend([(number / 256) as u8, (number % 256) as u8]);
     }
-    file.extend(counted_area(list, list.len() as u64));
+    file.extend(counted_area(
+        list,
+        settings.record_bytes(),
+        list.len() as u64,
+    ));
     file
 }
 
@@ -35,7 +55,7 @@ pub fn save(card: &Card, ledger: &[u8], work: usize, target: &mut [u8]) -> u32 {
     if !valid(settings, ledger) {
         return 4;
     }
-    let list = list_of(ledger);
+    let list = list_of(settings, ledger);
     if placing(card, &list).side_need() > settings.s {
         return 9;
     }
@@ -48,7 +68,7 @@ pub fn save(card: &Card, ledger: &[u8], work: usize, target: &mut [u8]) -> u32 {
 }
 
 /// 0 with the file's settings handed back and the layout of its list in every area; or a refusal, zeros handed back and the areas as they
-/// were. Six numbers are lent for the settings, and another area for them is not of its length (2) and stays as it is.
+/// were. Seven numbers are lent for the settings, and another area for them is not of its length (2) and stays as it is.
 pub fn load(file: &[u8], areas: &mut Areas, work: usize, settings: &mut [u64]) -> u32 {
     match list_with_layout(file, areas, work, settings.len()) {
         Ok((of_file, new)) => {
@@ -65,20 +85,54 @@ pub fn load(file: &[u8], areas: &mut Areas, work: usize, settings: &mut [u64]) -
     }
 }
 
-/// What is judged once an allowed first count, its settings and the second count are there: the lowest that applies, but 9 only when nothing
-/// else does.
+/// What a file has before its records.
+#[derive(Clone, Copy, Debug, PartialEq, Eq)]
+pub struct Head {
+    pub first_count: u64,
+    pub settings: Settings,
+    pub second_count: u64,
+}
+
+impl Head {
+    /// None where "an allowed first count, its settings and the second count" are not there.
+    pub fn of(file: &[u8]) -> Option<Head> {
+        if file.len() < 2 {
+            return None;
+        }
+        let first_count = count(file);
+        let known = first_count == WITHOUT_WIDTH || first_count == WITH_WIDTH;
+        if !known || file.len() < head_bytes(first_count) {
+            return None;
+        }
+        let number = |i: u64| count(&file[2 * i as usize..]);
+        let [p, k, b, t, n, s] = [1, 2, 3, 4, 5, 6].map(number);
+        let width = if first_count == WITH_WIDTH {
+            number(7)
+        } else {
+            IPV4_WIDTH
+        };
+        Some(Head {
+            first_count,
+            settings: Settings::of([p, k, b, t, n, s, width]),
+            second_count: number(first_count + 1),
+        })
+    }
+}
+
+/// What is judged once the head is there: the lowest that applies, but 9 only when nothing else does.
 fn list_with_layout(
     file: &[u8],
     areas: &Areas,
     work: usize,
     for_settings: usize,
 ) -> Result<(Settings, Areas), u32> {
-    if file.len() < HEAD_BYTES || count(file) != SETTINGS_COUNT as u64 {
-        return Err(12);
-    }
-    let settings = Settings::of([2, 4, 6, 8, 10, 12].map(|at| count(&file[at..])));
-    let n = count(&file[14..]);
-    let list = first_records(&file[HEAD_BYTES..], n);
+    let Head {
+        first_count: first,
+        settings,
+        second_count: n,
+    } = Head::of(file).ok_or(12u32)?;
+    let places = &file[head_bytes(first)..];
+    let list = first_records(places, settings.record_bytes(), n);
     let mut apply = Vec::new();
     if !settings.allowed() {
         apply.push(1);
@@ -88,7 +142,10 @@ fn list_with_layout(
     if n > settings.n {
         apply.push(8);
     }
-    if file.len() as u64 != HEAD_BYTES as u64 + RECORD_BYTES as u64 * n {
+    // "a 7 with width 13 gives 12"; "a cut or overlong file"
+    if first != first_count(settings.width)
+        || places.len() as u64 != settings.record_bytes() as u64 * n
+    {
         apply.push(12);
     }
     if !rising(&list) {

@@ -6,7 +6,7 @@ use crate::flowrun::perform;
 use crate::layout::placing;
 use crate::ledger::Ledger;
 use crate::records::count;
-use crate::settings::Settings;
+use crate::settings::{Settings, IPV4_WIDTH};
 use std::fmt::Write;
 
 /// "six two-byte settings for each trial".
@@ -56,7 +56,9 @@ pub fn settings_of(trial: &[u8]) -> Result<Settings, u32> {
     if trial.len() < TRIAL_BYTES {
         return Err(14);
     }
-    let settings = Settings::of([0, 2, 4, 6, 8, 10].map(|at| count(&trial[at..])));
+    let [p, k, b, t, n, s] = [0, 2, 4, 6, 8, 10].map(|at| count(&trial[at..]));
+    // "U1, U3 and flowrun use 13" (document 02, U7)
+    let settings = Settings::of([p, k, b, t, n, s, IPV4_WIDTH]);
     if !settings.allowed() {
         return Err(1);
     }

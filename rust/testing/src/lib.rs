@@ -5,4 +5,5 @@ pub mod made;
 pub mod programs;
 pub mod random;
 pub mod seen;
+pub mod widths;
 pub mod windows;

@@ -1,6 +1,6 @@
 //! One trial: flows are added, then removed and added in turn.
 
-use flow::{Generator, Refusal, Settings, Table, KEY_BYTES};
+use flow::{Generator, Ipv4Key, Refusal, Settings, Table, IPV4_WIDTH};
 
 /// What is played.
 #[derive(Clone, Debug, PartialEq, Eq)]
@@ -39,10 +39,13 @@ pub fn outcome(load: &HeldLoad, trial: &[u8]) -> [u64; 7] {
     let settings: Vec<u64> = trial.chunks(2).map(number_of).collect();
     let refused = |answer| [answer, 0, 0, 0, 0, 0, 0];
     match settings[..] {
-        [p, k, b, t, n, s] if trial.len() == 12 => match Settings::new(p, k, b, t, n, s) {
-            Ok(settings) => Player::new(settings, load).play(load),
-            Err(refusal) => refused(refusal.number().into()),
-        },
+        // trials use width 13
+        [p, k, b, t, n, s] if trial.len() == 12 => {
+            match Settings::new(p, k, b, t, n, s, IPV4_WIDTH) {
+                Ok(settings) => Player::new(settings, load).play(load),
+                Err(refusal) => refused(refusal.number().into()),
+            }
+        }
         _ => refused(14),
     }
 }
@@ -50,7 +53,7 @@ pub fn outcome(load: &HeldLoad, trial: &[u8]) -> [u64; 7] {
 struct Player {
     table: Table,
     generator: Generator,
-    held: Vec<[u8; KEY_BYTES]>,
+    held: Vec<Ipv4Key>,
     side_need: u64,
     // 6, 7, 8 and 9
     refused: [u64; 4],
@@ -96,7 +99,7 @@ impl Player {
     fn add(&mut self) {
         let first = self.generator.next_number();
         let second = self.generator.next_number();
-        let mut key = [0; KEY_BYTES];
+        let mut key = Ipv4Key::default();
         key[..8].copy_from_slice(&first.to_be_bytes());
         key[8..].copy_from_slice(&second.to_be_bytes()[..5]);
         match self.table.add(&key, first as u32) {
@@ -158,7 +161,9 @@ mod tests {
 
     // The same on the model's plain ledger.
     fn by_model(load: &HeldLoad, settings: [u16; 6]) -> [u64; 7] {
-        let card = Card::new(model::settings::Settings::of(settings.map(u64::from)));
+        let [p, k, b, t, n, s] = settings.map(u64::from);
+        let settings = model::settings::Settings::of([p, k, b, t, n, s, IPV4_WIDTH]);
+        let card = Card::new(settings);
         let mut ledger = Ledger::default();
         let (s, w) = (load.generator.s, load.generator.w);
         let mut generator = bench_load::Generator { s, w };
