@@ -138,8 +138,8 @@ agrees x = same-key (x .computed) (x .stated)
 
 tested : all agrees cases ≡ true
 unfolding agrees cases choice need flows card-with hashes zero-key zero-key6 zero-key-numbers smallest smallest6 if-set rows-of H-from H hash numbers-of card-of
-    to-bytes record-bytes true-count clip all-top least-count chosen chooses choosers crowded belongs-to-side side-records side-need counter-bytes held without fill-of
-    key-wrong side-need-of side-short next refusal section first-count snapshot
+    to-bytes record-bytes true-count clip all-top least-count chosen chooses choosers crowded belongs-to-side side-records side-need counter-bytes held without
+    fill-of key-wrong side-need-of side-short next refusal section first-count snapshot
 tested = refl
 
 pub cases-hold : All (λ x. x .computed ≡ x .stated) cases

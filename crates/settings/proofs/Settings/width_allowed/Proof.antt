@@ -6,4 +6,5 @@ use Rattle.settings.proofs.Settings.width_allowed.Tie as tie
 
 pub width-allowed-spec : {M : Type 1} → statement M
 width-allowed-spec =
-    tie.close (tie.spec (λ c. rw (eq-eqb (c .before .args .width) ipv4-width (c .if1 .taken))) (λ c. rw (ne-eqb (c .before .args .width) ipv4-width (c .if1 .left))))
+    tie.close (tie.spec (λ c. rw (eq-eqb (c .before .args .width) ipv4-width (c .if1 .taken)))
+    (λ c. rw (ne-eqb (c .before .args .width) ipv4-width (c .if1 .left))))
