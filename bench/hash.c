@@ -21,6 +21,8 @@ static uint32_t lent_halves(const uint8_t *key, uint64_t *h) { return flow_hash_
 static uint32_t before_lent(const uint8_t *key, uint64_t *h) { return before_flow_hash_lent(BEFORE_FIRST table, TABLE, key, KEY, h, 1); }
 static uint32_t plain_gcc(const uint8_t *key, uint64_t *h) { return plain_hash_lent_by_gcc(WIDTH, table, TABLE, key, KEY, h, 1); }
 static uint32_t plain_clang(const uint8_t *key, uint64_t *h) { return plain_hash_lent_by_clang(WIDTH, table, TABLE, key, KEY, h, 1); }
+static uint32_t before_plain_gcc(const uint8_t *key, uint64_t *h) { return before_plain_hash_lent_by_gcc(BEFORE_FIRST table, TABLE, key, KEY, h, 1); }
+static uint32_t before_plain_clang(const uint8_t *key, uint64_t *h) { return before_plain_hash_lent_by_clang(BEFORE_FIRST table, TABLE, key, KEY, h, 1); }
 static uint32_t halves_gcc(const uint8_t *key, uint64_t *h) { return plain_hash_lent_by_gcc(WIDTH, halves, HALVES, key, KEY, h, 1); }
 static uint32_t halves_clang(const uint8_t *key, uint64_t *h) { return plain_hash_lent_by_clang(WIDTH, halves, HALVES, key, KEY, h, 1); }
 static uint32_t no_table(const uint8_t *key, uint64_t *h) { return flow_hash(WIDTH, key, KEY, h, 1); }
@@ -49,11 +51,19 @@ ROUND(lent_halves)
 ROUND(before_lent)
 ROUND(plain_gcc)
 ROUND(plain_clang)
+ROUND(before_plain_gcc)
+ROUND(before_plain_clang)
 ROUND(halves_gcc)
 ROUND(halves_clang)
 ROUND(no_table)
 ROUND(before_no_table)
 
+/* clang-format off */
+enum {
+    LENT, LENT_HALVES, BEFORE_LENT, PLAIN_GCC, PLAIN_CLANG, BEFORE_PLAIN_GCC, BEFORE_PLAIN_CLANG, HALVES_GCC, HALVES_CLANG, NO_TABLE, BEFORE_NO_TABLE,
+    CONTESTANTS
+};
+/* clang-format on */
 #define OF(way) way, round_##way
 static const struct {
     const char *name;
@@ -61,20 +71,37 @@ static const struct {
     uint32_t (*way)(const uint8_t *, uint64_t *);
     double (*round)(uint64_t *);
 } contestants[] = {
-    {WIDE ? "flow_hash_lent, by byte" : "flow_hash_lent", (function *)flow_hash_lent, OF(lent)},
-    {"flow_hash_lent, by half-byte", WHERE_WIDE(flow_hash_lent), OF(lent_halves)},
-    {"before: flow_hash_lent", (function *)before_flow_hash_lent, OF(before_lent)},
-    {WIDE ? "plain C by gcc, by byte" : "plain C by gcc", (function *)plain_hash_lent_by_gcc, OF(plain_gcc)},
-    {WIDE ? "plain C by clang, by byte" : "plain C by clang", (function *)plain_hash_lent_by_clang, OF(plain_clang)},
-    {"plain C by gcc, by half-byte", WHERE_WIDE(plain_hash_lent_by_gcc), OF(halves_gcc)},
-    {"plain C by clang, by half-byte", WHERE_WIDE(plain_hash_lent_by_clang), OF(halves_clang)},
-    {"flow_hash (no table)", (function *)flow_hash, OF(no_table)},
-    {"before: flow_hash (no table)", (function *)before_flow_hash, OF(before_no_table)},
+    [LENT] = {WIDE ? "flow_hash_lent, by byte" : "flow_hash_lent", (function *)flow_hash_lent, OF(lent)},
+    [LENT_HALVES] = {"flow_hash_lent, by half-byte", WHERE_WIDE(flow_hash_lent), OF(lent_halves)},
+    [BEFORE_LENT] = {"before: flow_hash_lent", (function *)before_flow_hash_lent, OF(before_lent)},
+    [PLAIN_GCC] = {WIDE ? "plain C by gcc, by byte" : "plain C by gcc", (function *)plain_hash_lent_by_gcc, OF(plain_gcc)},
+    [PLAIN_CLANG] = {WIDE ? "plain C by clang, by byte" : "plain C by clang", (function *)plain_hash_lent_by_clang, OF(plain_clang)},
+    [BEFORE_PLAIN_GCC] = {"before: plain C by gcc", (function *)before_plain_hash_lent_by_gcc, OF(before_plain_gcc)},
+    [BEFORE_PLAIN_CLANG] = {"before: plain C by clang", (function *)before_plain_hash_lent_by_clang, OF(before_plain_clang)},
+    [HALVES_GCC] = {"plain C by gcc, by half-byte", WHERE_WIDE(plain_hash_lent_by_gcc), OF(halves_gcc)},
+    [HALVES_CLANG] = {"plain C by clang, by half-byte", WHERE_WIDE(plain_hash_lent_by_clang), OF(halves_clang)},
+    [NO_TABLE] = {"flow_hash (no table)", (function *)flow_hash, OF(no_table)},
+    [BEFORE_NO_TABLE] = {"before: flow_hash (no table)", (function *)before_flow_hash, OF(before_no_table)},
 };
-enum { LENT, LENT_HALVES, CONTESTANTS = sizeof contestants / sizeof contestants[0] };
 
-int main(void)
+/* At width 13, of the door and of the earlier library's, each to the C that takes what it takes. */
+static void print_aims(FILE *to, const struct column *column)
 {
+    static const struct change changes[] = {
+        {LENT, PLAIN_GCC, BEFORE_LENT, BEFORE_PLAIN_GCC},
+        {LENT, PLAIN_CLANG, BEFORE_LENT, BEFORE_PLAIN_CLANG},
+    };
+    for (size_t i = 0; !WIDE && i < sizeof changes / sizeof changes[0]; i++) {
+        char what[100];
+        snprintf(what, sizeof what, "flow_hash_lent to %s: that ratio to the one before", contestants[changes[i].other].name);
+        print_aim(to, &(struct aim){.what = what, .columns = column, .count = 1, .bounds = {1.05}, .change = &changes[i]},
+                  contestants[changes[i].other].there != NULL && contestants[changes[i].before_other].there != NULL);
+    }
+}
+
+int main(int words, char **word)
+{
+    FILE *aims = open_aims(words, word);
     static struct column column = {.rounds = ROUNDS};
     uint64_t sums[CONTESTANTS] = {0};
     int order[CONTESTANTS], count = 0;
@@ -83,7 +110,7 @@ int main(void)
             keys[i][a] = (uint8_t)random_number();
         }
     }
-    if (flow_hash_table(WIDTH, table, TABLE) != 0 || (WIDE && flow_hash_table(WIDTH, halves, HALVES) != 0)) {
+    if (aims == NULL || flow_hash_table(WIDTH, table, TABLE) != 0 || (WIDE && flow_hash_table(WIDTH, halves, HALVES) != 0)) {
         return 1;
     }
     for (int c = 0; c < CONTESTANTS; c++) {
@@ -122,5 +149,6 @@ int main(void)
         }
         printf("\n");
     }
-    return 0;
+    print_aims(aims, &column);
+    return fclose(aims) != 0;
 }

@@ -2,10 +2,10 @@
 #include "plain.h"
 #include "plain_parts.h"
 
-uint32_t plain_hash_lent(uint64_t width, const uint64_t *table, size_t table_length, const uint8_t *key, size_t key_length, uint64_t *h,
+uint32_t plain_hash_lent(WIDTH_FIRST const uint64_t *table, size_t table_length, const uint8_t *key, size_t key_length, uint64_t *h,
                          size_t h_length)
 {
-    if (width != KEY) {
+    if (GIVEN_WIDTH != KEY) {
         return 1;
     }
     if (!is_table(table_length) || h_length != 1) {
@@ -19,11 +19,11 @@ uint32_t plain_hash_lent(uint64_t width, const uint64_t *table, size_t table_len
 }
 
 uint64_t plain_search_lent(const uint64_t *table, size_t table_length, uint64_t p, uint64_t k, uint64_t room, uint64_t top,
-                           uint64_t capacity, uint64_t side_places, uint64_t width, const uint8_t *clipped, size_t clipped_length,
+                           uint64_t capacity, uint64_t side_places WIDTH_LAST, const uint8_t *clipped, size_t clipped_length,
                            const uint8_t *buckets, size_t buckets_length, const uint8_t *side, size_t side_length, const uint8_t *key,
                            size_t key_length)
 {
-    uint32_t refused = judge_search(table_length, p, k, room, top, capacity, side_places, width, clipped_length, buckets_length, side_length);
+    uint32_t refused = judge_search(table_length, p, k, room, top, capacity, side_places, GIVEN_WIDTH, clipped_length, buckets_length, side_length);
     if (refused != 0) {
         return answer(refused, 0);
     }

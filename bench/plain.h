@@ -6,19 +6,31 @@
 #include <stddef.h>
 #include <stdint.h>
 
+/* The width as the doors take it, first of all or last of the settings. bin/bench --before compiles this C a second time, for the interface of the
+ * earlier library, so that its doors, too, stand beside C that takes what they take: of interface 1, six settings and no width. */
+#if PLAIN_INTERFACE == 1
+#define WIDTH_FIRST
+#define WIDTH_LAST
+#define GIVEN_WIDTH KEY
+#else
+#define WIDTH_FIRST uint64_t width,
+#define WIDTH_LAST , uint64_t width
+#define GIVEN_WIDTH width
+#endif
+
 /* As flow_hash_lent. */
-typedef uint32_t hash_lent(uint64_t width, const uint64_t *table, size_t table_length, const uint8_t *key, size_t key_length, uint64_t *h,
+typedef uint32_t hash_lent(WIDTH_FIRST const uint64_t *table, size_t table_length, const uint8_t *key, size_t key_length, uint64_t *h,
                            size_t h_length);
 
 /* As flow_search_lent. */
 typedef uint64_t search_lent(const uint64_t *table, size_t table_length, uint64_t p, uint64_t k, uint64_t room, uint64_t top,
-                             uint64_t capacity, uint64_t side_places, uint64_t width, const uint8_t *clipped, size_t clipped_length,
+                             uint64_t capacity, uint64_t side_places WIDTH_LAST, const uint8_t *clipped, size_t clipped_length,
                              const uint8_t *buckets, size_t buckets_length, const uint8_t *side, size_t side_length, const uint8_t *key,
                              size_t key_length);
 
 /* As flow_search_burst: a key after the other in keys, the answer of each in answers. */
 typedef uint32_t search_burst(const uint64_t *table, size_t table_length, uint64_t p, uint64_t k, uint64_t room, uint64_t top,
-                              uint64_t capacity, uint64_t side_places, uint64_t width, const uint8_t *clipped, size_t clipped_length,
+                              uint64_t capacity, uint64_t side_places WIDTH_LAST, const uint8_t *clipped, size_t clipped_length,
                               const uint8_t *buckets, size_t buckets_length, const uint8_t *side, size_t side_length, const uint8_t *keys,
                               size_t keys_length, uint64_t *answers, size_t answers_length);
 

@@ -18,6 +18,16 @@ double ratio_of(const struct column *column, int contestant, int other)
     return median(ratios, (size_t)column->rounds);
 }
 
+double change_of(const struct column *column, const struct change *change)
+{
+    static double changes[MOST_ROUNDS];
+    for (int round = 0; round < column->rounds; round++) {
+        changes[round] = column->times[change->contestant][round] / column->times[change->other][round] /
+                         (column->times[change->before][round] / column->times[change->before_other][round]);
+    }
+    return median(changes, (size_t)column->rounds);
+}
+
 void shuffle(int *contestants, int count)
 {
     for (int i = count - 1; i > 0; i--) {
@@ -38,6 +48,11 @@ void print_ratios(const struct column *of, int contestant, int other)
            ratio_of(&of[2], contestant, other));
 }
 
+void print_changes(const struct column *of, const struct change *change)
+{
+    printf(" %.2f / %.2f / %.2f |", change_of(&of[0], change), change_of(&of[1], change), change_of(&of[2], change));
+}
+
 FILE *open_aims(int words, char **word) { return fopen(words > 1 ? word[1] : "/dev/null", "a"); }
 
 void print_aim(FILE *to, const struct aim *aim, int measured)
@@ -55,7 +70,7 @@ void print_aim(FILE *to, const struct aim *aim, int measured)
         return;
     }
     for (int i = 0; i < aim->count; i++) {
-        ratios[i] = ratio_of(&aim->columns[i], aim->contestant, aim->other);
+        ratios[i] = aim->change != NULL ? change_of(&aim->columns[i], aim->change) : ratio_of(&aim->columns[i], aim->contestant, aim->other);
         fprintf(to, "%s %.2f", i == 0 ? "" : " /", ratios[i]);
     }
     fprintf(to, " |");

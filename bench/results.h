@@ -4,7 +4,7 @@
 
 #include <stdio.h>
 
-enum { MOST_CONTESTANTS = 26, MOST_ROUNDS = 401 };
+enum { MOST_CONTESTANTS = 32, MOST_ROUNDS = 401 };
 
 /* For a contestant that bin/bench links only where it is there; elsewhere its address is NULL. */
 #define WHERE_LINKED __attribute__((weak))
@@ -24,24 +24,33 @@ double time_of(const struct column *column, int contestant);
 /* The median of each round's ratio of two times. */
 double ratio_of(const struct column *column, int contestant, int other);
 
+/* The median of each round's ratio of two times to the ratio of two others: of a door to C, to that of an earlier library's door to C that takes what it
+ * takes. */
+struct change {
+    int contestant, other, before, before_other;
+};
+double change_of(const struct column *column, const struct change *change);
+
 /* Another order for each round, so that no contestant always follows the same one. */
 void shuffle(int *contestants, int count);
 
-/* A cell of a table, of three columns: hits / half / misses. Times, and the ratios of two contestants. */
+/* A cell of a table, of three columns: hits / half / misses. Times, the ratios of two contestants, and the change of such ratios. */
 void print_times(const struct column *of, int contestant);
 void print_ratios(const struct column *of, int contestant, int other);
+void print_changes(const struct column *of, const struct change *change);
 
 /* Where the table of aims gets its rows from: the file that bin/bench names, or nowhere. */
 FILE *open_aims(int words, char **word);
 
 /* A row of the table of aims: the ratio of two contestants in some columns, each with its bound. It is met where no ratio, rounded as it
- * is printed, is above its bound. */
+ * is printed, is above its bound. An aim on a change bounds that in place of the ratio. */
 struct aim {
     const char *what;
     int contestant, other;
     const struct column *columns;
     int count; /* of columns; where there are three, they are hits, half and misses */
     double bounds[3];
+    const struct change *change; /* NULL: the ratio */
 };
 void print_aim(FILE *to, const struct aim *aim, int measured);
 

@@ -21,7 +21,7 @@ static const struct settings shapes[] = {
     {256, 12, 3, 4, 15, 4096, 64},
     {1000, 12, 3, 4, 15, 4096, 64},
 };
-enum { LARGEST = 2, SPARSE_256, SPARSE_1000, SHAPES };
+enum { LARGEST = 2, SHAPES = sizeof shapes / sizeof shapes[0] };
 
 /* The C by each compiler that is there: bin/bench adds the compiler's name. */
 search_lent plain_search_lent_by_gcc WHERE_LINKED, plain_search_lent_by_clang WHERE_LINKED;
@@ -41,6 +41,10 @@ static uint64_t halves_gcc(const uint8_t *key) { return plain_search_lent_by_gcc
 static uint64_t halves_clang(const uint8_t *key) { return plain_search_lent_by_clang(halves, HALVES, AREAS, key, KEY); }
 static uint64_t tuned_gcc(const uint8_t *key) { return tuned_search_lent_by_gcc(table, TABLE, AREAS, key, KEY); }
 static uint64_t tuned_clang(const uint8_t *key) { return tuned_search_lent_by_clang(table, TABLE, AREAS, key, KEY); }
+static uint64_t before_plain_gcc(const uint8_t *key) { return before_plain_search_lent_by_gcc(table, TABLE, SIX BEFORE_WIDTH, LOOKUP, key, KEY); }
+static uint64_t before_plain_clang(const uint8_t *key) { return before_plain_search_lent_by_clang(table, TABLE, SIX BEFORE_WIDTH, LOOKUP, key, KEY); }
+static uint64_t before_tuned_gcc(const uint8_t *key) { return before_tuned_search_lent_by_gcc(table, TABLE, SIX BEFORE_WIDTH, LOOKUP, key, KEY); }
+static uint64_t before_tuned_clang(const uint8_t *key) { return before_tuned_search_lent_by_clang(table, TABLE, SIX BEFORE_WIDTH, LOOKUP, key, KEY); }
 static uint64_t chained(const uint8_t *key) { return chained_search(table, key); }
 static uint64_t hashmap(const uint8_t *key) { return hashmap_search(key); }
 static uint64_t rte(const uint8_t *key) { return rte_search(key); }
@@ -61,6 +65,14 @@ static uint32_t passes_gcc(const uint8_t *keys, size_t n, uint64_t *answers)
 static uint32_t passes_clang(const uint8_t *keys, size_t n, uint64_t *answers)
 {
     return tuned_search_burst_by_clang(table, TABLE, AREAS, keys, KEY * n, answers, n);
+}
+static uint32_t before_passes_gcc(const uint8_t *keys, size_t n, uint64_t *answers)
+{
+    return before_tuned_search_burst_by_gcc(table, TABLE, SIX BEFORE_WIDTH, LOOKUP, keys, KEY * n, answers, n);
+}
+static uint32_t before_passes_clang(const uint8_t *keys, size_t n, uint64_t *answers)
+{
+    return before_tuned_search_burst_by_clang(table, TABLE, SIX BEFORE_WIDTH, LOOKUP, keys, KEY * n, answers, n);
 }
 static uint32_t ahead_gcc(const uint8_t *keys, size_t n, uint64_t *answers)
 {
@@ -142,6 +154,10 @@ SINGLE(halves_gcc)
 SINGLE(halves_clang)
 SINGLE(tuned_gcc)
 SINGLE(tuned_clang)
+SINGLE(before_plain_gcc)
+SINGLE(before_plain_clang)
+SINGLE(before_tuned_gcc)
+SINGLE(before_tuned_clang)
 SINGLE(chained)
 SINGLE(hashmap)
 SINGLE(rte)
@@ -152,15 +168,18 @@ BURST(burst, 256)
 BURST(before_burst, 32)
 BURST(passes_gcc, 32)
 BURST(passes_clang, 32)
+BURST(before_passes_gcc, 32)
+BURST(before_passes_clang, 32)
 BURST(ahead_gcc, 32)
 BURST(ahead_clang, 32)
 BURST(bulk, 32)
 
 /* clang-format off */
 enum {
-    LENT, LENT_HALVES, NO_TABLE, BEFORE_LENT, BEFORE_NO_TABLE, PLAIN_GCC, PLAIN_CLANG, HALVES_GCC, HALVES_CLANG, TUNED_GCC, TUNED_CLANG, CHAINED,
-    HASHMAP, RTE, SINGLES,
-    BURST_1 = SINGLES, BURST_4, BURST_32, BURST_256, BEFORE_BURST_32, PASSES_GCC, PASSES_CLANG, AHEAD_GCC, AHEAD_CLANG, BULK, CONTESTANTS
+    LENT, LENT_HALVES, NO_TABLE, BEFORE_LENT, BEFORE_NO_TABLE, PLAIN_GCC, PLAIN_CLANG, HALVES_GCC, HALVES_CLANG, TUNED_GCC, TUNED_CLANG,
+    BEFORE_PLAIN_GCC, BEFORE_PLAIN_CLANG, BEFORE_TUNED_GCC, BEFORE_TUNED_CLANG, CHAINED, HASHMAP, RTE, SINGLES,
+    BURST_1 = SINGLES, BURST_4, BURST_32, BURST_256, BEFORE_BURST_32, PASSES_GCC, PASSES_CLANG, BEFORE_PASSES_GCC, BEFORE_PASSES_CLANG, AHEAD_GCC,
+    AHEAD_CLANG, BULK, CONTESTANTS
 };
 #define OF_SINGLE(way) all_##way, round_##way, branching_##way
 #define OF_BURST(way) all_##way, round_##way, NULL
@@ -181,6 +200,10 @@ static const struct {
     [HALVES_CLANG] = {"plain C by clang, by half-byte", WHERE_WIDE(plain_search_lent_by_clang), OF_SINGLE(halves_clang)},
     [TUNED_GCC] = {"tuned C by gcc", (function *)tuned_search_lent_by_gcc, OF_SINGLE(tuned_gcc)},
     [TUNED_CLANG] = {"tuned C by clang", (function *)tuned_search_lent_by_clang, OF_SINGLE(tuned_clang)},
+    [BEFORE_PLAIN_GCC] = {"before: plain C by gcc", (function *)before_plain_search_lent_by_gcc, OF_SINGLE(before_plain_gcc)},
+    [BEFORE_PLAIN_CLANG] = {"before: plain C by clang", (function *)before_plain_search_lent_by_clang, OF_SINGLE(before_plain_clang)},
+    [BEFORE_TUNED_GCC] = {"before: tuned C by gcc", (function *)before_tuned_search_lent_by_gcc, OF_SINGLE(before_tuned_gcc)},
+    [BEFORE_TUNED_CLANG] = {"before: tuned C by clang", (function *)before_tuned_search_lent_by_clang, OF_SINGLE(before_tuned_clang)},
     [CHAINED] = {"chained table, C by gcc", (function *)chained_search, OF_SINGLE(chained)},
     [HASHMAP] = {"std HashMap, Rust", (function *)hashmap_search, OF_SINGLE(hashmap)},
     [RTE] = {"rte_hash, DPDK", (function *)rte_search, OF_SINGLE(rte)},
@@ -191,11 +214,29 @@ static const struct {
     [BEFORE_BURST_32] = {"before: flow_search_burst of 32", (function *)before_flow_search_burst, OF_BURST(before_burst_32)},
     [PASSES_GCC] = {"C burst of 32 by gcc", (function *)tuned_search_burst_by_gcc, OF_BURST(passes_gcc_32)},
     [PASSES_CLANG] = {"C burst of 32 by clang", (function *)tuned_search_burst_by_clang, OF_BURST(passes_clang_32)},
+    [BEFORE_PASSES_GCC] = {"before: C burst of 32 by gcc", (function *)before_tuned_search_burst_by_gcc, OF_BURST(before_passes_gcc_32)},
+    [BEFORE_PASSES_CLANG] = {"before: C burst of 32 by clang", (function *)before_tuned_search_burst_by_clang, OF_BURST(before_passes_clang_32)},
     [AHEAD_GCC] = {"C burst of 32 by gcc, with prefetch", (function *)tuned_search_burst_ahead_by_gcc, OF_BURST(ahead_gcc_32)},
     [AHEAD_CLANG] = {"C burst of 32 by clang, with prefetch", (function *)tuned_search_burst_ahead_by_clang, OF_BURST(ahead_clang_32)},
     [BULK] = {"rte_hash, DPDK, bulk of 32", (function *)rte_search_bulk, OF_BURST(bulk_32)},
 };
 /* clang-format on */
+
+/* A door's ratio to C, and the ratio of the earlier library's door to the C that takes what that one takes. */
+static const struct change changes[] = {
+    {LENT, PLAIN_GCC, BEFORE_LENT, BEFORE_PLAIN_GCC},
+    {LENT, PLAIN_CLANG, BEFORE_LENT, BEFORE_PLAIN_CLANG},
+    {LENT, TUNED_GCC, BEFORE_LENT, BEFORE_TUNED_GCC},
+    {LENT, TUNED_CLANG, BEFORE_LENT, BEFORE_TUNED_CLANG},
+    {BURST_32, PASSES_GCC, BEFORE_BURST_32, BEFORE_PASSES_GCC},
+    {BURST_32, PASSES_CLANG, BEFORE_BURST_32, BEFORE_PASSES_CLANG},
+};
+enum { SINGLE_CHANGES = 4, CHANGES = sizeof changes / sizeof changes[0] };
+static int is_there(const struct change *change)
+{
+    return contestants[change->contestant].there != NULL && contestants[change->other].there != NULL &&
+           contestants[change->before].there != NULL && contestants[change->before_other].there != NULL;
+}
 
 /* What was measured: the bursts at the largest shape alone. */
 static struct column columns[SHAPES][MIXES], branching[MIXES];
@@ -350,6 +391,18 @@ static void print_tables(void)
             }
         }
     }
+    if (is_there(&changes[0])) {
+        print_shapes("flow_search_lent's ratio to it, to that ratio before");
+        for (int i = 0; i < SINGLE_CHANGES; i++) {
+            if (is_there(&changes[i])) {
+                printf("| %s |", contestants[changes[i].other].name);
+                for (int shape = 0; shape < SHAPES; shape++) {
+                    print_changes(columns[shape], &changes[i]);
+                }
+                printf("\n");
+            }
+        }
+    }
     printf("\n| %s4000 flows, p 12, the caller branches on each answer | ns a search: hits / half / misses | flow_search_lent's time to it "
            "|\n",
            WIDE ? "keys of 37 bytes: " : "");
@@ -405,14 +458,9 @@ static void print_aims(FILE *to)
     const struct aim aims[] = {
         {"flow_search_lent to tuned C by clang, 4,000 flows", LENT, TUNED_CLANG, columns[LARGEST], 3, {1.15, 1.15, 1.15}},
         {"flow_search_lent to rte_hash, 4,000 flows", LENT, RTE, columns[LARGEST], 3, {0.90, 1.00, 1.15}},
-        {"flow_search_lent to before, 256 flows in p 12, hits", LENT, BEFORE_LENT, columns[SPARSE_256], 1, {1.00}},
-        {"flow_search_lent to before, 1,000 flows in p 12, hits", LENT, BEFORE_LENT, columns[SPARSE_1000], 1, {1.00}},
-        {"flow_search (no table) to before, 4,000 flows", NO_TABLE, BEFORE_NO_TABLE, columns[LARGEST], 3, {1.00, 1.00, 1.00}},
         {"flow_search_burst of 32 to tuned C by clang, 4,000 flows", BURST_32, TUNED_CLANG, columns[LARGEST], 3, {0.80, 0.80, 0.80}},
         {"flow_search_burst of 32 to C burst by clang, 4,000 flows", BURST_32, PASSES_CLANG, columns[LARGEST], 3, {1.15, 1.15, 1.15}},
         {"flow_search_burst of 32 to rte_hash in bulk, 4,000 flows", BURST_32, BULK, columns[LARGEST], 3, {1.10, 0.70, 1.50}},
-        {"flow_search_lent to before, 4,000 flows", LENT, BEFORE_LENT, columns[LARGEST], 3, {1.05, 1.05, 1.05}},
-        {"flow_search_burst of 32 to before, 4,000 flows", BURST_32, BEFORE_BURST_32, columns[LARGEST], 3, {1.05, 1.05, 1.05}},
     };
     const struct aim wide_aims[] = {
         {"width 37, by byte: flow_search_lent to plain C by gcc, 4,000 flows", LENT, PLAIN_GCC, columns[LARGEST], 3, {1.30, 1.30, 1.30}},
@@ -428,6 +476,13 @@ static void print_aims(FILE *to)
     }
     for (size_t i = 0; !WIDE && i < sizeof aims / sizeof aims[0]; i++) {
         print_aim(to, &aims[i], contestants[aims[i].contestant].there != NULL && contestants[aims[i].other].there != NULL);
+    }
+    for (int i = 0; !WIDE && i < CHANGES; i++) {
+        char what[200];
+        snprintf(what, sizeof what, "%s to %s, 4,000 flows: that ratio to the one before", contestants[changes[i].contestant].name,
+                 contestants[changes[i].other].name);
+        print_aim(to, &(struct aim){.what = what, .columns = columns[LARGEST], .count = 3, .bounds = {1.05, 1.05, 1.05}, .change = &changes[i]},
+                  is_there(&changes[i]));
     }
 }
 

@@ -52,11 +52,11 @@ INLINED uint64_t search_chosen(struct choice choice, uint64_t room, uint64_t top
 }
 
 uint64_t tuned_search_lent(const uint64_t *table, size_t table_length, uint64_t p, uint64_t k, uint64_t room, uint64_t top,
-                           uint64_t capacity, uint64_t side_places, uint64_t width, const uint8_t *clipped, size_t clipped_length,
+                           uint64_t capacity, uint64_t side_places WIDTH_LAST, const uint8_t *clipped, size_t clipped_length,
                            const uint8_t *buckets,
                            size_t buckets_length, const uint8_t *side, size_t side_length, const uint8_t *key, size_t key_length)
 {
-    uint32_t refused = judge_search(table_length, p, k, room, top, capacity, side_places, width, clipped_length, buckets_length, side_length);
+    uint32_t refused = judge_search(table_length, p, k, room, top, capacity, side_places, GIVEN_WIDTH, clipped_length, buckets_length, side_length);
     if (refused != 0 || key_length != KEY) {
         return answer(refused != 0 ? refused : 3, 0);
     }
@@ -89,11 +89,11 @@ INLINED void three_passes(int ahead, const uint64_t *table, size_t table_length,
 }
 
 uint32_t tuned_search_burst(const uint64_t *table, size_t table_length, uint64_t p, uint64_t k, uint64_t room, uint64_t top,
-                            uint64_t capacity, uint64_t side_places, uint64_t width, const uint8_t *clipped, size_t clipped_length,
+                            uint64_t capacity, uint64_t side_places WIDTH_LAST, const uint8_t *clipped, size_t clipped_length,
                             const uint8_t *buckets, size_t buckets_length, const uint8_t *side, size_t side_length, const uint8_t *keys,
                             size_t keys_length, uint64_t *answers, size_t answers_length)
 {
-    uint32_t refused = judge_search(table_length, p, k, room, top, capacity, side_places, width, clipped_length, buckets_length, side_length);
+    uint32_t refused = judge_search(table_length, p, k, room, top, capacity, side_places, GIVEN_WIDTH, clipped_length, buckets_length, side_length);
     if (refused != 0 || keys_length != KEY * answers_length) {
         return refused != 0 ? refused : 3;
     }
@@ -102,11 +102,11 @@ uint32_t tuned_search_burst(const uint64_t *table, size_t table_length, uint64_t
 }
 
 uint32_t tuned_search_burst_ahead(const uint64_t *table, size_t table_length, uint64_t p, uint64_t k, uint64_t room, uint64_t top,
-                                  uint64_t capacity, uint64_t side_places, uint64_t width, const uint8_t *clipped, size_t clipped_length,
+                                  uint64_t capacity, uint64_t side_places WIDTH_LAST, const uint8_t *clipped, size_t clipped_length,
                                   const uint8_t *buckets, size_t buckets_length, const uint8_t *side, size_t side_length,
                                   const uint8_t *keys, size_t keys_length, uint64_t *answers, size_t answers_length)
 {
-    uint32_t refused = judge_search(table_length, p, k, room, top, capacity, side_places, width, clipped_length, buckets_length, side_length);
+    uint32_t refused = judge_search(table_length, p, k, room, top, capacity, side_places, GIVEN_WIDTH, clipped_length, buckets_length, side_length);
     if (refused != 0 || keys_length != KEY * answers_length) {
         return refused != 0 ? refused : 3;
     }
