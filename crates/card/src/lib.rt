@@ -1,6 +1,8 @@
 // The doors: every call as a C function, for a driver and control software to link. Each asks nothing of its caller; the definitions of
 // its answer and of each lent area at exit are in specs/Doors.antt.
 use hash::Numbers;
+use hash::by_table::by_bytes;
+use hash::h_with_table;
 use settings::Checked;
 use settings::Given;
 use settings::Settings;
@@ -153,7 +155,13 @@ pub extern "C" fn flow_hash_lent(width: u64, lent: &[u64], key: &[u8], h: &mut [
     if key.len() != bytes {
         return 3;
     }
-    h[0] = hash::h_with_table(lent, key);
+    // the width of an IPv4 flow's key as a constant, which the compiler knows
+    let given = if bytes == Settings::IPV4_WIDTH {
+        by_bytes(lent, &key[..Settings::IPV4_WIDTH])
+    } else {
+        h_with_table(lent, key)
+    };
+    h[0] = given;
     0
 }
 

@@ -94,10 +94,6 @@ pub fn h_with_table(table: &[u64], key: &[u8]) -> u64
     ensures { λ r. ⌜ (r ≡ H-by (now (table .entry)) (now (key .entry)))
         × (TableFor (length (now (key .entry))) (now (table .entry)) → r ≡ H-of (now (key .entry))) ⌝ }
 {
-    // the constant length lets the compiler unroll the loop
-    if key.len() == Settings::IPV4_WIDTH {
-        return by_bytes(table, &key[..Settings::IPV4_WIDTH]);
-    }
     if table.len() == key.len() * 256 {
         by_bytes(table, key)
     } else {

@@ -134,6 +134,11 @@ module _ (table : List ℕ) (t : plain.Settings) (clipped buckets side key : Lis
   abbrev long : Bool
   long = has (length table) (table-lengths (card-of t .width))
 
+  -- an area's length is wrong: 2, whatever the table's is
+  pub lent-areas-wrong : allowed t ≡ true → lengths-right t clipped buckets side ≡ false → judged-with-table table t clipped buckets side key ≡ Refused 2
+  unfolding judged-with-table judged-of
+  lent-areas-wrong a r = by-test long (λ l. rw (a, l, r)) (λ l. rw (a, l))
+
   pub lent-judged : long ≡ true → judged-with-table table t clipped buckets side key ≡ judged-of t clipped buckets side key
   unfolding judged-with-table judged-of
   lent-judged l = by-test (allowed t) (λ a. rw (a, l)) (λ a. rw a)

@@ -127,6 +127,12 @@ bucket-scannable {t} {buckets} {key} {from} p =
       most = omega (arith, r .room-high);
     }
 
+-- as many of its places as have records
+pub all-scannable : {place key : List ℕ} {n room : ℕ} → AllScannable place n room key → Scannable place n key × (n ≤ 4096)
+all-scannable {place} {key} {n} {room} p =
+    let there : n * (length key + class-width) ≤ room * (length key + class-width) = mul-le-mul-right (length key + class-width) (p .few) in
+    (record { fits = omega (arith, there, p .fits); short = p .short }, omega (arith, p .few, p .most))
+
 module _ {t : Settings} {side key : List ℕ} {n : ℕ} (p : InSide t side key n) where
   pub side-counted : 2 ≤ length side
   side-counted = omega (arith, bounds t (p .ok) .side-least, p .side-size)

@@ -71,7 +71,7 @@ fn search_chosen(
             if s.width == Settings::IPV4_WIDTH {
                 compare_ipv4_bucket(s, buckets, from, records, key)
             } else {
-                compare_wide_bucket(s, &buckets[..], from, records, &key[..])
+                compare_wide_bucket(s, buckets, from, records, key)
             }
         }
         Place::Side { records, read } => compare_side(s, side, records, read, key),
@@ -92,7 +92,7 @@ fn hash_all(s: Settings, table: &[u64], keys: &[u8], answers: &mut [u64])
         answers[i] = if width == Settings::IPV4_WIDTH {
             by_bytes(table, &one[..Settings::IPV4_WIDTH])
         } else {
-            h_with_table(&table[..], &one[..])
+            h_with_table(table, one)
         };
         i += 1;
     }

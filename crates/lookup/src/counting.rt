@@ -42,7 +42,7 @@ fn counted_at(
             if s.width == Settings::IPV4_WIDTH {
                 compare_ipv4_bucket(s, buckets, from, records, key)
             } else {
-                compare_wide_bucket(s, &buckets[..], from, records, &key[..])
+                compare_wide_bucket(s, buckets, from, records, key)
             }
         }
         Place::Side { records, read } => compare_side(s, side, records, read, key),
@@ -67,7 +67,7 @@ pub fn search_counted(
             let h = if s.width() == Settings::IPV4_WIDTH {
                 by_bytes(table, &key[..Settings::IPV4_WIDTH])
             } else {
-                h_with_table(&table[..], &key[..])
+                h_with_table(table, key)
             };
             counted_at(s, h, clipped, buckets, side, key)
         }

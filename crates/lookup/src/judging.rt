@@ -50,7 +50,8 @@ pub fn judge(given: Given, clipped: &[u8], buckets: &[u8], side: &[u8], key: &[u
     judge_areas(s, clipped, buckets, side, key)
 }
 
-// The same with a lent table of the hash, whose length is judged with the areas'.
+// The same with a lent table of the hash, whose length is judged with the areas': after them, so that the compiler asks for the width once and goes on to the
+// hash of a key of that width.
 pub fn judge_with_table(
     table: &[u64],
     given: Given,
@@ -65,10 +66,17 @@ pub fn judge_with_table(
     let Checked::Allowed(s) = checked else {
         return Judged::Refused(1);
     };
-    if !hash::table_length_right(table.len(), s.width()) {
+    let width = s.width();
+    if !areas_right(s, clipped, buckets, side) {
         return Judged::Refused(2);
     }
-    judge_areas(s, clipped, buckets, side, key)
+    if !hash::table_length_right(table.len(), width) {
+        return Judged::Refused(2);
+    }
+    if key.len() != width {
+        return Judged::Refused(3);
+    }
+    Judged::Ready(s)
 }
 
 // The same for a burst of n keys: 3 is keys not of n times the key's bytes, judged by a division, since a product may not fit.

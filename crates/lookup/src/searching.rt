@@ -123,7 +123,7 @@ pub fn compare_wide_bucket(s: Settings, buckets: &[u8], from: usize, n: usize, k
         (plain.among (take (bucket-size (card s) - 1) (drop from (now (buckets .entry)))) n 1 0) ⌝ }
 {
     let end = from + (s.bucket_size() - 1);
-    compare_all(&buckets[from..end], n, s.room, key, 1, 0)
+    compare(&buckets[from..end], n, key, 1, 0)
 }
 
 // The one or the other.
@@ -168,7 +168,7 @@ pub fn search_at(
             if s.width == Settings::IPV4_WIDTH {
                 compare_ipv4_bucket(s, buckets, from, records, key)
             } else {
-                compare_wide_bucket(s, &buckets[..], from, records, &key[..])
+                compare_wide_bucket(s, buckets, from, records, key)
             }
         }
         Place::Side { records, read } => compare_side(s, side, records, read, key),
@@ -209,7 +209,7 @@ pub fn search_with_table(
             let h = if s.width() == Settings::IPV4_WIDTH {
                 by_bytes(table, &key[..Settings::IPV4_WIDTH])
             } else {
-                h_with_table(&table[..], &key[..])
+                h_with_table(table, key)
             };
             search_at(s, h, clipped, buckets, side, key)
         }

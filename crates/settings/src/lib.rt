@@ -99,11 +99,12 @@ impl Settings {
             & (capacity <= Settings::CAPACITY_MOST);
         let side_places_within = (Settings::SIDE_PLACES_LEAST <= side_places)
             & (side_places <= Settings::SIDE_PLACES_MOST);
-        let width_within = Settings::width_allowed(width);
+        // asked for by itself, so that a search goes on by a branch at its width
+        if !Settings::width_allowed(width) {
+            return Checked::Refused;
+        }
         if p_within
-            & (k_within
-                & (room_within
-                    & (top_within & (capacity_within & (side_places_within & width_within)))))
+            & (k_within & (room_within & (top_within & (capacity_within & side_places_within))))
         {
             Checked::Allowed(Settings {
                 p: p as usize,

@@ -1,16 +1,18 @@
 -- `flow_hash_lent` meets its contract: 1, 2, 3, or the one number of the area is stored, and it is what the table gives.
-use mathlib.Core.Path.{_≡_, sym, _∙_}
+use mathlib.Core.Path.{_≡_, sym, ap, _∙_}
 use mathlib.Core.Bool.{true}
+use mathlib.Core.Logic.{⊎-elim}
 use mathlib.Core.List.{List, [], _∷_}
 use Prim.Native.Nat.{ℕ}
 use borrow.Author.Needs.{needs}
 use borrow.Author.Tests.{not-true, not-false}
 use lib.ListN.{length}
 use Rattle.theory.specs.Lists.{has}
-use Rattle.theory.specs.Settings.{width-allowed}
+use Rattle.theory.specs.Settings.{ipv4-width, width-allowed}
 use Rattle.theory.proofs.ListLaws.{all-stored}
 use Rattle.theory.proofs.SettingsLaws.{width-of}
-use Rattle.hash.specs.Table.{table-lengths}
+use Rattle.hash.specs.Table.{table-lengths, H-by}
+use Rattle.hash.proofs.KeyHashLaws.{ipv4-key, ipv4-fits, ipv4-gives}
 use Rattle.card.proofs.DoorLaws.{lent-1, hash-2, hash-3, hash-0, lent-wrong, lent-long}
 use Rattle.card.proofs.flow_hash_lent.Statement.{statement}
 use Rattle.card.proofs.flow_hash_lent.Tie as tie
@@ -64,15 +66,36 @@ returns-4 c =
     let e = known right in
     hash-3 _ (w e) (key e) (h e) (c .before .if3 .left) (c .if4 .taken) ∙ lent-long (w e) (key e) (h e) (allows e) (table right) (long right)
 
+-- ---- the key is of the width, and hashed
+module _ (c : tie.Else4) where
+  abbrev fits : tie.Else2
+  fits = c .before .before
+
+  lent : has (length (table fits)) (table-lengths (length (key (known fits)))) ≡ true
+  lent = rw (c .if4 .left) (long fits)
+
+  narrow : w (known fits) ≡ ipv4-width → length (key (known fits)) ≡ ipv4-width
+  narrow e = c .if4 .left ∙ e
+
+hashed : (c : tie.Joined5) → c .if5 .given ≡ H-by (table (fits (c .before))) (key (known (fits (c .before))))
+hashed c =
+    let at = c .before in
+    ⊎-elim (λ x. x .3 ∙ ipv4-gives (table (fits at)) (key (known (fits at))) (lent at) (narrow at (x .0 .taken)) (x .2 .ensures .0))
+    (λ x. x .2 ∙ x .1 .ensures .0) (c .if5 .came)
+
 returns-5 : tie.Need-returns-5
 returns-5 c =
-    let right = c .before .before .before in
+    let at = c .before in
+    let right = fits at in
     let e = known right in
-    let one = c .before .before .if3 .left in
-    rw (all-stored (c .h-with-table .result ∷ []) (h e) one, c .h-with-table .ensures .0)
-    (hash-0 _ (w e) (key e) (h e) one (c .before .if4 .left) ∙ lent-long (w e) (key e) (h e) (allows e) (table right) (long right))
+    let one = at .before .if3 .left in
+    rw (all-stored (c .if5 .given ∷ []) (h e) one, hashed c)
+    (hash-0 _ (w e) (key e) (h e) one (at .if4 .left) ∙ lent-long (w e) (key e) (h e) (allows e) (table right) (long right))
 
 pub flow-hash-lent-spec : {M : Type 1} → statement M
 flow-hash-lent-spec =
     tie.close (tie.spec (λ c κs. search needs) returns (λ c κs. width-of _ (allows c)) returns-2 returns-3 returns-4
-    (λ c κs. rw (c .if4 .left) (long (c .before .before))) (λ c. search needs) (λ c. search needs) returns-5)
+    (λ c. let at = c .before .before in let e = narrow at (c .before .if5 .taken) in
+    sym (ap length (ipv4-key (table (fits at)) (key (known (fits at))) (lent at) e) ∙ e))
+    (λ c κs. let at = c .before .before in ipv4-fits (table (fits at)) (key (known (fits at))) (lent at) (narrow at (c .before .if5 .taken)))
+    (λ c κs. lent (c .before)) (λ c. search needs) (λ c. search needs) returns-5)

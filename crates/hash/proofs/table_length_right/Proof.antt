@@ -1,10 +1,10 @@
 -- `hash::table_length_right` meets its contract: by byte at 13, by byte or by half-byte at 37.
 use mathlib.Core.Path.{_≡_, sym, _∙_}
 use mathlib.Core.Logic.{⊎-elim}
-use Prim.Native.Nat.{ℕ, _*_}
+use Prim.Native.Nat.{_*_}
 use native.Mathlib.Omega.{arith}
 use borrow.Author.Tests.{eq-eqb}
-use Rattle.theory.specs.Settings.{ipv4-width, ipv6-width}
+use Rattle.theory.specs.Settings.{ipv6-width}
 use Rattle.theory.proofs.SettingsLaws.{width-up-to}
 use Rattle.hash.specs.Digits.{table-length}
 use Rattle.hash.proofs.LentTableLaws.{length-allowed, length-allowed-13}

@@ -8,7 +8,7 @@ use Rattle.theory.specs.Settings.{bucket-size}
 use Rattle.theory.specs.Lookup.{answer-at}
 use Rattle.settings.specs.Checked.{paper, card}
 use Rattle.settings.proofs.Laws.{bounds}
-use Rattle.lookup.proofs.PlaceLaws.{bucket-lent, bucket-scannable}
+use Rattle.lookup.proofs.PlaceLaws.{bucket-lent, bucket-scannable, all-scannable}
 use Rattle.lookup.proofs.searching.compare_wide_bucket.Statement.{statement}
 use Rattle.lookup.proofs.searching.compare_wide_bucket.Tie as tie
 
@@ -23,11 +23,11 @@ module _ (c : tie.After-bucket-size) where
 
 returns : tie.Need-returns
 unfolding answer-at
-returns c = let at = c .before .before in rw (c .compare-all .ensures, start at .pre .wide, part at)
+returns c = let at = c .before .before in rw (c .compare .ensures, start at .pre .wide, part at)
 
 pub compare-wide-bucket-spec : {M : Type 1} → statement M
 compare-wide-bucket-spec =
     tie.close (tie.spec (λ c κs. search needs)
     (λ c. let b = bounds (paper (start c .args .s)) (start c .pre .ok) in omega (arith, c .bucket-size .ensures))
     (λ c. search needs) (λ c. search needs) (λ c. search needs) (λ c. search needs)
-    (λ c κs. let at = c .before in rw (part at) (bucket-scannable (start at .pre))) returns)
+    (λ c κs. let at = c .before in rw (part at) (all-scannable (bucket-scannable (start at .pre)))) returns)
