@@ -95,6 +95,11 @@ module _ (w : ℕ) (key h : List ℕ) (allows : width-allowed w ≡ true) where
     unfolding hash-lent-of
     lent-long long = rw (allows, long)
 
+    -- the area of H is wrong: 2, whatever the table's length is
+    pub lent-area-wrong : (length h ≡ 1 → ⊥) → refused 2 h ≡ hash-lent-of w table key h
+    lent-area-wrong wrong =
+        by-test (has (length table) (table-lengths w)) (λ l. hash-2 (H-by table key) w key h wrong ∙ lent-long l) lent-wrong
+
     -- with a right table of its length it is the door without a table
     pub lent-right : has (length table) (table-lengths w) ≡ true → TableFor w table → ((i : ℕ) → getD key i 0 < 256)
         → hash-lent-of w table key h ≡ hash-of w key h

@@ -146,22 +146,21 @@ pub extern "C" fn flow_hash_lent(width: u64, lent: &[u64], key: &[u8], h: &mut [
         return 1;
     }
     let bytes = width as usize;
-    if !hash::table_length_right(lent.len(), bytes) {
+    if h.len() != 1 {
         return 2;
     }
-    if h.len() != 1 {
+    if !hash::table_length_right(lent.len(), bytes) {
         return 2;
     }
     if key.len() != bytes {
         return 3;
     }
     // the width of an IPv4 flow's key as a constant, which the compiler knows
-    let given = if bytes == Settings::IPV4_WIDTH {
-        by_bytes(lent, &key[..Settings::IPV4_WIDTH])
-    } else {
-        h_with_table(lent, key)
-    };
-    h[0] = given;
+    if bytes == Settings::IPV4_WIDTH {
+        h[0] = by_bytes(lent, &key[..Settings::IPV4_WIDTH]);
+        return 0;
+    }
+    h[0] = h_with_table(lent, key);
     0
 }
 
