@@ -116,7 +116,7 @@ pub fn compare_ipv4_bucket(s: Settings, buckets: &[u8], from: usize, n: usize, k
     )
 }
 
-// The same with a key of any width.
+// The same with a key of any width, record by record up to the one with the key: of wide keys every place would cost more than a branch not foreseen.
 pub fn compare_wide_bucket(s: Settings, buckets: &[u8], from: usize, n: usize, key: &[u8]) -> Answer
     requires { ⌜ InBucket (paper s) (now buckets) (now key) from n ⌝ }
     ensures { λ r. ⌜ answer-of r ≡ plain.answer-at (card s) (now (key .entry))
