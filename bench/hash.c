@@ -94,8 +94,8 @@ static void print_aims(FILE *to, const struct column *column)
     for (size_t i = 0; !WIDE && i < sizeof changes / sizeof changes[0]; i++) {
         char what[100];
         snprintf(what, sizeof what, "flow_hash_lent to %s: that ratio to the one before", contestants[changes[i].other].name);
-        print_aim(to, &(struct aim){.what = what, .columns = column, .count = 1, .bounds = {1.05}, .change = &changes[i]},
-                  contestants[changes[i].other].there != NULL && contestants[changes[i].before_other].there != NULL);
+        print_aim_on_change(to, what, &changes[i], column, 1, 1.05,
+                            contestants[changes[i].other].there != NULL && contestants[changes[i].before_other].there != NULL);
     }
 }
 

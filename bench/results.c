@@ -55,33 +55,51 @@ void print_changes(const struct column *of, const struct change *change)
 
 FILE *open_aims(int words, char **word) { return fopen(words > 1 ? word[1] : "/dev/null", "a"); }
 
-void print_aim(FILE *to, const struct aim *aim, int measured)
+/* A row of the table of aims; where nothing was measured, ratios is NULL. */
+static void print_row(FILE *to, const char *what, int count, const double *bounds, const double *ratios)
 {
     static const char *const mixes[] = {"hits", "half", "misses"};
-    double ratios[3] = {0, 0, 0};
     int missed = 0;
-    fprintf(to, "| %s |", aim->what);
-    for (int i = 0; i < aim->count; i++) {
-        fprintf(to, "%s %.2f", i == 0 ? "" : " /", aim->bounds[i]);
+    fprintf(to, "| %s |", what);
+    for (int i = 0; i < count; i++) {
+        fprintf(to, "%s %.2f", i == 0 ? "" : " /", bounds[i]);
     }
     fprintf(to, " |");
-    if (!measured) {
+    if (ratios == NULL) {
         fprintf(to, " | not measured |\n");
         return;
     }
-    for (int i = 0; i < aim->count; i++) {
-        ratios[i] = aim->change != NULL ? change_of(&aim->columns[i], aim->change) : ratio_of(&aim->columns[i], aim->contestant, aim->other);
+    for (int i = 0; i < count; i++) {
         fprintf(to, "%s %.2f", i == 0 ? "" : " /", ratios[i]);
     }
     fprintf(to, " |");
-    for (int i = 0; i < aim->count; i++) {
-        if ((int)(100 * ratios[i] + 0.5) > (int)(100 * aim->bounds[i] + 0.5)) {
+    for (int i = 0; i < count; i++) {
+        if ((int)(100 * ratios[i] + 0.5) > (int)(100 * bounds[i] + 0.5)) {
             fprintf(to, "%s", missed == 0 ? " missed" : ",");
-            if (aim->count == 3) {
+            if (count == 3) {
                 fprintf(to, "%s %s", missed == 0 ? " at" : "", mixes[i]);
             }
             missed++;
         }
     }
     fprintf(to, "%s |\n", missed == 0 ? " met" : "");
+}
+
+void print_aim(FILE *to, const struct aim *aim, int measured)
+{
+    double ratios[3] = {0, 0, 0};
+    for (int i = 0; measured && i < aim->count; i++) {
+        ratios[i] = ratio_of(&aim->columns[i], aim->contestant, aim->other);
+    }
+    print_row(to, aim->what, aim->count, aim->bounds, measured ? ratios : NULL);
+}
+
+void print_aim_on_change(FILE *to, const char *what, const struct change *change, const struct column *columns, int count, double bound,
+                         int measured)
+{
+    double bounds[3] = {bound, bound, bound}, ratios[3] = {0, 0, 0};
+    for (int i = 0; measured && i < count; i++) {
+        ratios[i] = change_of(&columns[i], change);
+    }
+    print_row(to, what, count, bounds, measured ? ratios : NULL);
 }

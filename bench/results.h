@@ -43,15 +43,18 @@ void print_changes(const struct column *of, const struct change *change);
 FILE *open_aims(int words, char **word);
 
 /* A row of the table of aims: the ratio of two contestants in some columns, each with its bound. It is met where no ratio, rounded as it
- * is printed, is above its bound. An aim on a change bounds that in place of the ratio. */
+ * is printed, is above its bound. */
 struct aim {
     const char *what;
     int contestant, other;
     const struct column *columns;
     int count; /* of columns; where there are three, they are hits, half and misses */
     double bounds[3];
-    const struct change *change; /* NULL: the ratio */
 };
 void print_aim(FILE *to, const struct aim *aim, int measured);
+
+/* The same for a change of a ratio in some columns, all with one bound. */
+void print_aim_on_change(FILE *to, const char *what, const struct change *change, const struct column *columns, int count, double bound,
+                         int measured);
 
 #endif

@@ -481,8 +481,7 @@ static void print_aims(FILE *to)
         char what[200];
         snprintf(what, sizeof what, "%s to %s, 4,000 flows: that ratio to the one before", contestants[changes[i].contestant].name,
                  contestants[changes[i].other].name);
-        print_aim(to, &(struct aim){.what = what, .columns = columns[LARGEST], .count = 3, .bounds = {1.05, 1.05, 1.05}, .change = &changes[i]},
-                  is_there(&changes[i]));
+        print_aim_on_change(to, what, &changes[i], columns[LARGEST], 3, 1.05, is_there(&changes[i]));
     }
 }
 
