@@ -50,8 +50,8 @@ pub fn judge(given: Given, clipped: &[u8], buckets: &[u8], side: &[u8], key: &[u
     judge_areas(s, clipped, buckets, side, key)
 }
 
-// The same with a lent table of the hash, whose length is judged with the areas': after them, so that the compiler asks for the width once and goes on to the
-// hash of a key of that width.
+// The same with a lent table of the hash, whose length is judged with the areas': after them, so that one question for the width serves the table's length, the
+// key's and the hash that follows.
 pub fn judge_with_table(
     table: &[u64],
     given: Given,

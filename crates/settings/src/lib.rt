@@ -99,7 +99,7 @@ impl Settings {
             & (capacity <= Settings::CAPACITY_MOST);
         let side_places_within = (Settings::SIDE_PLACES_LEAST <= side_places)
             & (side_places <= Settings::SIDE_PLACES_MOST);
-        // asked for by itself, so that a search goes on by a branch at its width
+        // by itself, and not as one more of the tests below, so that the compiler makes a branch of it
         if !Settings::width_allowed(width) {
             return Checked::Refused;
         }
