@@ -16,7 +16,8 @@
  * no length beside its pointer.
  *
  * No area may be written while another call reads or writes it: the doors take no locks. Calls that only read may share areas. A search beside
- * an update of the same areas may answer absent for a held flow, or with another flow's class (beside a busy writer one search in four did).
+ * an update of the same areas may answer absent for a held flow, or with another flow's class (beside a busy writer one search in four did). For
+ * searches while a table is updated there is flow_live.h: readers search copies, which the writer publishes. It is argued and tested, not proved.
  *
  * The settings stand in this order:
  *   p            4 to 12; there are m = 2^p buckets
