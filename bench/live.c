@@ -3,7 +3,8 @@
  * in an order that is random in each round, and the median round. The sum of the answers is checked in every round: the writer adds and removes flows
  * that are not searched. */
 #define _XOPEN_SOURCE 700
-#include "live.h"
+#include "flow_live.h"
+#include "lookups.h"
 #include "rcu.h"
 #include "results.h"
 #include "timing.h"
@@ -15,18 +16,14 @@
 
 enum { QUIET_ROUNDS = 401, BUSY_ROUNDS = 51, BUSY_REPEATS = 64, PUBLISHES = 401, BURST = 32, COPIES = 3 };
 
-struct flow_live live;
+static struct flow_live live;
 static struct flow_live_reader reader;
 
-/* The writer's areas, and two copies that RCU or nobody guards. */
-static uint64_t lengths[6];
-static uint8_t *ledger, *clipped, *buckets, *side, *copies[2];
-static uint16_t *true_counts, *work;
+/* The writer's table, and two copies of its lookup areas that RCU guards. */
+static struct flow_settings settings;
+static struct flow_table own;
+static struct flow_lookup own_lookup, copies[2];
 static pthread_rwlock_t lock = PTHREAD_RWLOCK_INITIALIZER;
-
-#define OWN_LOOKUP clipped, lengths[2], buckets, lengths[3], side, lengths[4]
-#define OWN_AREAS ledger, lengths[0], true_counts, lengths[1], OWN_LOOKUP
-#define WORK work, lengths[5]
 
 /* What the writer does after an update. RESTS: nothing is updated. */
 enum writing { RESTS, KEEPS, PUBLISHES_LIVE, LOCKS, REPLACES };
@@ -47,28 +44,29 @@ static void update(void)
     static int held_now;
     static uint64_t flow;
     if (held_now) {
-        must(flow_remove(SIX, WIDTH, OWN_AREAS, WORK, absent[flow], KEY), "flow_remove");
+        must(flow_table_remove(&own, absent[flow]), "flow_remove");
         flow = (flow + 1) % set.flows;
     } else {
-        must(flow_add(SIX, WIDTH, OWN_AREAS, WORK, absent[flow], KEY, 7), "flow_add");
+        must(flow_table_add(&own, absent[flow], 7), "flow_add");
     }
     held_now = !held_now;
 }
 
-static void take_into(uint8_t *copy)
-{
-    flow_live_take(copy, clipped, lengths[2]);
-    flow_live_take(copy + live.buckets_at, buckets, lengths[3]);
-    flow_live_take(copy + live.side_at, side, lengths[4]);
-}
+static void publish(void) { must(flow_live_publish(&live, &own_lookup), "flow_live_publish"); }
 
-static void publish(void) { must(flow_live_publish(&live, OWN_LOOKUP), "flow_live_publish"); }
+/* The writer's areas into a copy: it is const for readers alone. */
+static void take_into(const struct flow_lookup *copy)
+{
+    flow_live_take((uint8_t *)(uintptr_t)copy->clipped, own_lookup.clipped, own_lookup.clipped_length);
+    flow_live_take((uint8_t *)(uintptr_t)copy->buckets, own_lookup.buckets, own_lookup.buckets_length);
+    flow_live_take((uint8_t *)(uintptr_t)copy->side, own_lookup.side, own_lookup.side_length);
+}
 
 static void replace_copy(void)
 {
     static int next;
-    take_into(copies[next]);
-    rcu_replace(copies[next]);
+    take_into(&copies[next]);
+    rcu_replace(&copies[next]);
     next = !next;
 }
 
@@ -144,7 +142,7 @@ static uint64_t live_searches(int to_a_section)
     for (int i = 0; i < LOOKUPS; i += to_a_section) {
         flow_live_enter(&reader);
         for (int j = 0; j < to_a_section; j++) {
-            sum += flow_live_search(&reader, table, TABLE, order[i + j], KEY);
+            sum += flow_live_search(&reader, table, TABLE, order[i + j]);
         }
         flow_live_leave(&reader);
     }
@@ -157,7 +155,7 @@ static uint64_t live_bursts(int to_a_section)
     (void)to_a_section;
     for (int i = 0; i < LOOKUPS; i += BURST) {
         flow_live_enter(&reader);
-        flow_live_search_burst(&reader, table, TABLE, order[i], BURST * KEY, answers, BURST);
+        flow_live_search_burst(&reader, table, TABLE, order[i], answers, BURST);
         flow_live_leave(&reader);
         sum += sum_of(answers);
     }
@@ -170,7 +168,7 @@ static uint64_t lock_searches(int to_a_section)
     for (int i = 0; i < LOOKUPS; i += to_a_section) {
         pthread_rwlock_rdlock(&lock);
         for (int j = 0; j < to_a_section; j++) {
-            sum += flow_search_lent(table, TABLE, SIX, WIDTH, OWN_LOOKUP, order[i + j], KEY);
+            sum += flow_table_search_lent(&own, table, TABLE, order[i + j]);
         }
         pthread_rwlock_unlock(&lock);
     }
@@ -283,14 +281,21 @@ static size_t lines_that_differ(const uint8_t *a, const uint8_t *b, size_t lengt
     return lines;
 }
 
-static const uint8_t *copy_at(unsigned copy) { return live.memory + copy * live.copy_bytes; }
-
 /* With no reader inside, copies 0 and 1 take turns. */
-static const uint8_t *next_copy(void) { return copy_at(atomic_load(&live.current) == 0); }
-
-static int compare_all(const uint8_t *copy)
+static struct flow_lookup next_copy(void)
 {
-    return memcmp(copy, clipped, lengths[2]) | memcmp(copy + live.buckets_at, buckets, lengths[3]) | memcmp(copy + live.side_at, side, lengths[4]);
+    const uint8_t *copy = live.memory + (atomic_load(&live.current) == 0 ? live.copy_bytes : 0);
+    struct flow_lookup next = own_lookup;
+    next.clipped = copy;
+    next.buckets = copy + live.buckets_at;
+    next.side = copy + live.side_at;
+    return next;
+}
+
+static int compare_all(const struct flow_lookup *copy)
+{
+    return memcmp(copy->clipped, own_lookup.clipped, copy->clipped_length) | memcmp(copy->buckets, own_lookup.buckets, copy->buckets_length)
+           | memcmp(copy->side, own_lookup.side, copy->side_length);
 }
 
 static double timed(void (*call)(void))
@@ -304,12 +309,13 @@ static void measure_publishes(void)
 {
     for (int round = 0; round < PUBLISHES; round++) {
         publishing.times[UPDATE][round] = timed(update);
-        const uint8_t *copy = next_copy();
-        lines_written[round] = (double)(lines_that_differ(copy, clipped, lengths[2]) + lines_that_differ(copy + live.buckets_at, buckets, lengths[3])
-                                        + lines_that_differ(copy + live.side_at, side, lengths[4]));
+        struct flow_lookup copy = next_copy();
+        lines_written[round] = (double)(lines_that_differ(copy.clipped, own_lookup.clipped, copy.clipped_length)
+                                        + lines_that_differ(copy.buckets, own_lookup.buckets, copy.buckets_length)
+                                        + lines_that_differ(copy.side, own_lookup.side, copy.side_length));
         publishing.times[PUBLISH][round] = timed(publish);
         double start = now();
-        if (compare_all(copy) != 0) {
+        if (compare_all(&copy) != 0) {
             puts("what was published differs");
             exit(1);
         }
@@ -322,8 +328,8 @@ static void measure_publishes(void)
 
 static void print_publishes(void)
 {
-    printf("\n| publishing, %" PRIu64 " flows, p 12%s: %" PRIu64 " bytes compared | us | its time to memcmp's |\n|---|---|---|\n", set.flows,
-           WIDE ? ", keys of 37 bytes" : "", lengths[2] + lengths[3] + lengths[4]);
+    printf("\n| publishing, %" PRIu64 " flows, p 12%s: %zu bytes compared | us | its time to memcmp's |\n|---|---|---|\n", set.flows,
+           WIDE ? ", keys of 37 bytes" : "", own_lookup.clipped_length + own_lookup.buckets_length + own_lookup.side_length);
     const char *const names[] = {"an update, flow_add or flow_remove", "flow_live_publish after it", "flow_live_publish, nothing altered",
                                  "memcmp of the bytes, which are alike"};
     for (int i = UPDATE; i <= COMPARE; i++) {
@@ -362,27 +368,30 @@ static void *lent(size_t bytes)
     return memory;
 }
 
+static struct flow_lookup copy_of_own(void)
+{
+    struct flow_lookup copy = own_lookup;
+    copy.clipped = lent(copy.clipped_length);
+    copy.buckets = lent(copy.buckets_length);
+    copy.side = lent(copy.side_length);
+    take_into(&copy);
+    return copy;
+}
+
 /* The writer's table: the flows that are held. */
 static void fill_own(void)
 {
-    must(flow_area_lengths(SIX, WIDTH, lengths, 6), "flow_area_lengths");
-    ledger = lent(lengths[0]);
-    true_counts = lent(2 * lengths[1]);
-    clipped = lent(lengths[2]);
-    buckets = lent(lengths[3]);
-    side = lent(lengths[4]);
-    work = lent(2 * lengths[5]);
-    must(flow_clear(SIX, WIDTH, OWN_AREAS), "flow_clear");
+    settings = (struct flow_settings){SIX, WIDTH};
+    size_t bytes = flow_live_bytes(&settings, COPIES), own_bytes = flow_table_bytes(&settings);
+    must(flow_table_open(&own, &settings, lent(own_bytes), own_bytes), "flow_table_open");
     for (uint64_t i = 0; i < set.flows; i++) {
-        must(flow_add(SIX, WIDTH, OWN_AREAS, WORK, held[i], KEY, classes[i]), "flow_add");
+        must(flow_table_add(&own, held[i], classes[i]), "flow_table_add");
     }
-    size_t bytes = flow_live_bytes(SIX, WIDTH, COPIES);
-    must(flow_live_open(&live, SIX, WIDTH, lent(bytes), bytes, &reader, 1), "flow_live_open");
+    own_lookup = flow_lookup_of(&own.areas);
+    must(flow_live_open(&live, &settings, lent(bytes), bytes, &reader, 1), "flow_live_open");
     publish();
-    copies[0] = lent(live.copy_bytes);
-    copies[1] = lent(live.copy_bytes);
-    take_into(copies[0]);
-    take_into(copies[1]);
+    copies[0] = copy_of_own();
+    copies[1] = copy_of_own();
 }
 
 int main(int words, char **word)
@@ -402,7 +411,7 @@ int main(int words, char **word)
     }
     if (contestants[RCU].there != NULL) {
         rcu_start_reader();
-        rcu_replace(copies[1]);
+        rcu_replace(&copies[1]);
     }
     measure_publishes();
     for (int round = 0; round < QUIET_ROUNDS; round++) {

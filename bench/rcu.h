@@ -3,13 +3,13 @@
 #ifndef RCU_H
 #define RCU_H
 
+#include "flow.h"
 #include "results.h"
-#include <stdint.h>
 
 void rcu_start_reader(void) WHERE_LINKED;
 
 /* The writer: another copy is current from now on; it returns when no section has the one before. */
-void rcu_replace(const uint8_t *copy) WHERE_LINKED;
+void rcu_replace(const struct flow_lookup *copy) WHERE_LINKED;
 
 /* Searches of the keys of a round, so many to a section; the sum of the answers. */
 uint64_t rcu_searches(int to_a_section) WHERE_LINKED;

@@ -12,22 +12,18 @@
 #include <stdlib.h>
 
 /* 256 buckets, 3 hashes a key, room for 2 records a bucket, top count 4, at most 128 flows, 8 side places, keys of 13 bytes. */
-#define SETTINGS 8, 3, 2, 4, 128, 8, KEY
-enum { KEY = FLOW_IPV4_WIDTH, RECORD = FLOW_RECORD_BYTES(KEY), TABLE = FLOW_HASH_TABLE_NUMBERS(KEY) };
+static const struct flow_settings settings = {.p = 8, .k = 3, .room = 2, .top = 4, .capacity = 128, .side_places = 8, .width = FLOW_IPV4_WIDTH};
+enum { KEY = FLOW_IPV4_WIDTH, HASHES = FLOW_HASH_TABLE_NUMBERS(KEY) };
 
-/* Control software's own areas, which no other thread touches. */
-static uint8_t ledger[2 + RECORD * 128], clipped[256 / 2], buckets[256 * (1 + RECORD * 2)], side[2 + RECORD * 8];
-static uint16_t true_counts[256], work[2 * 256];
+/* Control software's own table, which no other thread touches. */
+static struct flow_table table;
+static struct flow_lookup lookup;
 
-#define LOOKUP clipped, sizeof clipped, buckets, sizeof buckets, side, sizeof side
-#define AREAS ledger, sizeof ledger, true_counts, 256, LOOKUP
-#define WORK work, 2 * 256
-
-/* What the two threads share: copies for one reader and two more, so that no publish waits; and the hash table, which is filled once. */
+/* What the two threads share: copies for one reader and two more, so that no publish waits; and the numbers for H, which are filled in once. */
 enum { READERS = 1, COPIES = READERS + 2, BURST = 32 };
 static struct flow_live live;
 static struct flow_live_reader reader[READERS];
-static uint64_t table[TABLE];
+static uint64_t hashes[HASHES];
 static atomic_int stop;
 static atomic_ulong bursts; /* that the traffic thread has done */
 
@@ -57,9 +53,9 @@ struct traffic {
 static void count(struct traffic *traffic, int flow, uint64_t answer)
 {
     if (flow < LINES) {
-        traffic->lines_missed += answer != LINE_CLASS;
-    } else {
-        traffic->wrong_classes += answer != SUBSCRIBER_CLASS && answer >> 32 != 100;
+        traffic->lines_missed += flow_answer_of(answer) != FLOW_HELD || flow_class_of(answer) != LINE_CLASS;
+    } else if (flow_answer_of(answer) != FLOW_ABSENT) {
+        traffic->wrong_classes += flow_answer_of(answer) != FLOW_HELD || flow_class_of(answer) != SUBSCRIBER_CLASS;
     }
 }
 
@@ -76,7 +72,7 @@ static void *search_on(void *counted)
             make_key(keys[i], flows[i]);
         }
         flow_live_enter(reader);
-        must("flow_live_search_burst", flow_live_search_burst(reader, table, TABLE, keys[0], sizeof keys, answers, BURST));
+        must("flow_live_search_burst", flow_live_search_burst(reader, hashes, HASHES, keys[0], answers, BURST));
         flow_live_leave(reader);
         for (int i = 0; i < BURST; i++) {
             count(counted, flows[i], answers[i]);
@@ -90,19 +86,19 @@ static void add(int flow, uint32_t class)
 {
     uint8_t key[KEY];
     make_key(key, flow);
-    must("flow_add", flow_add(SETTINGS, AREAS, WORK, key, KEY, class));
+    must("flow_table_add", flow_table_add(&table, key, class));
 }
 
 static void take_out(int flow)
 {
     uint8_t key[KEY];
     make_key(key, flow);
-    must("flow_remove", flow_remove(SETTINGS, AREAS, WORK, key, KEY));
+    must("flow_table_remove", flow_table_remove(&table, key));
 }
 
 static void publish(void)
 {
-    must("flow_live_publish", flow_live_publish(&live, LOOKUP));
+    must("flow_live_publish", flow_live_publish(&live, &lookup));
 }
 
 /* The control loop: a subscriber comes and another goes, and both are published at once. */
@@ -126,15 +122,17 @@ static void update_on(void)
 
 int main(void)
 {
-    size_t bytes = flow_live_bytes(SETTINGS, COPIES);
+    size_t table_bytes = flow_table_bytes(&settings), bytes = flow_live_bytes(&settings, COPIES);
+    void *own = malloc(table_bytes);
     uint8_t *memory = aligned_alloc(FLOW_LIVE_LINE, bytes);
-    if (memory == NULL) {
-        fputs("no memory for the copies\n", stderr);
+    if (own == NULL || memory == NULL) {
+        fputs("no memory for the table and its copies\n", stderr);
         return 1;
     }
-    must("flow_hash_table", flow_hash_table(KEY, table, TABLE));
-    must("flow_clear", flow_clear(SETTINGS, AREAS));
-    must("flow_live_open", flow_live_open(&live, SETTINGS, memory, bytes, reader, READERS));
+    must("flow_hash_table", flow_hash_table(KEY, hashes, HASHES));
+    must("flow_table_open", flow_table_open(&table, &settings, own, table_bytes));
+    must("flow_live_open", flow_live_open(&live, &settings, memory, bytes, reader, READERS));
+    lookup = flow_lookup_of(&table.areas);
     for (int flow = 0; flow < LINES + HELD; flow++) {
         add(flow, flow < LINES ? LINE_CLASS : SUBSCRIBER_CLASS);
     }
@@ -154,5 +152,6 @@ int main(void)
     printf("packets of leased lines without their class: %lu\n", traffic.lines_missed);
     printf("packets of subscribers with another class than theirs: %lu\n", traffic.wrong_classes);
     free(memory);
+    free(own);
     return traffic.lines_missed + traffic.wrong_classes != 0;
 }

@@ -93,6 +93,29 @@ extern "C" {
 /* A file before its first record: the count of the settings, which leaves width 13 out, these, the count of the records, in two bytes each. */
 #define FLOW_FILE_HEAD_BYTES(width) ((width) == FLOW_IPV4_WIDTH ? 16 : 18)
 
+/* What a door answers, by name: the list above has what each number means. */
+enum flow_answer {
+    FLOW_DONE = 0,
+    FLOW_HELD = 0, /* of a search */
+    FLOW_BAD_SETTINGS = 1,
+    FLOW_BAD_AREA_LENGTH = 2,
+    FLOW_BAD_KEY_LENGTH = 3,
+    FLOW_DAMAGED_LEDGER = 4,
+    FLOW_DAMAGED_LOOKUP = 5,
+    FLOW_ALREADY_HELD = 6,
+    FLOW_NOT_HELD = 7,
+    FLOW_FULL = 8,
+    FLOW_SIDE_FULL = 9,
+    FLOW_BAD_PACKET_HEADER = 10,
+    FLOW_PORTS_MISSING = 11,
+    FLOW_BAD_FILE_LENGTH = 12,
+    FLOW_BAD_FILE_ORDER = 13,
+    FLOW_BAD_INPUT = 14, /* the programs' alone */
+    FLOW_BAD_LOAD = 15,  /* the programs' alone */
+    FLOW_BAD_PACKET6_HEADER = 16,
+    FLOW_ABSENT = 100 /* of a search */
+};
+
 /* The settings' verdict: 0, or 1 when one is out of range. */
 uint32_t flow_settings_check(uint64_t p, uint64_t k, uint64_t room, uint64_t top, uint64_t capacity, uint64_t side_places, uint64_t width);
 
@@ -330,6 +353,198 @@ struct flow_generator {
  * that a bench draws the same ones. Lent: generator, with any s and w; an s of zero, which the program refuses, stays zero.
  * It steps both, and returns s + w modulo 2^64, both after the step. */
 uint64_t flow_generator_next(struct flow_generator *generator);
+
+/* The same with structs. What follows is no door but a few lines of C over the doors, and is not proved. */
+
+/* The two parts of what a search returns. */
+static inline enum flow_answer flow_answer_of(uint64_t found) { return (enum flow_answer)(found >> 32); }
+static inline uint32_t flow_class_of(uint64_t found) { return (uint32_t)(found & UINT32_MAX); }
+
+struct flow_settings {
+    uint64_t p, k, room, top, capacity, side_places, width;
+};
+
+/* The six areas, each with its length. */
+struct flow_areas {
+    uint8_t *ledger;
+    size_t ledger_length;
+    uint16_t *true_counts;
+    size_t true_counts_length;
+    uint8_t *clipped;
+    size_t clipped_length;
+    uint8_t *buckets;
+    size_t buckets_length;
+    uint8_t *side;
+    size_t side_length;
+    uint16_t *work;
+    size_t work_length;
+};
+
+/* The lookup areas, for who only reads them. */
+struct flow_lookup {
+    const uint8_t *clipped;
+    size_t clipped_length;
+    const uint8_t *buckets;
+    size_t buckets_length;
+    const uint8_t *side;
+    size_t side_length;
+};
+
+struct flow_table {
+    struct flow_settings settings;
+    struct flow_areas areas;
+};
+
+/* What a struct holds, as the arguments of a door: flow_search(FLOW_SETTINGS(&settings), FLOW_LOOKUP(&lookup), key, key_length). */
+#define FLOW_SETTINGS(of) (of)->p, (of)->k, (of)->room, (of)->top, (of)->capacity, (of)->side_places, (of)->width
+#define FLOW_LOOKUP(of) (of)->clipped, (of)->clipped_length, (of)->buckets, (of)->buckets_length, (of)->side, (of)->side_length
+#define FLOW_AREAS(of) (of)->ledger, (of)->ledger_length, (of)->true_counts, (of)->true_counts_length, FLOW_LOOKUP(of)
+#define FLOW_WORK(of) (of)->work, (of)->work_length
+
+static inline struct flow_lookup flow_lookup_of(const struct flow_areas *areas)
+{
+    struct flow_lookup lookup = {FLOW_LOOKUP(areas)};
+    return lookup;
+}
+
+/* The bytes of all six areas; 0 where a setting is out of range. */
+static inline size_t flow_table_bytes(const struct flow_settings *settings)
+{
+    uint64_t n[6];
+    if (flow_area_lengths(FLOW_SETTINGS(settings), n, 6) != FLOW_DONE) {
+        return 0;
+    }
+    return (size_t)(n[0] + 2 * n[1] + n[2] + n[3] + n[4] + 2 * n[5]);
+}
+
+/* A table in lent memory, cleared. Lent for as long as the table is used: memory, of flow_table_bytes bytes, aligned for 16-bit numbers.
+ * 0. 1: a setting is out of range. 2: memory is not of its length. Refused, nothing is altered. */
+static inline uint32_t flow_table_open(struct flow_table *table, const struct flow_settings *settings, void *memory, size_t memory_length)
+{
+    uint64_t n[6];
+    uint8_t *bytes = (uint8_t *)memory;
+    struct flow_areas *areas = &table->areas;
+    if (flow_area_lengths(FLOW_SETTINGS(settings), n, 6) != FLOW_DONE) {
+        return FLOW_BAD_SETTINGS;
+    }
+    if (memory_length != flow_table_bytes(settings)) {
+        return FLOW_BAD_AREA_LENGTH;
+    }
+    areas->true_counts = (uint16_t *)memory;
+    areas->true_counts_length = (size_t)n[1];
+    areas->work = areas->true_counts + n[1];
+    areas->work_length = (size_t)n[5];
+    areas->ledger = bytes + 2 * (n[1] + n[5]);
+    areas->ledger_length = (size_t)n[0];
+    areas->clipped = areas->ledger + n[0];
+    areas->clipped_length = (size_t)n[2];
+    areas->buckets = areas->clipped + n[2];
+    areas->buckets_length = (size_t)n[3];
+    areas->side = areas->buckets + n[3];
+    areas->side_length = (size_t)n[4];
+    table->settings = *settings;
+    return flow_clear(FLOW_SETTINGS(settings), FLOW_AREAS(areas));
+}
+
+/* How many flows a table holds. */
+static inline size_t flow_table_count(const struct flow_table *table)
+{
+    return (size_t)(table->areas.ledger[0] << 8 | table->areas.ledger[1]);
+}
+
+/* The doors of a table, whose comments have what each answers. A key is of the table's width. */
+static inline uint32_t flow_table_clear(struct flow_table *table)
+{
+    return flow_clear(FLOW_SETTINGS(&table->settings), FLOW_AREAS(&table->areas));
+}
+
+static inline uint32_t flow_table_add(struct flow_table *table, const uint8_t *key, uint32_t class_number)
+{
+    return flow_add(FLOW_SETTINGS(&table->settings), FLOW_AREAS(&table->areas), FLOW_WORK(&table->areas), key, (size_t)table->settings.width,
+                    class_number);
+}
+
+static inline uint32_t flow_table_change(struct flow_table *table, const uint8_t *key, uint32_t class_number)
+{
+    return flow_change(FLOW_SETTINGS(&table->settings), FLOW_AREAS(&table->areas), FLOW_WORK(&table->areas), key, (size_t)table->settings.width,
+                       class_number);
+}
+
+static inline uint32_t flow_table_remove(struct flow_table *table, const uint8_t *key)
+{
+    return flow_remove(FLOW_SETTINGS(&table->settings), FLOW_AREAS(&table->areas), FLOW_WORK(&table->areas), key, (size_t)table->settings.width);
+}
+
+static inline uint64_t flow_table_search(const struct flow_table *table, const uint8_t *key)
+{
+    return flow_search(FLOW_SETTINGS(&table->settings), FLOW_LOOKUP(&table->areas), key, (size_t)table->settings.width);
+}
+
+/* hashes: the table that flow_hash_table filled. */
+static inline uint64_t flow_table_search_lent(const struct flow_table *table, const uint64_t *hashes, size_t hashes_length, const uint8_t *key)
+{
+    return flow_search_lent(hashes, hashes_length, FLOW_SETTINGS(&table->settings), FLOW_LOOKUP(&table->areas), key,
+                            (size_t)table->settings.width);
+}
+
+/* n keys, one after the other, and a number for each answer. */
+static inline uint32_t flow_table_search_burst(const struct flow_table *table, const uint64_t *hashes, size_t hashes_length, const uint8_t *keys,
+                                               uint64_t *answers, size_t n)
+{
+    return flow_search_burst(hashes, hashes_length, FLOW_SETTINGS(&table->settings), FLOW_LOOKUP(&table->areas), keys,
+                             n * (size_t)table->settings.width, answers, n);
+}
+
+/* place: of 2 numbers. */
+static inline uint64_t flow_table_search_place(const struct flow_table *table, const uint8_t *key, uint64_t *place)
+{
+    return flow_search_place(FLOW_SETTINGS(&table->settings), FLOW_LOOKUP(&table->areas), key, (size_t)table->settings.width, place, 2);
+}
+
+/* counts: of 3 numbers. */
+static inline uint64_t flow_table_search_counts(const struct flow_table *table, const uint8_t *key, uint32_t *counts)
+{
+    return flow_search_counts(FLOW_SETTINGS(&table->settings), FLOW_LOOKUP(&table->areas), key, (size_t)table->settings.width, counts, 3);
+}
+
+static inline uint64_t flow_table_search_counts_lent(const struct flow_table *table, const uint64_t *hashes, size_t hashes_length,
+                                                     const uint8_t *key, uint32_t *counts)
+{
+    return flow_search_counts_lent(hashes, hashes_length, FLOW_SETTINGS(&table->settings), FLOW_LOOKUP(&table->areas), key,
+                                   (size_t)table->settings.width, counts, 3);
+}
+
+/* totals: of 4 numbers. */
+static inline uint32_t flow_table_tally(const struct flow_table *table, uint32_t *totals)
+{
+    return flow_tally(FLOW_SETTINGS(&table->settings), table->areas.ledger, table->areas.ledger_length, FLOW_LOOKUP(&table->areas), totals, 4);
+}
+
+/* The bytes of the file that a table is saved in. */
+static inline size_t flow_table_file_bytes(const struct flow_table *table)
+{
+    size_t width = (size_t)table->settings.width;
+    return FLOW_FILE_HEAD_BYTES(width) + FLOW_RECORD_BYTES(width) * flow_table_count(table);
+}
+
+static inline uint32_t flow_table_save(struct flow_table *table, uint8_t *target, size_t target_length)
+{
+    return flow_save(FLOW_SETTINGS(&table->settings), table->areas.ledger, table->areas.ledger_length, FLOW_WORK(&table->areas), target,
+                     target_length);
+}
+
+/* Into a table whose areas have the lengths that the file's settings ask for. 0: the table has the file's settings and flows. Refused: it is as it
+ * was. */
+static inline uint32_t flow_table_load(struct flow_table *table, const uint8_t *file, size_t file_length)
+{
+    uint64_t n[FLOW_SETTINGS_COUNT];
+    uint32_t answer = flow_load(file, file_length, FLOW_AREAS(&table->areas), FLOW_WORK(&table->areas), n, FLOW_SETTINGS_COUNT);
+    if (answer == FLOW_DONE) {
+        struct flow_settings settings = {n[0], n[1], n[2], n[3], n[4], n[5], n[6]};
+        table->settings = settings;
+    }
+    return answer;
+}
 
 #ifdef __cplusplus
 }

@@ -31,12 +31,12 @@
  *
  * It is for C11 and later C with <stdatomic.h>. C++ and older C cannot use it: call it in a file of C11, through functions of that file.
  *
- *     uint8_t *memory = aligned_alloc(64, flow_live_bytes(SETTINGS, COPIES));            COPIES is readers + 2
- *     flow_live_open(&live, SETTINGS, memory, flow_live_bytes(SETTINGS, COPIES), readers, READERS);
- *   the writer:                                                                         a reader:
- *     flow_add(SETTINGS, AREAS, ..); flow_remove(SETTINGS, AREAS, ..);                    flow_live_enter(&readers[i]);
- *     flow_live_publish(&live, clipped, clipped_length, buckets, ..);                     flow_live_search(&readers[i], table, TABLE, key, KEY);
- *                                                                                         flow_live_leave(&readers[i]);
+ *     uint8_t *memory = aligned_alloc(64, flow_live_bytes(&settings, READERS + 2));
+ *     flow_live_open(&live, &settings, memory, flow_live_bytes(&settings, READERS + 2), readers, READERS);
+ *   the writer, of a struct flow_table and its flow_lookup_of:           a reader, with its struct flow_live_reader:
+ *     flow_table_add(&table, key, class);                                  flow_live_enter(reader);
+ *     flow_table_remove(&table, another);                                  found = flow_live_search(reader, hashes, HASHES, key);
+ *     flow_live_publish(&live, &lookup);                                   flow_live_leave(reader);
  * examples/traffic.c is such a program.
  */
 #ifndef FLOW_LIVE_H
@@ -70,22 +70,16 @@ struct flow_live_reader {
 };
 
 struct flow_live {
-    uint64_t settings[FLOW_SETTINGS_COUNT];
-    uint64_t lengths[6];     /* as flow_area_lengths gives them */
+    struct flow_settings settings;
+    size_t clipped_length, buckets_length, side_length;
     size_t buckets_at, side_at, copy_bytes; /* in a copy, whose clipped counts are at 0 */
-    uint8_t *memory;         /* the copies */
+    uint8_t *memory;                        /* the copies */
     unsigned copies;
     struct flow_live_reader *readers;
     size_t readers_count;
     unsigned char apart[FLOW_LIVE_APART];
     atomic_uint current; /* the copy that was published last; only the writer stores it */
     unsigned char apart_too[FLOW_LIVE_APART];
-};
-
-/* The lookup areas of a section's copy, for a door that only reads them. */
-struct flow_live_lookup {
-    const uint8_t *clipped, *buckets, *side;
-    size_t clipped_length, buckets_length, side_length;
 };
 
 /* Bytes, up to whole lines. */
@@ -95,36 +89,34 @@ static inline size_t flow_live_lines(uint64_t bytes)
 }
 
 /* The bytes of so many copies; 0 where a setting is out of range, or copies is not 2 to 63. */
-static inline size_t flow_live_bytes(uint64_t p, uint64_t k, uint64_t room, uint64_t top, uint64_t capacity, uint64_t side_places,
-                                     uint64_t width, unsigned copies)
+static inline size_t flow_live_bytes(const struct flow_settings *settings, unsigned copies)
 {
-    uint64_t lengths[6];
-    if (copies < FLOW_LIVE_LEAST_COPIES || copies > FLOW_LIVE_MOST_COPIES
-        || flow_area_lengths(p, k, room, top, capacity, side_places, width, lengths, 6) != 0) {
+    uint64_t n[6];
+    if (copies < FLOW_LIVE_LEAST_COPIES || copies > FLOW_LIVE_MOST_COPIES || flow_area_lengths(FLOW_SETTINGS(settings), n, 6) != FLOW_DONE) {
         return 0;
     }
-    return copies * (flow_live_lines(lengths[2]) + flow_live_lines(lengths[3]) + flow_live_lines(lengths[4]));
+    return copies * (flow_live_lines(n[2]) + flow_live_lines(n[3]) + flow_live_lines(n[4]));
 }
 
 /* Publishes the empty table. It is called before any other thread has live or a reader. Lent for as long as live is used: memory, of the bytes of
  * 2 to 63 copies, and readers_count readers, both with any contents.
  * 0. 1: a setting is out of range. 2: memory is not of the bytes of 2 to 63 copies. Refused, nothing is altered. */
-static inline uint32_t flow_live_open(struct flow_live *live, uint64_t p, uint64_t k, uint64_t room, uint64_t top, uint64_t capacity,
-                                      uint64_t side_places, uint64_t width, uint8_t *memory, size_t memory_length,
+static inline uint32_t flow_live_open(struct flow_live *live, const struct flow_settings *settings, uint8_t *memory, size_t memory_length,
                                       struct flow_live_reader *readers, size_t readers_count)
 {
-    const uint64_t settings[FLOW_SETTINGS_COUNT] = {p, k, room, top, capacity, side_places, width};
-    uint64_t lengths[6];
-    if (flow_area_lengths(p, k, room, top, capacity, side_places, width, lengths, 6) != 0) {
-        return 1;
+    uint64_t n[6];
+    if (flow_area_lengths(FLOW_SETTINGS(settings), n, 6) != FLOW_DONE) {
+        return FLOW_BAD_SETTINGS;
     }
-    size_t buckets_at = flow_live_lines(lengths[2]), side_at = buckets_at + flow_live_lines(lengths[3]);
-    size_t copy_bytes = side_at + flow_live_lines(lengths[4]), copies = memory_length / copy_bytes;
+    size_t buckets_at = flow_live_lines(n[2]), side_at = buckets_at + flow_live_lines(n[3]);
+    size_t copy_bytes = side_at + flow_live_lines(n[4]), copies = memory_length / copy_bytes;
     if (copies < FLOW_LIVE_LEAST_COPIES || copies > FLOW_LIVE_MOST_COPIES || copies * copy_bytes != memory_length) {
-        return 2;
+        return FLOW_BAD_AREA_LENGTH;
     }
-    memcpy(live->settings, settings, sizeof settings);
-    memcpy(live->lengths, lengths, sizeof lengths);
+    live->settings = *settings;
+    live->clipped_length = (size_t)n[2];
+    live->buckets_length = (size_t)n[3];
+    live->side_length = (size_t)n[4];
     live->buckets_at = buckets_at;
     live->side_at = side_at;
     live->copy_bytes = copy_bytes;
@@ -139,7 +131,7 @@ static inline uint32_t flow_live_open(struct flow_live *live, uint64_t p, uint64
         readers[i].copy = NULL;
         atomic_init(&readers[i].inside, 0);
     }
-    return 0;
+    return FLOW_DONE;
 }
 
 /* A reader: a section starts, for one search or for many. */
@@ -162,36 +154,32 @@ static inline void flow_live_leave(struct flow_live_reader *reader)
     atomic_store_explicit(&reader->inside, 0, memory_order_release);
 }
 
-/* In a section: its lookup areas, until it ends. Outside: areas of length 0, which a door refuses with 2. */
-static inline struct flow_live_lookup flow_live_lookup(const struct flow_live_reader *reader)
+/* In a section: its lookup areas, until it ends, for any door that only reads them. Outside: areas of length 0, which a door refuses with 2. */
+static inline struct flow_lookup flow_live_lookup(const struct flow_live_reader *reader)
 {
     const struct flow_live *live = reader->live;
     const uint8_t *copy = reader->copy;
     if (copy == NULL) {
-        return (struct flow_live_lookup){live->memory, live->memory, live->memory, 0, 0, 0};
+        return (struct flow_lookup){live->memory, 0, live->memory, 0, live->memory, 0};
     }
-    return (struct flow_live_lookup){copy, copy + live->buckets_at, copy + live->side_at,
-                                     (size_t)live->lengths[2], (size_t)live->lengths[3], (size_t)live->lengths[4]};
+    return (struct flow_lookup){copy, live->clipped_length, copy + live->buckets_at, live->buckets_length, copy + live->side_at, live->side_length};
 }
 
-/* In a section: flow_search_lent on its table. Lent as there: table, which flow_hash_table filled, and key. */
-static inline uint64_t flow_live_search(const struct flow_live_reader *reader, const uint64_t *table, size_t table_length, const uint8_t *key,
-                                        size_t key_length)
+/* In a section: flow_search_lent on its table. Lent as there: hashes, which flow_hash_table filled, and key, of the table's width. */
+static inline uint64_t flow_live_search(const struct flow_live_reader *reader, const uint64_t *hashes, size_t hashes_length, const uint8_t *key)
 {
-    const uint64_t *s = reader->live->settings;
-    struct flow_live_lookup at = flow_live_lookup(reader);
-    return flow_search_lent(table, table_length, s[0], s[1], s[2], s[3], s[4], s[5], s[6], at.clipped, at.clipped_length, at.buckets,
-                            at.buckets_length, at.side, at.side_length, key, key_length);
+    const struct flow_settings *settings = &reader->live->settings;
+    struct flow_lookup lookup = flow_live_lookup(reader);
+    return flow_search_lent(hashes, hashes_length, FLOW_SETTINGS(settings), FLOW_LOOKUP(&lookup), key, (size_t)settings->width);
 }
 
-/* In a section: flow_search_burst on its table. Lent as there: table, which flow_hash_table filled, keys, and a number for each answer. */
-static inline uint32_t flow_live_search_burst(const struct flow_live_reader *reader, const uint64_t *table, size_t table_length,
-                                              const uint8_t *keys, size_t keys_length, uint64_t *answers, size_t answers_length)
+/* In a section: flow_search_burst on its table. Lent as there: hashes, n keys of the table's width, and a number for each answer. */
+static inline uint32_t flow_live_search_burst(const struct flow_live_reader *reader, const uint64_t *hashes, size_t hashes_length,
+                                              const uint8_t *keys, uint64_t *answers, size_t n)
 {
-    const uint64_t *s = reader->live->settings;
-    struct flow_live_lookup at = flow_live_lookup(reader);
-    return flow_search_burst(table, table_length, s[0], s[1], s[2], s[3], s[4], s[5], s[6], at.clipped, at.clipped_length, at.buckets,
-                             at.buckets_length, at.side, at.side_length, keys, keys_length, answers, answers_length);
+    const struct flow_settings *settings = &reader->live->settings;
+    struct flow_lookup lookup = flow_live_lookup(reader);
+    return flow_search_burst(hashes, hashes_length, FLOW_SETTINGS(settings), FLOW_LOOKUP(&lookup), keys, n * (size_t)settings->width, answers, n);
 }
 
 /* The copies that readers are in, copy c as bit 1 + c. Each reader is asked once. Bit 0: a reader is in no section. */
@@ -254,19 +242,19 @@ static inline void flow_live_take(uint8_t *to, const uint8_t *from, size_t lengt
 
 /* The writer: publishes the table that its lookup areas hold, after any number of updates. Lent: the three areas, which are only read.
  * 0: sections that start from now on have this table. 2: an area is not of its length under the settings; nothing is published. */
-static inline uint32_t flow_live_publish(struct flow_live *live, const uint8_t *clipped, size_t clipped_length, const uint8_t *buckets,
-                                         size_t buckets_length, const uint8_t *side, size_t side_length)
+static inline uint32_t flow_live_publish(struct flow_live *live, const struct flow_lookup *lookup)
 {
-    if (clipped_length != live->lengths[2] || buckets_length != live->lengths[3] || side_length != live->lengths[4]) {
-        return 2;
+    if (lookup->clipped_length != live->clipped_length || lookup->buckets_length != live->buckets_length
+        || lookup->side_length != live->side_length) {
+        return FLOW_BAD_AREA_LENGTH;
     }
     unsigned copy = flow_live_free_copy(live);
     uint8_t *to = live->memory + copy * live->copy_bytes;
-    flow_live_take(to, clipped, clipped_length);
-    flow_live_take(to + live->buckets_at, buckets, buckets_length);
-    flow_live_take(to + live->side_at, side, side_length);
+    flow_live_take(to, lookup->clipped, live->clipped_length);
+    flow_live_take(to + live->buckets_at, lookup->buckets, live->buckets_length);
+    flow_live_take(to + live->side_at, lookup->side, live->side_length);
     atomic_store_explicit(&live->current, copy, memory_order_seq_cst);
-    return 0;
+    return FLOW_DONE;
 }
 
 #endif

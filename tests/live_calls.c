@@ -50,22 +50,22 @@ static size_t lines_of(uint64_t bytes)
 
 static void open_live(unsigned copies)
 {
-    size_t bytes = flow_live_bytes(SETTINGS, copies);
+    size_t bytes = flow_live_bytes(&settings, copies);
     free(memory);
     memory = lent(bytes);
     memset(memory, 0xa5, bytes);
-    must("flow_live_open", flow_live_open(&live, SETTINGS, memory, bytes, readers, READERS));
+    must("flow_live_open", flow_live_open(&live, &settings, memory, bytes, readers, READERS));
 }
 
 static void publish(void)
 {
-    must("flow_live_publish", flow_live_publish(&live, LOOKUP));
+    must("flow_live_publish", flow_live_publish(&live, &lookup));
 }
 
 /* The class that a reader finds for a flow; -1 for absent. */
 static int64_t class_of(int reader, int flow)
 {
-    uint64_t answer = flow_live_search(&readers[reader], table, TABLE, keys[flow], KEY);
+    uint64_t answer = flow_live_search(&readers[reader], hashes, HASHES, keys[flow]);
     CHECK(answer >> 32 == 0 || answer == UINT64_C(100) << 32);
     return answer >> 32 == 0 ? (int64_t)answer : -1;
 }
@@ -80,25 +80,27 @@ static int64_t class_now(int reader, int flow)
 
 static void lengths_and_refusals(void)
 {
-    size_t copy = lines_of(lengths[2]) + lines_of(lengths[3]) + lines_of(lengths[4]), most = 63 * copy;
-    CHECK(flow_live_bytes(SETTINGS, 2) == 2 * copy);
-    CHECK(flow_live_bytes(SETTINGS, 63) == most);
-    CHECK(flow_live_bytes(SETTINGS, 0) == 0 && flow_live_bytes(SETTINGS, 1) == 0 && flow_live_bytes(SETTINGS, 64) == 0);
-    CHECK(flow_live_bytes(3, 3, 2, 4, 256, 64, WIDTH, 2) == 0);
-    CHECK(flow_live_bytes(8, 3, 2, 4, 256, 64, 14, 2) == 0);
+    size_t copy = lines_of(lookup.clipped_length) + lines_of(lookup.buckets_length) + lines_of(lookup.side_length), most = 63 * copy;
+    CHECK(flow_live_bytes(&settings, 2) == 2 * copy);
+    CHECK(flow_live_bytes(&settings, 63) == most);
+    CHECK(flow_live_bytes(&settings, 0) == 0 && flow_live_bytes(&settings, 1) == 0 && flow_live_bytes(&settings, 64) == 0);
+    struct flow_settings wrong_p = settings, wrong_width = settings;
+    wrong_p.p = 3;
+    wrong_width.width = 14;
+    CHECK(flow_live_bytes(&wrong_p, 2) == 0 && flow_live_bytes(&wrong_width, 2) == 0);
     memory = lent(most + copy);
     memset(memory, 0xa5, most + copy);
     struct flow_live before;
     memset(&live, 0x5a, sizeof live);
     memmove(&before, &live, sizeof live);
-    CHECK(flow_live_open(&live, 8, 5, 2, 4, 256, 64, WIDTH, memory, 2 * copy, readers, READERS) == 1);
+    CHECK(flow_live_open(&live, &wrong_p, memory, 2 * copy, readers, READERS) == 1);
     const size_t wrong[] = {0, 1, copy, 2 * copy - 1, 2 * copy + 1, most + copy};
     for (size_t i = 0; i < sizeof wrong / sizeof *wrong; i++) {
-        CHECK(flow_live_open(&live, SETTINGS, memory, wrong[i], readers, READERS) == 2);
+        CHECK(flow_live_open(&live, &settings, memory, wrong[i], readers, READERS) == 2);
     }
     CHECK(memcmp(&before, &live, sizeof live) == 0);
     CHECK(all_are(memory, most + copy, 0xa5));
-    CHECK(flow_live_open(&live, SETTINGS, memory, most, readers, READERS) == 0 && live.copies == 63);
+    CHECK(flow_live_open(&live, &settings, memory, most, readers, READERS) == 0 && live.copies == 63);
     CHECK(all_are(memory, most, 0) && all_are(memory + most, copy, 0xa5));
 }
 
@@ -121,13 +123,13 @@ static void sections(void)
     CHECK(flow_live_settled(&live) && class_now(0, 1) == 12);
 
     uint64_t answers[2] = {7, 7};
-    CHECK(flow_live_search(&readers[0], table, TABLE, keys[1], KEY) == UINT64_C(2) << 32);
-    CHECK(flow_live_search_burst(&readers[0], table, TABLE, keys[1], 2 * KEY, answers, 2) == 2 && answers[0] == 7 && answers[1] == 7);
+    CHECK(flow_live_search(&readers[0], hashes, HASHES, keys[1]) == UINT64_C(2) << 32);
+    CHECK(flow_live_search_burst(&readers[0], hashes, HASHES, keys[1], answers, 2) == 2 && answers[0] == 7 && answers[1] == 7);
     flow_live_enter(&readers[0]);
     flow_live_enter(&readers[0]);
     CHECK(class_of(0, 1) == 12);
     flow_live_leave(&readers[0]);
-    CHECK(flow_live_search(&readers[0], table, TABLE, keys[1], KEY) == UINT64_C(2) << 32);
+    CHECK(flow_live_search(&readers[0], hashes, HASHES, keys[1]) == UINT64_C(2) << 32);
 }
 
 /* A section's searches are the doors' on the areas that were published. */
@@ -135,27 +137,28 @@ static void searches(void)
 {
     uint64_t answers[3];
     flow_live_enter(&readers[1]);
-    CHECK(flow_live_search_burst(&readers[1], table, TABLE, keys[0], 3 * KEY, answers, 3) == 0);
+    CHECK(flow_live_search_burst(&readers[1], hashes, HASHES, keys[0], answers, 3) == 0);
     for (int i = 0; i < 3; i++) {
-        CHECK(answers[i] == flow_search_lent(table, TABLE, SETTINGS, LOOKUP, keys[i], KEY));
-        CHECK(answers[i] == flow_live_search(&readers[1], table, TABLE, keys[i], KEY));
+        CHECK(answers[i] == flow_table_search_lent(&table, hashes, HASHES, keys[i]));
+        CHECK(answers[i] == flow_live_search(&readers[1], hashes, HASHES, keys[i]));
     }
-    CHECK(flow_live_search(&readers[1], table, TABLE - 1, keys[1], KEY) == UINT64_C(2) << 32);
-    CHECK(flow_live_search(&readers[1], table, TABLE, keys[1], KEY - 1) == UINT64_C(3) << 32);
-    CHECK(flow_live_search_burst(&readers[1], table, TABLE, keys[1], 2 * KEY, answers, 3) == 3);
-    struct flow_live_lookup at = flow_live_lookup(&readers[1]);
-    CHECK(at.clipped_length == lengths[2] && memcmp(at.clipped, clipped, lengths[2]) == 0);
-    CHECK(at.buckets_length == lengths[3] && memcmp(at.buckets, buckets, lengths[3]) == 0);
-    CHECK(at.side_length == lengths[4] && memcmp(at.side, side, lengths[4]) == 0);
+    CHECK(flow_live_search(&readers[1], hashes, HASHES - 1, keys[1]) == UINT64_C(2) << 32);
+    CHECK(flow_live_search_burst(&readers[1], hashes, HASHES + 1, keys[1], answers, 3) == 2);
+    struct flow_lookup at = flow_live_lookup(&readers[1]);
+    CHECK(at.clipped_length == lookup.clipped_length && memcmp(at.clipped, lookup.clipped, at.clipped_length) == 0);
+    CHECK(at.buckets_length == lookup.buckets_length && memcmp(at.buckets, lookup.buckets, at.buckets_length) == 0);
+    CHECK(at.side_length == lookup.side_length && memcmp(at.side, lookup.side, at.side_length) == 0);
     flow_live_leave(&readers[1]);
 }
 
 static void wrong_areas(void)
 {
+    struct flow_lookup shorter = lookup, longer = lookup, none = lookup;
+    shorter.clipped_length--;
+    longer.buckets_length++;
+    none.side_length = 0;
     add(2, 22);
-    CHECK(flow_live_publish(&live, clipped, lengths[2] - 1, buckets, lengths[3], side, lengths[4]) == 2);
-    CHECK(flow_live_publish(&live, clipped, lengths[2], buckets, lengths[3] + 1, side, lengths[4]) == 2);
-    CHECK(flow_live_publish(&live, clipped, lengths[2], buckets, lengths[3], side, 0) == 2);
+    CHECK(flow_live_publish(&live, &shorter) == 2 && flow_live_publish(&live, &longer) == 2 && flow_live_publish(&live, &none) == 2);
     CHECK(class_now(0, 2) == -1);
     publish();
     CHECK(class_now(0, 2) == 22);
@@ -181,8 +184,9 @@ static void lines_written(void)
         add(flow, (uint32_t)flow);
         /* no reader is inside: copies 0 and 1 take turns */
         const uint8_t *to = memory + (flow % 2 == 0 ? live.copy_bytes : 0);
-        size_t expected = differing(clipped, to, lengths[2]) + differing(buckets, to + live.buckets_at, lengths[3])
-                          + differing(side, to + live.side_at, lengths[4]);
+        size_t expected = differing(lookup.clipped, to, lookup.clipped_length)
+                          + differing(lookup.buckets, to + live.buckets_at, lookup.buckets_length)
+                          + differing(lookup.side, to + live.side_at, lookup.side_length);
         bytes_written = 0;
         publish();
         CHECK(bytes_written == expected && expected > 0);
@@ -243,7 +247,7 @@ int main(void)
     lines_written();
     waiting();
     free(memory);
-    free_table();
+    free(table_memory);
     printf("width %d: %d checks, all right\n", WIDTH, checks);
     return 0;
 }

@@ -101,6 +101,8 @@ static struct flow_live live;
 static struct flow_live_reader readers[MOST_READERS];
 static atomic_uint told; /* the version whose publish has returned */
 static uint8_t memory[MOST_COPIES * COPY], own[COPY];
+static const struct flow_settings settings; /* flow_area_lengths, below, does not look at them */
+static const struct flow_lookup own_lookup = {own, CLIPPED, own + CLIPPED, BUCKETS, own + CLIPPED + BUCKETS, SIDE};
 
 /* The run of a thread up to its next step. */
 static struct {
@@ -223,7 +225,7 @@ static void wait_step(void)
     forget_steps(publish_from);
 }
 
-/* The doors that flow_live.h calls, of three areas alone. */
+/* The doors that flow_live.h calls, of three areas alone. The others are not called. */
 uint32_t flow_area_lengths(uint64_t p, uint64_t k, uint64_t room, uint64_t top, uint64_t capacity, uint64_t side_places, uint64_t width,
                            uint64_t *lengths, size_t lengths_length)
 {
@@ -251,23 +253,12 @@ uint64_t flow_search_lent(const uint64_t *table, size_t table_length, uint64_t p
     return version;
 }
 
-uint32_t flow_search_burst(const uint64_t *table, size_t table_length, uint64_t p, uint64_t k, uint64_t room, uint64_t top, uint64_t capacity,
-                           uint64_t side_places, uint64_t width, const uint8_t *clipped, size_t clipped_length, const uint8_t *buckets,
-                           size_t buckets_length, const uint8_t *side, size_t side_length, const uint8_t *keys, size_t keys_length,
-                           uint64_t *answers, size_t answers_length)
-{
-    (void)table, (void)table_length, (void)p, (void)k, (void)room, (void)top, (void)capacity, (void)side_places, (void)width, (void)clipped;
-    (void)clipped_length, (void)buckets, (void)buckets_length, (void)side, (void)side_length, (void)keys, (void)keys_length, (void)answers;
-    (void)answers_length;
-    abort();
-}
-
 static uint64_t search(struct flow_live_reader *reader)
 {
     if (tried.form == OWN_AREAS) {
-        return flow_search_lent(NULL, 0, 0, 0, 0, 0, 0, 0, 0, own, CLIPPED, own + CLIPPED, BUCKETS, own + CLIPPED + BUCKETS, SIDE, NULL, 0);
+        return flow_search_lent(NULL, 0, FLOW_SETTINGS(&settings), FLOW_LOOKUP(&own_lookup), NULL, 0);
     }
-    return flow_live_search(reader, NULL, 0, NULL, 0);
+    return flow_live_search(reader, NULL, 0, NULL);
 }
 
 /* A reader's sections, of one search that reads every line. It keeps the version of the section before. */
@@ -298,7 +289,7 @@ static void publish_versions(void)
         }
         publish_from = run.at;
         live.readers_count = tried.form == ASKS_NOBODY ? 0 : (size_t)tried.readers;
-        flow_live_publish(&live, own, CLIPPED, own + CLIPPED, BUCKETS, own + CLIPPED + BUCKETS, SIDE);
+        flow_live_publish(&live, &own_lookup);
         step_store(&told, own_version, memory_order_release);
         live.readers_count = (size_t)tried.readers;
         next_round(flow_live_settled(&live) ? own_version : run.thread->kept);
@@ -573,7 +564,7 @@ static int try_run(enum form form, int reader_count, int copies, int publishes, 
     tried.copies = copies;
     tried.publishes = publishes;
     tried.sections = sections;
-    if (flow_live_open(&live, 0, 0, 0, 0, 0, 0, 0, memory, (size_t)copies * COPY, readers, (size_t)reader_count) != 0) {
+    if (flow_live_open(&live, &settings, memory, (size_t)copies * COPY, readers, (size_t)reader_count) != 0) {
         return 0;
     }
     for (int i = 0; i < ATOMICS; i++) {

@@ -11,7 +11,7 @@
 #define WIDTH FLOW_IPV4_WIDTH
 #endif
 
-enum { KEY = WIDTH, TABLE = FLOW_HASH_TABLE_NUMBERS(KEY), MOST_FLOWS = 4096 };
+enum { KEY = WIDTH, HASHES = FLOW_HASH_TABLE_NUMBERS(KEY), MOST_FLOWS = 4096 };
 
 /* ThreadSanitizer does not see what the doors, which it did not compile, read and write: it is told. */
 #ifdef ANNOTATE
@@ -24,18 +24,13 @@ void __tsan_write_range(void *address, unsigned long bytes);
 #define DOOR_WRITES(address, bytes) ((void)0)
 #endif
 
-/* p, k, room, top, capacity, side places, width */
-static uint64_t settings[FLOW_SETTINGS_COUNT] = {8, 3, 2, 4, 256, 64, WIDTH};
-static uint64_t lengths[6];
-static uint8_t *ledger, *clipped, *buckets, *side;
-static uint16_t *true_counts, *work;
-static uint64_t table[TABLE];
+/* The writer's table with its lookup areas, and the numbers for H. */
+static struct flow_settings settings = {.p = 8, .k = 3, .room = 2, .top = 4, .capacity = 256, .side_places = 64, .width = WIDTH};
+static struct flow_table table;
+static struct flow_lookup lookup;
+static void *table_memory;
+static uint64_t hashes[HASHES];
 static uint8_t keys[MOST_FLOWS][KEY]; /* random, and all different as it happens: an update of a held one would be refused */
-
-#define SETTINGS settings[0], settings[1], settings[2], settings[3], settings[4], settings[5], settings[6]
-#define LOOKUP clipped, lengths[2], buckets, lengths[3], side, lengths[4]
-#define AREAS ledger, lengths[0], true_counts, lengths[1], LOOKUP
-#define WORK work, lengths[5]
 
 static void must(const char *what, uint32_t answer)
 {
@@ -64,50 +59,35 @@ static void make_table(void)
             keys[i][j] = (uint8_t)(flow_generator_next(&generator) >> 24);
         }
     }
-    must("flow_hash_table", flow_hash_table(WIDTH, table, TABLE));
-    must("flow_area_lengths", flow_area_lengths(SETTINGS, lengths, 6));
-    ledger = lent(lengths[0]);
-    true_counts = lent(sizeof *true_counts * lengths[1]);
-    clipped = lent(lengths[2]);
-    buckets = lent(lengths[3]);
-    side = lent(lengths[4]);
-    work = lent(sizeof *work * lengths[5]);
-    must("flow_clear", flow_clear(SETTINGS, AREAS));
-}
-
-static void free_table(void)
-{
-    free(ledger);
-    free(true_counts);
-    free(clipped);
-    free(buckets);
-    free(side);
-    free(work);
+    must("flow_hash_table", flow_hash_table(WIDTH, hashes, HASHES));
+    table_memory = lent(flow_table_bytes(&settings));
+    must("flow_table_open", flow_table_open(&table, &settings, table_memory, flow_table_bytes(&settings)));
+    lookup = flow_lookup_of(&table.areas);
 }
 
 static void lookup_is_written(void)
 {
-    DOOR_WRITES(clipped, lengths[2]);
-    DOOR_WRITES(buckets, lengths[3]);
-    DOOR_WRITES(side, lengths[4]);
+    DOOR_WRITES(table.areas.clipped, lookup.clipped_length);
+    DOOR_WRITES(table.areas.buckets, lookup.buckets_length);
+    DOOR_WRITES(table.areas.side, lookup.side_length);
 }
 
 static void add(int flow, uint32_t class)
 {
     lookup_is_written();
-    must("flow_add", flow_add(SETTINGS, AREAS, WORK, keys[flow], KEY, class));
+    must("flow_add", flow_table_add(&table, keys[flow], class));
 }
 
 static void change(int flow, uint32_t class)
 {
     lookup_is_written();
-    must("flow_change", flow_change(SETTINGS, AREAS, WORK, keys[flow], KEY, class));
+    must("flow_change", flow_table_change(&table, keys[flow], class));
 }
 
 static void take_out(int flow)
 {
     lookup_is_written();
-    must("flow_remove", flow_remove(SETTINGS, AREAS, WORK, keys[flow], KEY));
+    must("flow_remove", flow_table_remove(&table, keys[flow]));
 }
 
 #endif

@@ -54,13 +54,13 @@ static int random_below(struct look *look, int n)
 static uint64_t search(struct look *look, const uint8_t *key)
 {
     if (form == OWN_AREAS) {
-        DOOR_READS(clipped, lengths[2]);
-        DOOR_READS(buckets, lengths[3]);
-        DOOR_READS(side, lengths[4]);
-        return flow_search_lent(table, TABLE, SETTINGS, LOOKUP, key, KEY);
+        DOOR_READS(lookup.clipped, lookup.clipped_length);
+        DOOR_READS(lookup.buckets, lookup.buckets_length);
+        DOOR_READS(lookup.side, lookup.side_length);
+        return flow_table_search_lent(&table, hashes, HASHES, key);
     }
     DOOR_READS(look->reader->copy, live.copy_bytes);
-    return flow_live_search(look->reader, table, TABLE, key, KEY);
+    return flow_live_search(look->reader, hashes, HASHES, key);
 }
 
 static void judge(struct counts *counts, int flow, uint64_t answer)
@@ -107,7 +107,7 @@ static void search_flows(struct look *look)
     if (form != OWN_AREAS && random_below(look, 2) == 0) {
         DOOR_READS(look->reader->copy, live.copy_bytes);
         must("flow_live_search_burst",
-             flow_live_search_burst(look->reader, table, TABLE, burst[0], sizeof burst, answers, sizeof answers / sizeof *answers));
+             flow_live_search_burst(look->reader, hashes, HASHES, burst[0], answers, SECTION - 2 * PAIR));
     } else {
         for (int i = 0; i < SECTION - 2 * PAIR; i++) {
             answers[i] = search(look, burst[i]);
@@ -191,7 +191,7 @@ static uint32_t update_on(double seconds)
         change(held + TOGGLED, class);
         change(held + TOGGLED + 1, class);
         toggle(held + (int)(class % TOGGLED));
-        must("flow_live_publish", flow_live_publish(&live, LOOKUP));
+        must("flow_live_publish", flow_live_publish(&live, &lookup));
         atomic_store_explicit(&published, class, memory_order_release);
         if (form == WHOLE && flow_live_settled(&live)) {
             atomic_store_explicit(&settled, class, memory_order_release);
@@ -204,8 +204,7 @@ static uint32_t update_on(double seconds)
 static void fill_table(int flows)
 {
     if (flows > 0) {
-        const uint64_t large[FLOW_SETTINGS_COUNT] = {12, 3, 4, 15, 4096, 64, WIDTH};
-        memcpy(settings, large, sizeof large);
+        settings = (struct flow_settings){.p = 12, .k = 3, .room = 4, .top = 15, .capacity = 4096, .side_places = 64, .width = WIDTH};
         held = flows - TOGGLED - PAIR;
         to_the_end = 1;
     }
@@ -250,13 +249,13 @@ int main(int words, char **word)
         return 2;
     }
     fill_table(words > 4 ? atoi(word[4]) : 0);
-    size_t bytes = flow_live_bytes(SETTINGS, (unsigned)atoi(word[3]));
+    size_t bytes = flow_live_bytes(&settings, (unsigned)atoi(word[3]));
     uint8_t *memory = lent(bytes);
-    must("flow_live_open", flow_live_open(&live, SETTINGS, memory, bytes, readers, READERS));
+    must("flow_live_open", flow_live_open(&live, &settings, memory, bytes, readers, READERS));
     if (form == ASKS_NOBODY) {
         live.readers_count = 0;
     }
-    must("flow_live_publish", flow_live_publish(&live, LOOKUP));
+    must("flow_live_publish", flow_live_publish(&live, &lookup));
     for (int i = 0; i < READERS; i++) {
         looks[i] = (struct look){.reader = &readers[i], .generator = {.s = 7 + (uint64_t)i}};
         pthread_create(&threads[i], NULL, read_on, &looks[i]);
@@ -267,6 +266,6 @@ int main(int words, char **word)
     }
     int status = tell(looks, publishes);
     free(memory);
-    free_table();
+    free(table_memory);
     return status;
 }
