@@ -11,11 +11,11 @@
  *      settings takes one more, flow_hash_table, flow_hash and flow_hash_lent take the width first, and flow_load hands back 7 numbers.
  *   2  seven settings: the key width, 13 bytes for IPv4 flows or 37 for IPv6 flows. flow_packet6_key, and refusal 16.
  *
- * A lent area is a pointer and then its length, in numbers of the pointer's type. Its pointer is not null, also where the length is 0,
- * and is aligned for that type. An area that a door may write overlaps no other area lent to the same call. A generator is an area that has
- * no length beside its pointer.
+ * A lent area is a pointer and then its length, in numbers of the pointer's type, for which the pointer is aligned. NULL with the length 0 is an
+ * empty area: refused by number wherever a length is asked for, and accepted as the keys and the answers of a burst of no keys. An area that a
+ * door may write overlaps no other area lent to the same call. A generator is an area that has no length beside its pointer.
  *
- * No area may be written while another call reads or writes it: the doors take no locks. Calls that only read may share areas. A search beside
+ * One call at a time may write an area, and none may read it then: the doors take no locks. Calls that only read may share areas. A search beside
  * an update of the same areas may answer absent for a held flow, or with another flow's class (beside a busy writer one search in four did). For
  * searches while a table is updated there is flow_live.h: readers search copies, which the writer publishes. It is argued and tested, not proved.
  *
@@ -65,8 +65,9 @@
  *   work            2 * m 16-bit numbers           the same                        its contents after a call free
  *   a hash table    3328 64-bit numbers            1184 or 9472 64-bit numbers     as flow_hash_table fills it
  *   a file          16 + 17 * n bytes              18 + 41 * n bytes               as flow_save writes it, of n records
- * flow_add, flow_change, flow_remove, flow_save and flow_load need about 46 KB of the stack at either width: room for a hash table of 26 KB and for
- * one of 9 KB, of which a call fills the one of its width, and 8 KB for the choices of up to 4096 records.
+ *
+ * What a call needs of the stack, below, is measured (bin/stack has each door): the calls that lay out a list have room for a hash table of 26 KB and
+ * for one of 9 KB, of which a call fills the one of its width, and 8 KB for the choices of up to 4096 records.
  */
 #ifndef FLOW_H
 #define FLOW_H
@@ -92,6 +93,12 @@ extern "C" {
 #define FLOW_HALF_BYTE_TABLE_NUMBERS (16 * 2 * FLOW_IPV6_WIDTH)
 /* A file before its first record: the count of the settings, which leaves width 13 out, these, the count of the records, in two bytes each. */
 #define FLOW_FILE_HEAD_BYTES(width) ((width) == FLOW_IPV4_WIDTH ? 16 : 18)
+
+/* Bytes of the stack that a call needs at most, its arguments among them: flow_add, flow_change, flow_remove, flow_save and flow_load;
+ * flow_hash_table; any other door. For x86-64, as measured by bin/stack. */
+#define FLOW_STACK_LAYOUT 46080
+#define FLOW_STACK_HASH_TABLE 10240
+#define FLOW_STACK_OTHER 1024
 
 /* What a door answers, by name: the list above has what each number means. */
 enum flow_answer {
