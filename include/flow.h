@@ -29,9 +29,9 @@
  *   width        13 or 37, the bytes of a key: those of an IPv4 flow's, or of an IPv6 flow's
  * Each is judged on all of its 64 bits.
  *
- * A door answers 0, or the number of a refusal; where several apply, the lowest (flow_load has its own order). A search that finds nothing
- * answers 100. A refused call alters no area but work, and flow_load sets its settings to zeros. flow_generator_next refuses nothing. 14 and
- * 15 are the programs' alone: no door gives them.
+ * A door answers 0, or the number of a refusal; where several apply, the lowest (flow_file_settings and flow_load have their own order). A search
+ * that finds nothing answers 100. A refused call alters no area but work, and flow_file_settings and flow_load set their settings to zeros.
+ * flow_generator_next refuses nothing. 14 and 15 are the programs' alone: no door gives them.
  *   1  a setting is out of range
  *   2  a lent area is not of its length
  *   3  a key is not of the width, a buffer for a packet's key is not of 13 bytes, or of 37 for an IPv6 packet; or the keys of a burst have not
@@ -335,9 +335,18 @@ uint32_t flow_save(uint64_t p, uint64_t k, uint64_t room, uint64_t top, uint64_t
                    const uint8_t *ledger, size_t ledger_length, uint16_t *work, size_t work_length, uint8_t *target,
                    size_t target_length);
 
+/* The settings of a file that flow_save wrote, now or before there was a width, for a caller that has to size its areas before flow_load: with
+ * them it asks flow_area_lengths for the lengths. Lent: file, which is only read; settings, of 7 numbers, with any contents.
+ * 0: settings holds the file's seven settings; after a first count of 6 the width is 13.
+ * Refused, by the first of these that applies:
+ * 12: the file does not start with the count 6 or 7, or ends before its second count does (it is shorter than 16 bytes after a 6, than 18 after a
+ *    7). 1: a setting of the file is out of range. 2: settings is not of 7 numbers. 12: the file has a 7 with width 13.
+ * The count of the records and what follows it are not judged. Refused, settings is zeros; a settings area of another length is left as it was. */
+uint32_t flow_file_settings(const uint8_t *file, size_t file_length, uint64_t *settings, size_t settings_length);
+
 /* Loads a file that flow_save wrote, now or before there was a width. Lent: file, which is only read; the five areas and work, of their lengths
- * under the file's settings, with any contents; settings, of 7 numbers. A caller that does not know the file's settings reads them from the
- * file's head (two bytes each, from byte 2 on; after a first count of 6 the width is 13) and asks flow_area_lengths for the lengths.
+ * under the file's settings, with any contents; settings, of 7 numbers. A caller that does not know the file's settings asks flow_file_settings
+ * for them, and flow_area_lengths for the lengths.
  * 0: every area holds the layout of the file's flows, and settings the file's seven settings.
  * 12: the file does not start with the count 6 or 7, or ends before its second count does (it is shorter than 16 bytes after a 6, than 18 after a
  *    7); or, after 1, 2 and 8, it has a 7 with width 13, or is not of 16 + 17 * n bytes after a 6, of 18 + 41 * n after a 7.

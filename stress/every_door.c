@@ -387,7 +387,10 @@ static void key_buckets(void)
 /* Seven numbers come back, whatever the file. */
 static uint32_t load(struct area file)
 {
-    struct area handed_back = lend(FLOW_SETTINGS_COUNT, 8);
+    struct area of_file = lend(FLOW_SETTINGS_COUNT, 8), handed_back = lend(FLOW_SETTINGS_COUNT, 8);
+    note(flow_file_settings(LENT(file), LENT(of_file)));
+    look_at(of_file.at, 8 * FLOW_SETTINGS_COUNT);
+    free(of_file.at);
     uint32_t answer = flow_load(LENT(file), AREAS, LENT(areas[5]), LENT(handed_back));
     look_at(handed_back.at, 8 * FLOW_SETTINGS_COUNT);
     free(handed_back.at);
@@ -511,6 +514,7 @@ static void any_file(void)
         }
     }
     load(file);
+    note(flow_file_settings(LENT(file), LENT(handed_back)));
     note(flow_load(LENT(file), AREAS, LENT(areas[5]), LENT(handed_back)));
     free(file.at);
     free(handed_back.at);

@@ -1,7 +1,7 @@
 //! The doors as they stand. Each answers 0 or the number of a refusal, on every input, and a search also 100 for absent; a refused call
-//! alters nothing but work, and a refused load also makes the settings that it hands back zeros. [`generator_next`] refuses nothing, and
-//! answers the generator's number. Settings stand in the order p, k, room, top, capacity, side places, width; a key has as many bytes as the width
-//! says, 13 or 37.
+//! alters nothing but work, and a refused [`file_settings`] or [`load`] also makes the settings that it hands back zeros.
+//! [`generator_next`] refuses nothing, and answers the generator's number. Settings stand in the order p, k, room, top, capacity, side
+//! places, width; a key has as many bytes as the width says, 13 or 37.
 
 use crate::Generator;
 
@@ -161,6 +161,11 @@ doors! {
     /// side store does not suffice; 12 if `target` is not of the file's length for n records, 16 + 17 n bytes at width 13 and
     /// 18 + 41 n at 37.
     fn save = flow_save(settings: [u64; 7], ledger: &[u8], work: &mut [u16], target: &mut [u8]) -> u32;
+
+    /// The settings that stand in a snapshot's head, in `settings`, which are zeros when it is refused. 12 if its first count is not 6 or 7, or the
+    /// file ends before its second count; 1; 2 if `settings` is not of 7 numbers, which stays as it is; 12 for a first count of 7 with width 13.
+    /// The records are not judged.
+    fn file_settings = flow_file_settings(file: &[u8], settings: &mut [u64]) -> u32;
 
     /// The layout of a snapshot's list, and its settings in `settings`, which are zeros when it is refused. 12 if its first count is not 6 or 7,
     /// or the file ends before its second count; 1; 2 if an area or `work` is not of its length under the file's settings; 8 for more records

@@ -80,6 +80,10 @@ fn load_to_the_same_areas_and_save_as_the_same_bytes() {
         assert_eq!(expected.ledger[..2], [0, earlier.flows]);
         assert_eq!(expected.side[..2], [0, earlier.in_side]);
 
+        let mut of_file = [7; 7];
+        let answer = doors::file_settings(earlier.file, &mut of_file);
+        assert_eq!((answer, of_file), (0, settings.numbers()));
+
         let mut areas = random_areas(&mut random, &settings);
         let mut work = random_work(&mut random, &settings);
         let mut handed_back = [7; 7];

@@ -1,5 +1,5 @@
-//! Save and load against the model, at both widths: on lists with and without a layout, on damaged ledgers, on files cut, extended and altered, with
-//! other first counts and widths, on wrong lengths and settings. All areas are compared after every call.
+//! Save, load and the settings of a file against the model, at both widths: on lists with and without a layout, on damaged ledgers, on files cut,
+//! extended and altered, with other first counts and widths, on wrong lengths and settings. All areas are compared after every call.
 
 use flow::{doors, Refusal, Table};
 use model::card::Card;
@@ -124,6 +124,32 @@ fn file_settings(file: &[u8]) -> Model {
     Head::of(file).map_or(Model::of([0; 7]), |head| head.settings)
 }
 
+// Areas that are lent for the settings of a file: of seven numbers, and of other lengths.
+const FOR_SETTINGS: [usize; 5] = [7, 0, 6, 8, 14];
+
+// The settings of a file's head, in an area of each length with any contents: the door and the model agree in the answer and in the area, which a
+// refusal makes zeros if it is of seven numbers, and which stays as it was if it is not. The answers, in the order of the lengths.
+fn settings_of_file(random: &mut Random, file: &[u8]) -> [u32; FOR_SETTINGS.len()] {
+    FOR_SETTINGS.map(|length| {
+        let lent: Vec<u64> = (0..length).map(|_| random.number()).collect();
+        let mut expected = lent.clone();
+        let by_paper = paper::file_settings(file, &mut expected);
+        let mut after = lent.clone();
+        let answer = doors::file_settings(file, &mut after);
+        assert_eq!(
+            (answer, &after),
+            (by_paper, &expected),
+            "{length} numbers: {file:?}"
+        );
+        match (length, answer) {
+            (7, 0) => assert_eq!(after, file_settings(file).numbers()),
+            (7, _) => assert_eq!(after, [0; 7]),
+            _ => assert!(answer != 0 && after == lent),
+        }
+        answer
+    })
+}
+
 // The bytes before the records of a file with these settings.
 fn head(settings: &Model) -> usize {
     head_bytes(first_count(settings.width))
@@ -173,7 +199,12 @@ impl Load {
         assert!(answer == 0 || expected.areas == self.areas);
         let of_file = file_settings(&self.file);
         assert_areas(&after.areas, &expected.areas, &of_file, &what);
+        // a file that loads has the settings of its head; 1 is the same for both
+        let mut of_head = [7; 7];
+        let by_head = doors::file_settings(&self.file, &mut of_head);
+        assert_eq!(by_head == 1, answer == 1, "{what}: {:?}", self.file);
         if answer == 0 {
+            assert_eq!((by_head, &of_head[..]), (0, &after.settings[..]));
             let mut again = vec![7; self.file.len()];
             let numbers = after.settings.try_into().unwrap();
             let saved = doors::save(numbers, &after.areas.ledger, &mut after.work, &mut again);
@@ -511,6 +542,80 @@ fn widths_exchanged(width: u64) {
     seen.report("loads of files with each width", &[("load", &[0, 1, 12])]);
 }
 
+// What a file's head says, before its areas are there: of files as they are saved, cut at every byte, with each byte of the head altered, and with each
+// width in a file of 7. The second count and the records are not judged.
+fn settings_of_files(width: u64) {
+    let mut random = Random::new(58);
+    let mut seen = Seen::default();
+    let mut note = |answers: [u32; FOR_SETTINGS.len()]| {
+        seen.note("7 numbers", answers[0]);
+        for answer in &answers[1..] {
+            seen.note("another length", *answer);
+        }
+        answers
+    };
+    for _ in 0..40 {
+        let card = small_card(&mut random, width);
+        let file = Load::new(&mut random, &card).file;
+        let head = head(&card.settings);
+        assert_eq!(note(settings_of_file(&mut random, &file)), [0, 2, 2, 2, 2]);
+        assert_eq!(file_settings(&file), card.settings);
+        for cut in 0..file.len() {
+            let answers = note(settings_of_file(&mut random, &file[..cut]));
+            let expected = if cut < head { [12; 5] } else { [0, 2, 2, 2, 2] };
+            assert_eq!(answers, expected, "cut at {cut}: {file:?}");
+        }
+        for at in 0..head {
+            for byte in 0..=255 {
+                let mut altered = file.clone();
+                altered[at] = byte;
+                let answers = note(settings_of_file(&mut random, &altered));
+                // the second count of a file whose first count is as it was
+                if at >= head - 2 {
+                    assert_eq!(answers, [0, 2, 2, 2, 2]);
+                }
+            }
+        }
+        for of_file in (0..300).chain([256 * 13, 256 * 37, 65535]) {
+            let mut wide = file.clone();
+            put_width(&mut wide, of_file);
+            let answers = note(settings_of_file(&mut random, &wide));
+            let expected = match of_file {
+                IPV4_WIDTH => [12, 2, 2, 2, 2],
+                IPV6_WIDTH => [0, 2, 2, 2, 2],
+                _ => [1; 5],
+            };
+            assert_eq!(answers, expected, "a 7 with width {of_file}");
+        }
+    }
+    seen.report(
+        "reads of the settings of a file",
+        &[("7 numbers", &[0, 1, 12]), ("another length", &[1, 2, 12])],
+    );
+}
+
+// The paper's empty list: its file of 6 and the same with width 37, and a 7 with width 13.
+#[test]
+fn settings_of_an_empty_list() {
+    let of_six = [0, 6, 0, 4, 0, 1, 0, 1, 0, 2, 0, 1, 0, 0, 0, 0];
+    let mut of_seven = [0, 7, 0, 4, 0, 1, 0, 1, 0, 2, 0, 1, 0, 0, 0, 37, 0, 0];
+    let mut settings = [7; 7];
+    let answer = doors::file_settings(&of_six, &mut settings);
+    assert_eq!((answer, settings), (0, [4, 1, 1, 2, 1, 0, 13]));
+    let answer = doors::file_settings(&of_seven, &mut settings);
+    assert_eq!((answer, settings), (0, [4, 1, 1, 2, 1, 0, 37]));
+    // without its second count
+    let answer = doors::file_settings(&of_seven[..16], &mut settings);
+    assert_eq!((answer, settings), (12, [0; 7]));
+    of_seven[15] = 13;
+    let mut settings = [7; 7];
+    let answer = doors::file_settings(&of_seven, &mut settings);
+    assert_eq!((answer, settings), (12, [0; 7]));
+    let mut six = [7; 6];
+    let answer = doors::file_settings(&of_seven, &mut six);
+    assert_eq!((answer, six), (2, [7; 6]));
+}
+
 // Some of the faults together, single bytes, and random files: the lowest refusal that applies is given.
 fn loads_of_altered_files(width: u64) {
     let mut random = Random::new(53);
@@ -648,6 +753,7 @@ at_both_widths!(
     order_of_refusals,
     first_counts_and_cuts,
     widths_exchanged,
+    settings_of_files,
     loads_of_altered_files,
     safe_table,
 );

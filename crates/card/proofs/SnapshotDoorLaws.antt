@@ -1,25 +1,32 @@
--- Laws of the door of load: what it hands back is what loading gives.
-use mathlib.Core.Path.{_≡_}
-use mathlib.Core.Bool.{cond}
+-- Laws of the doors of snapshots: what they hand back is what reading a head and loading give.
+use mathlib.Core.Path.{_≡_, ap, _∙_}
 use mathlib.Core.List.{List}
 use Prim.Native.Nat.{ℕ}
-use lib.Dec.{eqb}
 use borrow.Author.Tests.{eq-eqb, ne-eqb}
 use lib.ListN.{length}
-use Rattle.theory.specs.Settings.{allowed}
 use Rattle.theory.specs.Layout.{Areas}
-use Rattle.theory.specs.Snapshot.{settings-count, settings-list, Loaded, file-settings, head-wrong, load}
-use Rattle.theory.proofs.ListLaws.{by-test}
-use Rattle.snapshot.specs.Files.{by-head}
-use Rattle.card.specs.Snapshots.{settings-area-refusal, load-of}
+use Rattle.theory.specs.Snapshot.{settings-count, settings-list, Loaded, load, head-refusal, head-settings}
+use Rattle.settings.specs.Checked.{given-of}
+use Rattle.snapshot.specs.declared.reading.HandedBack as read
+use Rattle.snapshot.specs.Files.{HeadHanded}
+use Rattle.card.specs.Snapshots.{load-of}
 
--- what the head decides, else 2
-pub refusal-by-head : (file : List ℕ) → cond (eqb (by-head file) 0) 2 (by-head file) ≡ settings-area-refusal file
-unfolding by-head settings-area-refusal
-refusal-by-head file = by-test (head-wrong file) (λ e. rw e) (λ e. by-test (allowed (file-settings file)) (λ o. rw (e, o)) (λ o. rw (e, o)))
+-- the settings of a head: an area of another length is as it was, one of 7 numbers holds what is handed back
+module _ (file settings : List ℕ) where
+  pub settings-kept : (length settings ≡ settings-count → ⊥) → (r : read.HandedBack) → HeadHanded file (length settings) r
+      → record { number = r .number; settings = settings } ≡ head-settings file settings
+  unfolding head-settings
+  settings-kept q r h = rw (ne-eqb (length settings) settings-count q, h .number)
+
+  pub settings-handed : length settings ≡ settings-count → (r : read.HandedBack) → HeadHanded file (length settings) r
+      → (after : List ℕ) → after ≡ settings-list (given-of (r .settings))
+      → record { number = r .number; settings = after } ≡ head-settings file settings
+  unfolding head-settings
+  settings-handed q r h after f =
+      let told = f ∙ ap settings-list (h .settings) in rw (told, h .number, eq-eqb (length settings) settings-count q)
 
 module _ (file : List ℕ) (w : ℕ) (a : Areas) (settings : List ℕ) where
-  pub settings-area-wrong : (length settings ≡ settings-count → ⊥) → (n : ℕ) → n ≡ settings-area-refusal file
+  pub settings-area-wrong : (length settings ≡ settings-count → ⊥) → (n : ℕ) → n ≡ head-refusal file (length settings)
       → record { number = n; settings = settings; areas = a } ≡ load-of file w a settings
   unfolding load-of
   settings-area-wrong q n e = rw (ne-eqb (length settings) settings-count q, e)

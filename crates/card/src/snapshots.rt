@@ -1,12 +1,12 @@
-// The doors of snapshots: save and load.
+// The doors of snapshots: save, the settings of a file, and load.
 use settings::Given;
 ghost use mathlib.Core.Path.{_≡_};
 ghost use lib.ListN.{length};
-ghost use Rattle.theory.specs.Snapshot.{settings-count, settings-list, Saved, save};
+ghost use Rattle.theory.specs.Snapshot.{settings-count, settings-list, Saved, save, HandedBack, head-settings};
 ghost use Rattle.theory.specs.CallAreas.{entry-areas, exit-areas};
 ghost use Rattle.theory.specs.Settings.{settings-of};
 ghost use Rattle.settings.specs.Checked.{given-of};
-ghost use Rattle.card.specs.Snapshots.{LoadedInto, settings-area-refusal, load-of};
+ghost use Rattle.card.specs.Snapshots.{LoadedInto, load-of};
 
 // Saves a ledger: 1, 2, 4, 9, 12; else the target holds the snapshot.
 #[no_mangle]
@@ -37,17 +37,6 @@ pub extern "C" fn flow_save(
     snapshot::saving::save(given, ledger, work, target)
 }
 
-// An area for the settings of another length: 12 for the file's head, 1, else 2.
-fn refuse_settings_area(file: &[u8]) -> u32
-    ensures { λ r. ⌜ r ≡ settings-area-refusal (now (file .entry)) ⌝ }
-{
-    let number = snapshot::reading::refusal_by_head(file);
-    if number != 0 {
-        return number;
-    }
-    2
-}
-
 // The seven settings in the paper's order.
 fn write_settings(given: Given, to: &mut [u64])
     requires { ⌜ length (now to) ≡ settings-count ⌝ }
@@ -60,6 +49,24 @@ fn write_settings(given: Given, to: &mut [u64])
     to[4] = given.capacity;
     to[5] = given.side_places;
     to[6] = given.width;
+}
+
+// The settings of a file's head, before its areas are there: 12 for the head, 1, 2, 12 for a 7 with width 13; else `settings` holds them (zeros when
+// refused). The records are not judged.
+#[no_mangle]
+pub extern "C" fn flow_file_settings(file: &[u8], settings: &mut [u64]) -> u32
+    ensures { λ r. ⌜ _≡_ {A = HandedBack} (record { number = r; settings = now (settings .exit) })
+        (head-settings (now (file .entry)) (now (settings .entry))) ⌝ }
+{
+    let length = settings.len();
+    let read = snapshot::reading::head_settings(file, length);
+    let number = read.number;
+    if length != snapshot::SETTINGS {
+        return number;
+    }
+    let given = read.settings;
+    write_settings(given, settings);
+    number
 }
 
 // Loads a file: 12 for its head, 1, 2, 8, 12, 13, 9; else every area holds the layout of its list, and `settings` its settings (zeros when refused).
@@ -78,7 +85,8 @@ pub extern "C" fn flow_load(
         (load-of (now (file .entry)) (length (now (work .entry))) (entry-areas ledger «true_counts» clipped buckets side) (now (settings .entry))) ⌝ }
 {
     if settings.len() != snapshot::SETTINGS {
-        return refuse_settings_area(file);
+        let read = snapshot::reading::head_settings(file, settings.len());
+        return read.number;
     }
     let loaded = snapshot::loading::load(file, ledger, true_counts, clipped, buckets, side, work);
     let given = loaded.settings;

@@ -13,13 +13,18 @@ use Rattle.theory.specs.Settings as plain
 use Rattle.theory.specs.Settings.{ipv4-width, card-of, allowed, record-size}
 use Rattle.theory.specs.Records.{count-of, records, rising}
 use Rattle.theory.specs.Snapshot.{settings-count, first-count, second-count-at, head-size, setting, file-settings, file-count, head-wrong, body-wrong}
+use Rattle.theory.specs.Snapshot.{no-settings, head-refusal}
 use Rattle.theory.proofs.ListLaws.{by-test, or-left, or-right}
 use Rattle.theory.proofs.SettingsLaws.{ranges}
-use Rattle.settings.specs.Checked.{checked-of}
+use Rattle.settings.specs.declared.Settings.{Settings}
+use Rattle.settings.specs.declared.Given.{Given}
+use Rattle.settings.specs.Checked.{paper, given-of, checked-of}
 use Rattle.settings.proofs.Laws.{bounds}
 use Rattle.memory.proofs.SliceLaws.{tail-is}
+use Rattle.writing.proofs.JudgedLaws.{Permitted}
 use Rattle.snapshot.specs.declared.reading.Head.{Head}
-use Rattle.snapshot.specs.Files.{HeadOf, listed, by-file}
+use Rattle.snapshot.specs.declared.reading.HandedBack.{HandedBack}
+use Rattle.snapshot.specs.Files.{HeadOf, Handed, HeadHanded, listed, by-file}
 
 -- a test that failed, since the number is 0
 passed : (t : Bool) (n m : ℕ) → 0 < n → cond t n m ≡ 0 → (t ≡ false) × (m ≡ 0)
@@ -94,6 +99,38 @@ module _ (f : List ℕ) where
       → checked-of (plain.settings-of p k room top capacity side-places width) ≡ checked-of (file-settings f)
   unfolding file-settings
   settings-read e₁ e₂ e₃ e₄ e₅ e₆ e₇ = rw (e₁, e₂, e₃, e₄, e₅, e₆, e₇)
+
+-- ---- the settings of a head, with an area of n numbers for them: each number, and what is handed back with it
+module _ (f : List ℕ) (n : ℕ) where
+  pub head-refused : {m : ℕ} {r : HandedBack} → m ≡ head-refusal f n → (m ≡ 0 → ⊥) → Handed r m no-settings → HeadHanded f n r
+  head-refused {m} e some h = rw (← e, ne-eqb m 0 some) h
+
+  pub head-12 : head-wrong f ≡ true → 12 ≡ head-refusal f n
+  unfolding head-refusal
+  head-12 e = rw e
+
+  module _ (whole : head-wrong f ≡ false) where
+    pub head-1 : allowed (file-settings f) ≡ false → 1 ≡ head-refusal f n
+    unfolding head-refusal
+    head-1 e = rw (whole, e)
+
+    module _ {s : Settings} (p : Permitted (file-settings f) s) where
+      pub head-2 : (n ≡ settings-count → ⊥) → 2 ≡ head-refusal f n
+      unfolding head-refusal
+      head-2 other = rw (whole, p .ok, ne-eqb n settings-count other)
+
+      -- c, the first count of the file, and k, the one that its settings are saved with
+      module _ (seven : n ≡ settings-count) {c k : ℕ} (is : c ≡ count-of f) (first : k ≡ first-count (paper s)) where
+        pub head-12-first : (c ≡ k → ⊥) → 12 ≡ head-refusal f n
+        unfolding head-refusal
+        head-12-first other = rw (whole, p .ok, eq-eqb n settings-count seven, ← p .same, ← first, ← is, ne-eqb c k other)
+
+        head-0 : c ≡ k → 0 ≡ head-refusal f n
+        unfolding head-refusal
+        head-0 same = rw (whole, p .ok, eq-eqb n settings-count seven, ← p .same, ← first, ← is, eq-eqb c k same)
+
+        pub head-accepted : c ≡ k → {g : Given} → given-of g ≡ paper s → HeadHanded f n (record { number = 0; settings = g })
+        head-accepted same read = record { number = head-0 same; settings = rw (← head-0 same) (read ∙ p .same) }
 
 -- ---- 8 and 12 under settings t, with what the head says
 module _ (t : plain.Settings) {f : List ℕ} {h : Head} (of : HeadOf f h) where

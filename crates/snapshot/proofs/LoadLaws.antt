@@ -15,7 +15,7 @@ use Rattle.theory.specs.Settings.{allowed, record-size, ledger-length, work-len
 use Rattle.theory.specs.Records.{to-bytes, record-bytes, records, rising}
 use Rattle.theory.specs.Ledger.{side-need-of, side-short}
 use Rattle.theory.specs.Layout.{Areas, places, counted-places, layout}
-use Rattle.theory.specs.Snapshot.{file-settings, file-count, file-records, head-wrong, body-wrong, not-loaded, load}
+use Rattle.theory.specs.Snapshot.{file-settings, file-count, file-records, head-wrong, body-wrong, no-settings, not-loaded, load}
 use Rattle.theory.proofs.ListLaws.{All, by-test}
 use Rattle.theory.proofs.ByteLaws.{Byte, length-to-bytes, length-records, write-records}
 use Rattle.theory.proofs.Demands.{all-lengths-right}
@@ -25,7 +25,8 @@ use Rattle.memory.proofs.SliceLaws.{zeros, back, tail-back, length-tail}
 use Rattle.ledger.proofs.LedgerLaws.{room-for}
 use Rattle.writing.proofs.JudgedLaws.{Tested, tested-is}
 use Rattle.writing.proofs.LentRecordLaws.{short-by}
-use Rattle.snapshot.specs.Files.{listed, by-file, Filling, Loading}
+use Rattle.snapshot.specs.declared.reading.HandedBack.{HandedBack}
+use Rattle.snapshot.specs.Files.{Handed, loaded-of, listed, by-file, Filling, Loading}
 
 -- ---- the ledger area of n records that fill an area
 module _ {s : Settings} {old area : List ℕ} {n : ℕ} (f : Filling s old area n) where
@@ -91,6 +92,9 @@ module _ {s : Settings} {old area : List ℕ} {n : ℕ} (f : Filling s old area 
             )
 
 -- ---- the call: 12, 1, 2
+pub refused-as : {r : HandedBack} {n : ℕ} → Handed r n no-settings → (a : Areas) → loaded-of r a ≡ not-loaded n a
+refused-as h a = rw (h .number, h .settings)
+
 module _ (f : List ℕ) (w : ℕ) (a : Areas) where
   pub loads-12 : head-wrong f ≡ true → not-loaded 12 a ≡ load f w a
   unfolding load

@@ -11,22 +11,30 @@ use Rattle.theory.specs.Records.{Record, to-bytes, count-of, class-width, recor
 use Rattle.theory.specs.Layout.{Areas}
 use Rattle.theory.specs.Ledger.{side-need-of}
 use Rattle.theory.specs.Snapshot as snapshots
-use Rattle.theory.specs.Snapshot.{settings-count, first-count, head-size, file-settings, file-count, head-wrong, body-wrong}
+use Rattle.theory.specs.Snapshot.{settings-count, first-count, head-size, file-settings, file-count, head-wrong, body-wrong, head-refusal, handed-with}
 use Rattle.theory.proofs.CallLaws.{Sized}
 use Rattle.settings.specs.declared.Settings.{Settings}
 use Rattle.settings.specs.Checked.{paper, given-of, card}
 use Rattle.ledger.specs.Edits.{ValidLedger}
 use Rattle.placing.specs.Ready.{Ready}
 use Rattle.writing.specs.Laying.{Laying}
-use Rattle.snapshot.specs.declared.loading.Loaded.{Loaded}
+use Rattle.snapshot.specs.declared.reading.HandedBack.{HandedBack}
 use Rattle.snapshot.specs.declared.reading.Head.{Head}
 
 -- a number in the two bytes from a place on
 abbrev pub put-at : ℕ → ℕ → List ℕ → List ℕ
 put-at at n l = take at l ++ (to-bytes 2 n ++ drop (at + 2) l)
 
+-- a number and settings are handed back; and those of a file's head, with an area of n numbers for them
+pub record Handed (r : HandedBack) (n : ℕ) (t : plain.Settings) : Type 0 where
+  pub number : r .number ≡ n
+  pub settings : given-of (r .settings) ≡ t
+
+abbrev pub HeadHanded : List ℕ → ℕ → HandedBack → Type 0
+HeadHanded f n r = Handed r (head-refusal f n) (handed-with (head-refusal f n) (file-settings f))
+
 -- what loading answers, with the areas after it
-abbrev pub loaded-of : Loaded → Areas → snapshots.Loaded
+abbrev pub loaded-of : HandedBack → Areas → snapshots.Loaded
 loaded-of r a = record { number = r .number; settings = given-of (r .settings); areas = a }
 
 -- what the head of a file says, as the code holds it, and that the head is there
@@ -49,10 +57,6 @@ pub record PlacingArea (s : Settings) (table : List ℕ) (m : ℕ) (work kept ar
   pub choices : n ≤ length kept
   pub room : n * (card s .width + class-width) ≤ length area
   pub few : n ≤ 4096
-
--- 12 for the head, 1 for its settings, or 0
-unfoldable pub by-head : List ℕ → ℕ
-by-head f = cond (head-wrong f) 12 (cond (not (allowed (file-settings f))) 1 0)
 
 -- 8, 12, 13, or 0
 unfoldable pub by-file : plain.Settings → List ℕ → ℕ

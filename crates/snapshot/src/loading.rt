@@ -1,14 +1,15 @@
 // A file into every area: its settings are handed back, its list's layout is written.
 use crate::place_area;
+use crate::reading::HandedBack;
 use crate::reading::head_wrong;
 use crate::reading::read_head;
 use crate::reading::read_settings;
 use crate::reading::refusal_by_file;
+use crate::reading::refused;
 use memory::numbers::write_number;
 use memory::parts::copy;
 use memory::parts::zero_fill;
 use settings::Checked;
-use settings::Given;
 use settings::Settings;
 use settings::lengths::Lengths;
 use settings::lengths::lengths_right;
@@ -17,33 +18,9 @@ ghost use lib.ListN.{length};
 ghost use Rattle.theory.specs.Records.{records};
 ghost use Rattle.theory.specs.Layout.{Areas, counted-places, layout};
 ghost use Rattle.theory.specs.Snapshot as plain;
-ghost use Rattle.theory.specs.Snapshot.{not-loaded};
 ghost use Rattle.theory.specs.CallAreas.{areas-now, entry-areas, exit-areas};
 ghost use Rattle.settings.specs.Checked.{card};
 ghost use Rattle.snapshot.specs.Files.{loaded-of, Filling, WritingList, Loading};
-
-// The answer, and the settings handed back: zeros when refused.
-pub struct Loaded {
-    pub number: u32,
-    pub settings: Given,
-}
-
-fn not_loaded(number: u32) -> Loaded
-    ensures { λ r. ⌜ ((a : Areas) → loaded-of r a ≡ not-loaded number a) ⌝ }
-{
-    Loaded {
-        number,
-        settings: Given {
-            p: 0,
-            k: 0,
-            room: 0,
-            top: 0,
-            capacity: 0,
-            side_places: 0,
-            width: 0,
-        },
-    }
-}
 
 // The ledger area of `count` records that fill an area.
 fn write_ledger(s: Settings, ledger: &mut [u8], area: &[u8], count: usize)
@@ -102,7 +79,7 @@ fn load_checked(
     buckets: &mut [u8],
     side: &mut [u8],
     work: &mut [u16],
-) -> Loaded
+) -> HandedBack
     requires { ⌜ Loading s (now table) (now file) (now work) (areas-now ledger «true_counts» clipped buckets side) ⌝ }
     ensures { λ r. ⌜ loaded-of r (exit-areas ledger «true_counts» clipped buckets side)
         ≡ plain.load (now (file .entry)) (length (now (work .entry)))
@@ -111,7 +88,7 @@ fn load_checked(
     let head = read_head(file);
     let number = refusal_by_file(s, head, file);
     if number != 0 {
-        return not_loaded(number);
+        return refused(number);
     }
     let count = head.count;
     let size = head.size;
@@ -120,7 +97,7 @@ fn load_checked(
     let mut kept = [0u16; Settings::CAPACITY_MOST as usize];
     let need = place_area(s, table, m, work, &mut kept[..], area, count);
     if s.side_places < need {
-        return not_loaded(9);
+        return refused(9);
     }
     write_list(
         s,
@@ -136,7 +113,7 @@ fn load_checked(
         count,
         need,
     );
-    Loaded {
+    HandedBack {
         number: 0,
         settings: s.given(),
     }
@@ -151,17 +128,17 @@ pub fn load(
     buckets: &mut [u8],
     side: &mut [u8],
     work: &mut [u16],
-) -> Loaded
+) -> HandedBack
     ensures { λ r. ⌜ loaded-of r (exit-areas ledger «true_counts» clipped buckets side)
         ≡ plain.load (now (file .entry)) (length (now (work .entry)))
         (entry-areas ledger «true_counts» clipped buckets side) ⌝ }
 {
     if head_wrong(file) {
-        return not_loaded(12);
+        return refused(12);
     }
     let checked = read_settings(file);
     let Checked::Allowed(s) = checked else {
-        return not_loaded(1);
+        return refused(1);
     };
     let lengths = Lengths {
         ledger: ledger.len(),
@@ -171,7 +148,7 @@ pub fn load(
         side: side.len(),
     };
     if !((work.len() == s.work_length()) & lengths_right(s, lengths)) {
-        return not_loaded(2);
+        return refused(2);
     }
     // each table where it is read: one that is handed over is copied
     if s.width == Settings::IPV4_WIDTH {

@@ -10,9 +10,9 @@ ghost use Prim.Native.Nat.{_+_, _≤_, _<_};
 ghost use lib.ListN.{length};
 ghost use Rattle.theory.specs.Settings.{allowed};
 ghost use Rattle.theory.specs.Snapshot as plain;
-ghost use Rattle.theory.specs.Snapshot.{settings-count, head-size, file-settings, head-wrong};
+ghost use Rattle.theory.specs.Snapshot.{settings-count, head-size, file-settings, head-wrong, no-settings};
 ghost use Rattle.settings.specs.Checked.{paper, checked-of};
-ghost use Rattle.snapshot.specs.Files.{HeadOf, by-head, by-file};
+ghost use Rattle.snapshot.specs.Files.{HeadOf, Handed, HeadHanded, by-file};
 
 // What the head of a file says beside its settings: how many these are, its bytes, and the second count.
 pub struct Head {
@@ -84,18 +84,50 @@ pub fn read_settings(file: &[u8]) -> Checked
     })
 }
 
-// 12 for the head, 1; else 0. For a door that judges a length of its own with 2.
-pub fn refusal_by_head(file: &[u8]) -> u32
-    ensures { λ r. ⌜ r ≡ by-head (now (file .entry)) ⌝ }
+// The answer, and the settings handed back: zeros when refused.
+pub struct HandedBack {
+    pub number: u32,
+    pub settings: Given,
+}
+
+pub fn refused(number: u32) -> HandedBack
+    ensures { λ r. ⌜ Handed r number no-settings ⌝ }
+{
+    HandedBack {
+        number,
+        settings: Given {
+            p: 0,
+            k: 0,
+            room: 0,
+            top: 0,
+            capacity: 0,
+            side_places: 0,
+            width: 0,
+        },
+    }
+}
+
+// The settings of a file's head, with an area of so many numbers for them: 12 for the head, 1, 2, 12 for a 7 with width 13. No record is read.
+pub fn head_settings(file: &[u8], area_length: usize) -> HandedBack
+    ensures { λ r. ⌜ HeadHanded (now (file .entry)) «area_length» r ⌝ }
 {
     if head_wrong(file) {
-        return 12;
+        return refused(12);
     }
     let checked = read_settings(file);
-    let Checked::Allowed(_) = checked else {
-        return 1;
+    let Checked::Allowed(s) = checked else {
+        return refused(1);
     };
-    0
+    if area_length != crate::SETTINGS {
+        return refused(2);
+    }
+    if count_at(file) != crate::first_count(s) {
+        return refused(12);
+    }
+    HandedBack {
+        number: 0,
+        settings: s.given(),
+    }
 }
 
 // 8, 12 for a 7 with width 13 and for a cut or overlong file, 13; else 0.

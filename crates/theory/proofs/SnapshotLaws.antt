@@ -1,5 +1,7 @@
--- Laws of snapshots: what was saved loads to the same settings and flows, and a file that loads is the one that saving then writes.
+-- Laws of snapshots: what was saved loads to the same settings and flows, a file that loads is the one that saving then writes, and a file's head says the
+-- settings that it loads with.
 use mathlib.Core.Path.{_≡_, refl, sym, ap, _∙_}
+use mathlib.Core.Logic.{_≢_}
 use mathlib.Core.Bool.{Bool, true, false, cond, not, _||_}
 use mathlib.Core.List.{List, [], _∷_, _++_, map, append-assoc, append-nil}
 use Prim.Native.Nat.{ℕ, zero, suc, _+_, _*_, _≤_, _<_}
@@ -17,7 +19,8 @@ use Rattle.theory.specs.Ledger.{side-short}
 use Rattle.theory.specs.Calls.{ledger-records, ledger-invalid, all-lengths}
 use Rattle.theory.specs.Snapshot.{section, settings-list, settings-count, first-count, head-size, snapshot, Saved, save}
 use Rattle.theory.specs.Snapshot.{Loaded, file-settings, file-count, file-records, head-wrong, body-wrong, load}
-use Rattle.theory.specs.Demands.{Byte, HasLayout, Sized, LoadSave, SaveLoad}
+use Rattle.theory.specs.Snapshot.{head-refusal, head-settings}
+use Rattle.theory.specs.Demands.{Byte, HasLayout, Sized, LoadSave, SaveLoad, HeadLoad, HeadSave, HeadSizes}
 use Rattle.theory.proofs.ListLaws.{by-test, getD-map-upto, all-every, all-each, all-map, all-drop, length-flat, or-left, or-right}
 use Rattle.theory.proofs.SettingsLaws.{ranges, sound}
 use Rattle.theory.proofs.ByteLaws.{length-to-bytes, of-to-bytes, to-of-bytes, length-record, read-entries, write-entries, length-records, read-records}
@@ -210,13 +213,17 @@ module _ (t : Settings) (ledger : List ℕ) (w : ℕ) (target : List ℕ) (done 
       (λ q. omega arith) (d .1) in
       record { ok = not-false (allowed t) (a .0); lengths = not-false _ (b .0); valid = c .0; need = d .0; wrote = rw (a .0, b .0, c .0, d .0, e .0) }
 
+  flows-have-layout : All Byte ledger → HasLayout (card-of t) flows
+  flows-have-layout bytes =
+      let s = card-of t in
+      let g = saving in
+      let lengths = all-each (λ x. x) (eqb w (work-length s) ∷ eqb (length ledger) (ledger-length s) ∷ []) (g .lengths) in
+      valid-has-layout s ledger bytes (eqb-true _ _ (lengths .1 .0)) (g .valid) (g .need)
+
 pub load-save : LoadSave
 load-save t ledger w target done bytes a z =
-    let s = card-of t in
     let g = saving t ledger w target done in
-    let lengths = all-each (λ x. x) (eqb w (work-length s) ∷ eqb (length ledger) (ledger-length s) ∷ []) (g .lengths) in
-    let size : length ledger ≡ ledger-length s = eqb-true _ _ (lengths .1 .0) in
-    rw (g .wrote) (load-snapshot t (g .ok) (ledger-records s ledger) (valid-has-layout s ledger bytes size (g .valid) (g .need)) a z)
+    rw (g .wrote) (load-snapshot t (g .ok) (flows t ledger w target done) (flows-have-layout t ledger w target done bytes) a z)
 
 -- ---- SAVE-LOAD: a file that loads is the one that saving then writes
 module _ (f : List ℕ) (w : ℕ) (a : Areas) (done : load f w a .number ≡ 0) where
@@ -235,6 +242,7 @@ module _ (f : List ℕ) (w : ℕ) (a : Areas) (done : load f w a .number ≡ 0) 
 
   -- what a load that is not refused has found
   record Loading : Type 0 where
+    head : head-wrong f ≡ false
     known : (eqb c 6 || eqb c 7) ≡ true
     long : h ≤ length f
     ok : allowed t ≡ true
@@ -257,6 +265,7 @@ module _ (f : List ℕ) (w : ℕ) (a : Areas) (done : load f w a .number ≡ 0) 
       let b₆ = passed n (not (rising (file-records f))) (λ q. omega arith) (b₅ .1) in
       let b₇ = passed n (side-short s (file-records f)) (λ q. omega arith) (b₆ .1) in
       record {
+        head = b₁ .0;
         known = not-false _ (or-left (not (eqb c 6 || eqb c 7)) _ (b₁ .0));
         long = ltb-false (length f) h (or-right (not (eqb c 6 || eqb c 7)) _ (b₁ .0));
         ok = not-false (allowed t) (b₂ .0);
@@ -321,3 +330,51 @@ save-load f w a done bytes target e =
     rw (g .wrote)
     (save-layout t (g .ok) l h target (e ∙ ap length (sym written)) (layout (card-of t) l .ledger) refl (sized (card-of t) (sound t (g .ok)) l h .ledger)
     ∙ rw written)
+
+-- ---- the settings of a file's head
+pub head-load : HeadLoad
+unfolding head-settings head-refusal
+head-load f w a done area seven =
+    let g = loading f w a done in
+    rw (eq-eqb (length area) settings-count seven, g .head, g .ok, eq-eqb (count-of f) (first-count (file-settings f)) (g .first), g .wrote)
+
+-- a load of the saved file into areas that hold its layout
+pub head-save : HeadSave
+head-save t ledger w target done bytes area seven =
+    let s = card-of t in
+    let l = flows t ledger w target done in
+    let right = sized s (sound t (saving t ledger w target done .ok)) l (flows-have-layout t ledger w target done bytes) in
+    let loads = load-save t ledger w target done bytes (layout s l) right in
+    head-load _ (work-length s) (layout s l) (ap (λ (x : Loaded). x .number) loads) area seven
+    ∙ ap (λ (x : Loaded). record { number = 0; settings = settings-list (x .settings) }) loads
+
+-- an answer that is neither 1 nor 2
+record Neither (x : Loaded) : Type 0 where
+  one : x .number ≢ 1
+  two : x .number ≢ 2
+
+either : (t : Bool) {a b : Loaded} → Neither a → Neither b → Neither (cond t a b)
+either true p q = p
+either false p q = q
+
+-- with its head, allowed settings and areas of their lengths a file loads, or is refused with 8, 12, 13 or 9
+sized-load : (f : List ℕ) (a : Areas) → head-wrong f ≡ false → not (allowed (file-settings f)) ≡ false → Sized (card-of (file-settings f)) a
+    → Neither (load f (work-length (card-of (file-settings f))) a)
+unfolding load
+sized-load f a whole ok z =
+    let t = file-settings f in
+    let s = card-of t in
+    let w = work-length s in
+    rw (whole, ok, eq-eqb w w refl, all-lengths-right s a z)
+    (either (ltb (t .capacity) (file-count f)) (record { one = λ q. omega arith; two = λ q. omega arith })
+    (either (body-wrong t f) (record { one = λ q. omega arith; two = λ q. omega arith })
+    (either (not (rising (file-records f))) (record { one = λ q. omega arith; two = λ q. omega arith })
+    (either (side-short s (file-records f)) (record { one = λ q. omega arith; two = λ q. omega arith })
+    (record { one = λ q. omega arith; two = λ q. omega arith })))))
+
+pub head-sizes : HeadSizes
+unfolding head-settings head-refusal
+head-sizes f area done a z =
+    let whole = passed (λ (n : ℕ). n) (head-wrong f) (λ q. omega arith) done in
+    let ok = passed (λ (n : ℕ). n) (not (allowed (file-settings f))) (λ q. omega arith) (whole .1) in
+    let loads = sized-load f a (whole .0) (ok .0) z in (loads .one, loads .two)

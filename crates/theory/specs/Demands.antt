@@ -1,6 +1,6 @@
 -- The three demands as statements in the words of the other files of this folder, and what they assume of records, lists, areas and calls. The name of the law
--- that proves a statement stands at it: `load-save` and `save-load` are in proofs/SnapshotLaws.antt, `as-lent` is in proofs/LentLaws.antt, the others are in
--- proofs/Demands.antt.
+-- that proves a statement stands at it: `load-save`, `save-load` and the three on a file's head are in proofs/SnapshotLaws.antt, `as-lent` is in
+-- proofs/LentLaws.antt, the others are in proofs/Demands.antt.
 use mathlib.Core.Path.{_≡_}
 use mathlib.Core.Logic.{_≢_}
 use mathlib.Core.Bool.{Bool, true, not, _&&_}
@@ -18,7 +18,7 @@ use Rattle.theory.specs.Ledger.{Call, clear, add, change, remove, search
 use Rattle.theory.specs.Calls.{reply-number, reply-class, reply-buckets-read, reply-compared}
 use Rattle.theory.specs.Calls.{ledger-records, lookup-lengths, only-reads, lent-areas, lent-work, perform}
 use Rattle.theory.specs.Calls.{run, areas-after, last-state, run-plain, list-after}
-use Rattle.theory.specs.Snapshot.{save, load}
+use Rattle.theory.specs.Snapshot.{settings-list, settings-count, save, file-settings, load, head-settings}
 use Rattle.theory.specs.Packet.{read-packet}
 
 -- ---- WHAT IS ASSUMED
@@ -107,6 +107,25 @@ abbrev pub SaveLoad : Type 0
 SaveLoad =
     (f : List ℕ) (w : ℕ) (a : Areas) → load f w a .number ≡ 0 → All Byte f → (target : List ℕ) → length target ≡ length f
     → save (load f w a .settings) (load f w a .areas .ledger) (work-length (card-of (load f w a .settings))) target ≡ record { number = 0; target = f }
+
+-- the settings of a file's head, in an area of 7 numbers for them, are those that the file loads with, whatever the areas: head-load
+abbrev pub HeadLoad : Type 0
+HeadLoad =
+    (f : List ℕ) (w : ℕ) (a : Areas) → load f w a .number ≡ 0 → (area : List ℕ) → length area ≡ settings-count
+    → head-settings f area ≡ record { number = 0; settings = settings-list (load f w a .settings) }
+
+-- of a saved snapshot they are the settings that it was saved under: head-save
+abbrev pub HeadSave : Type 0
+HeadSave =
+    (t : Settings) (ledger : List ℕ) (w : ℕ) (target : List ℕ) → save t ledger w target .number ≡ 0 → All Byte ledger
+    → (area : List ℕ) → length area ≡ settings-count
+    → head-settings (save t ledger w target .target) area ≡ record { number = 0; settings = settings-list t }
+
+-- "so that a caller can size its areas before loading": with areas of the lengths under them the load answers neither 1 nor 2: head-sizes
+abbrev pub HeadSizes : Type 0
+HeadSizes =
+    (f area : List ℕ) → head-settings f area .number ≡ 0 → (a : Areas) → Sized (card-of (file-settings f)) a
+    → (load f (work-length (card-of (file-settings f))) a .number ≢ 1) × (load f (work-length (card-of (file-settings f))) a .number ≢ 2)
 
 -- ---- DEMAND 3: "Clear a table under any accepted settings, whatever its areas held before. Run on it, under these settings, any list" of calls. "Each answer,
 -- refusals and counts too, equals that of the plain ledger fed the same calls. .. After the clear and after every call the five areas hold exactly the layout

@@ -86,13 +86,20 @@ file-records f = records (card-of (file-settings f) .width) (file-count f) (drop
 unfoldable pub head-wrong : List ℕ → Bool
 head-wrong f = not (eqb (count-of f) 6 || eqb (count-of f) 7) || ltb (length f) (head-size (count-of f))
 
--- 12 also for a first count that these settings are not saved with, a 7 with width 13, and for a cut or overlong file
+-- 12 also for a first count that these settings are not saved with, a 7 with width 13
+abbrev pub first-wrong : Settings → List ℕ → Bool
+first-wrong t f = not (eqb (count-of f) (first-count t))
+
+-- and for a cut or overlong file
 unfoldable pub body-wrong : Settings → List ℕ → Bool
-body-wrong t f = not (eqb (count-of f) (first-count t)) || not (eqb (length f) (head-size (count-of f) + record-size (card-of t) * file-count f))
+body-wrong t f = first-wrong t f || not (eqb (length f) (head-size (count-of f) + record-size (card-of t) * file-count f))
 
 -- refused: settings handed back are zeros, areas unaltered
+abbrev pub no-settings : Settings
+no-settings = record { p = 0; k = 0; room = 0; top = 0; capacity = 0; side-places = 0; width = 0 }
+
 abbrev pub not-loaded : ℕ → Areas → Loaded
-not-loaded n a = record { number = n; settings = record { p = 0; k = 0; room = 0; top = 0; capacity = 0; side-places = 0; width = 0 }; areas = a }
+not-loaded n a = record { number = n; settings = no-settings; areas = a }
 
 -- 12 for the head; then 1, 2, 8, 12 for a 7 with width 13 and for a cut or overlong file, 13, and 9 only when nothing else applies
 unfoldable pub load : List ℕ → ℕ → Areas → Loaded
@@ -106,3 +113,25 @@ load f w a =
     (cond (body-wrong t f) (not-loaded 12 a)
     (cond (not (rising (file-records f))) (not-loaded 13 a)
     (cond (side-short s (file-records f)) (not-loaded 9 a) (record { number = 0; settings = t; areas = layout s (file-records f) })))))))
+
+-- ---- the settings of a file's head, so that a caller can size its areas before loading: the answer's number, and the area for them after the call
+pub record HandedBack : Type 0 where
+  pub number : ℕ
+  pub settings : List ℕ
+
+-- with an area of n numbers for them: "12 without a head; 1; 2, settings not of 7 numbers; 12, a 7 with width 13; else 0". The second count and what
+-- follows it are not judged
+unfoldable pub head-refusal : List ℕ → ℕ → ℕ
+head-refusal f n =
+    let t = file-settings f in
+    cond (head-wrong f) 12 (cond (not (allowed t)) 1 (cond (not (eqb n settings-count)) 2 (cond (first-wrong t f) 12 0)))
+
+-- what is handed back with a number: the settings, or zeros when refused
+abbrev pub handed-with : ℕ → Settings → Settings
+handed-with n t = cond (eqb n 0) t no-settings
+
+-- the seven settings; "refused, zeros in an area of 7 numbers, another one as it was"
+unfoldable pub head-settings : List ℕ → List ℕ → HandedBack
+head-settings f area =
+    let n = head-refusal f (length area) in
+    record { number = n; settings = cond (eqb (length area) settings-count) (settings-list (handed-with n (file-settings f))) area }

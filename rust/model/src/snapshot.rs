@@ -76,13 +76,42 @@ pub fn load(file: &[u8], areas: &mut Areas, work: usize, settings: &mut [u64]) -
             *areas = new;
             0
         }
-        Err(number) => {
-            if settings.len() == SETTINGS_COUNT {
-                settings.fill(0);
-            }
-            number
-        }
+        Err(number) => refused(number, settings),
     }
+}
+
+/// "the settings of a snapshot's head, of 6 or of 7 (12 without a head; 1; 2, settings not of 7 numbers; 12, a 7 with width 13; else 0; refused, zeros in
+/// an area of 7 numbers, another one as it was)"
+pub fn file_settings(file: &[u8], settings: &mut [u64]) -> u32 {
+    match settings_of_head(file, settings.len()) {
+        Ok(of_file) => {
+            settings.copy_from_slice(&of_file.numbers());
+            0
+        }
+        Err(number) => refused(number, settings),
+    }
+}
+
+fn settings_of_head(file: &[u8], for_settings: usize) -> Result<Settings, u32> {
+    let head = Head::of(file).ok_or(12u32)?;
+    if !head.settings.allowed() {
+        return Err(1);
+    }
+    if for_settings != SETTINGS_COUNT {
+        return Err(2);
+    }
+    if head.first_count == WITH_WIDTH && head.settings.width == IPV4_WIDTH {
+        return Err(12);
+    }
+    Ok(head.settings)
+}
+
+/// The refusal, with zeros in an area of seven numbers and another one as it was.
+fn refused(number: u32, settings: &mut [u64]) -> u32 {
+    if settings.len() == SETTINGS_COUNT {
+        settings.fill(0);
+    }
+    number
 }
 
 /// What a file has before its records.

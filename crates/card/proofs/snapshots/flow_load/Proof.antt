@@ -9,7 +9,7 @@ returns : tie.Need-returns
 returns c =
     let start = c .before .before .before .before .before .before .before .before .before .before in
     settings-area-wrong (start .args .file .now) (length (start .args .work .now)) _ (start .args .settings .now) (c .before .if1 .taken)
-    _ (c .refuse-settings-area .ensures)
+    _ (c .head-settings .ensures .number)
 
 returns-2 : tie.Need-returns-2
 returns-2 c =

@@ -15,7 +15,7 @@ use Rattle.placing.proofs.ReadyLaws.{ready-by-byte, ready-by-half}
 use Rattle.writing.proofs.JudgedLaws.{Permitted, permitted, permits, Tested, words-right, areas-right}
 use Rattle.placing.specs.Ready.{Ready}
 use Rattle.snapshot.specs.Files.{Loading}
-use Rattle.snapshot.proofs.LoadLaws.{loads-12, loads-1, loads-2}
+use Rattle.snapshot.proofs.LoadLaws.{refused-as, loads-12, loads-1, loads-2}
 use Rattle.snapshot.proofs.loading.load.Statement.{statement}
 use Rattle.snapshot.proofs.loading.load.Tie as tie
 
@@ -66,12 +66,12 @@ returns-2 : tie.Need-returns-2
 returns-2 c =
     let read = c .before .before .before in
     let refused = refused-arm _ _ (read .read-settings .ensures) (c .before .enum-told .given .1) in
-    c .not-loaded2 .ensures _ ∙ loads-1 _ _ _ (right-head (read .before)) refused
+    refused-as (c .refused2 .ensures) _ ∙ loads-1 _ _ _ (right-head (read .before)) refused
 
 returns-3 : tie.Need-returns-3
 returns-3 c =
     let judged = c .before .before in
-    c .not-loaded3 .ensures _ ∙ loads-2 _ (right-head (headed judged)) (tested judged) (not-true _ (c .before .if2 .taken))
+    refused-as (c .refused3 .ensures) _ ∙ loads-2 _ (right-head (headed judged)) (tested judged) (not-true _ (c .before .if2 .taken))
 
 -- ---- they are right, whichever table is lent
 module _ (c : tie.Else2) where
@@ -108,7 +108,7 @@ load-checked-requires-2 c κs =
 pub load-spec : {M : Type 1} → statement M
 load-spec =
     tie.close (tie.spec (λ c κs. search needs) (λ c κs. search needs)
-    (λ c. c .not-loaded .ensures _ ∙ loads-12 _ _ _ (sym (c .before .before .head-wrong .ensures) ∙ c .before .if1 .taken))
+    (λ c. refused-as (c .refused .ensures) _ ∙ loads-12 _ _ _ (sym (c .before .before .head-wrong .ensures) ∙ c .before .if1 .taken))
     (λ c κs. right-head c) (λ c. search needs) (λ c. search needs) (λ c κs. search needs) returns-2
     (λ c κs. permits (allowed-as c)) (λ c κs. permits (allowed-as (c .before))) (λ c κs. search needs) returns-3 (λ c κs. search needs) (λ c. search needs)
     load-checked-requires (λ c. search needs) (λ c. search needs) (λ c. search needs) (λ c. search needs) (λ c. search needs) (λ c. search needs)

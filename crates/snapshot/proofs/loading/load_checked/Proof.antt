@@ -15,7 +15,7 @@ use Rattle.settings.proofs.Laws.{capacity-is, side-places-are, work-length-is}
 use Rattle.snapshot.specs.declared.reading.Head.{Head}
 use Rattle.snapshot.specs.Files.{listed, by-file}
 use Rattle.snapshot.proofs.FileLaws.{FullFile, full-file, lent-full, lent-fits, lent-listed}
-use Rattle.snapshot.proofs.LoadLaws.{loads-refused, loads-9, loads-0}
+use Rattle.snapshot.proofs.LoadLaws.{refused-as, loads-refused, loads-9, loads-0}
 use Rattle.snapshot.proofs.loading.load_checked.Statement.{statement}
 use Rattle.snapshot.proofs.loading.load_checked.Tie as tie
 
@@ -85,7 +85,7 @@ module _ (c : tie.Else2) where
 returns : tie.Need-returns
 returns c =
     let refused = c .before .before in
-    c .not-loaded .ensures _ ∙ loads-refused (start refused .pre) (refused .refusal-by-file .ensures) (c .before .if1 .taken)
+    refused-as (c .refused .ensures) _ ∙ loads-refused (start refused .pre) (refused .refusal-by-file .ensures) (c .before .if1 .taken)
 
 place-area-requires : tie.Need-place-area-requires
 place-area-requires c κs =
@@ -104,7 +104,7 @@ returns-2 : tie.Need-returns-2
 returns-2 c =
     let place = c .before .before .before .before .before .before in
     let counted = counted place in
-    c .not-loaded2 .ensures _
+    refused-as (c .refused2 .ensures) _
     ∙ loads-9 (start (e place) .pre) (none counted) (need-is place) (omega (arith, c .before .if2 .taken, side-places-are (t (e place))))
 
 write-list-requires : tie.Need-write-list-requires
