@@ -4,6 +4,7 @@
 //! takes: [`Settings`] that are in range, a [`Table`] that owns its areas, a [`HashTable`] that is filled, [`LookupAreas`] to [`search`],
 //! by one key or by a burst of keys ([`search_burst`]), and to [`tally`] where others own them, a [`Window`] over the latest searches, the key
 //! of a packet by [`packet_key`] or [`packet6_key`], the [`Generator`] of a load for the bench, and a [`Refusal`] in place of a number.
+//! A [`Live`] table is updated by one thread while others search it, each by a [`Reader`] that takes [`View`]s.
 //!
 //! A table's keys are all of one width, the last of its settings: [`IPV4_WIDTH`], 13 bytes, or [`IPV6_WIDTH`], 37. A call takes a key as a slice
 //! and refuses one of another width.
@@ -12,6 +13,7 @@
 
 mod generator;
 mod hash;
+mod live;
 mod lookup;
 mod packet;
 mod refusal;
@@ -22,6 +24,7 @@ pub mod doors;
 
 pub use generator::Generator;
 pub use hash::{hash, key_buckets, HashTable, KeyBuckets};
+pub use live::{Live, Reader, View};
 pub use lookup::{
     search, search_burst, search_counts, search_counts_lent, search_lent, search_place, tally,
     Answers, LookupAreas, RecordPlace, SearchAnswer, SearchCounts, Store, Tally,
