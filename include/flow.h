@@ -549,6 +549,16 @@ static inline uint32_t flow_table_save(struct flow_table *table, uint8_t *target
                      target_length);
 }
 
+/* flow_file_settings as a struct: with it a table is opened to load the file into. Refused, settings are zeros. */
+static inline uint32_t flow_settings_of_file(struct flow_settings *settings, const uint8_t *file, size_t file_length)
+{
+    uint64_t n[FLOW_SETTINGS_COUNT];
+    uint32_t answer = flow_file_settings(file, file_length, n, FLOW_SETTINGS_COUNT);
+    struct flow_settings read = {n[0], n[1], n[2], n[3], n[4], n[5], n[6]};
+    *settings = read;
+    return answer;
+}
+
 /* Into a table whose areas have the lengths that the file's settings ask for. 0: the table has the file's settings and flows. Refused: it is as it
  * was. */
 static inline uint32_t flow_table_load(struct flow_table *table, const uint8_t *file, size_t file_length)

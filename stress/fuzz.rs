@@ -2,7 +2,7 @@
 //! compared with the model's, and the model's two searches with each other. A difference aborts, which the fuzzer reports with the bytes that led
 //! there.
 
-use flow::{doors, Generator, HashTable};
+use flow::{doors, Generator, KeyHasher};
 use model::bench_load;
 use model::calls::{perform, Call};
 use model::card::Card;
@@ -163,7 +163,7 @@ impl Bytes<'_> {
 
 thread_local! {
     // filled once, not for every input
-    static HASH_TABLES: &'static [HashTable] =
+    static HASH_TABLES: &'static [KeyHasher] =
         Vec::leak(WIDTHS.into_iter().flat_map(tables).collect());
 }
 
@@ -171,7 +171,7 @@ struct Trial {
     card: Card,
     areas: Areas,
     // every hash table of either width
-    hash_tables: &'static [HashTable],
+    hash_tables: &'static [KeyHasher],
     window: BesideModel,
 }
 
@@ -250,7 +250,7 @@ impl Trial {
     // A right hash table for the width: at 37 by half-byte or by byte. Where the width is none, any.
     fn right_table(&self, bytes: &mut Bytes) -> &[u64] {
         let width = self.width();
-        let mut right: Vec<&HashTable> = self.hash_tables.iter().collect();
+        let mut right: Vec<&KeyHasher> = self.hash_tables.iter().collect();
         if WIDTHS.contains(&width) {
             right.retain(|table| table.width() == width);
         }

@@ -1,7 +1,7 @@
 //! Ten million calls through the doors at each width, or as many as the first argument says: a random walk of adds, changes, removals, searches and
 //! bursts of searches near what each table can hold. Every answer is compared with the model's, and after every 10,000 calls all areas with the model's layout.
 
-use flow::{doors, HashTable};
+use flow::{doors, KeyHasher};
 use model::calls::Call;
 use model::card::Card;
 use model::layout::{layout, Areas};
@@ -37,7 +37,7 @@ struct Walk {
     work: Vec<u16>,
     ledger: Ledger,
     // every table for the width
-    hash_tables: Vec<HashTable>,
+    hash_tables: Vec<KeyHasher>,
     // four times as many as the capacity
     keys: Vec<Key>,
     // of a hundred calls so many are searches or adds

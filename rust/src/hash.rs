@@ -1,55 +1,58 @@
 //! H of a key, the tables that give it, and a key's bucket numbers.
 
+use std::fmt;
+
 use crate::{accepted, doors, Refusal, Settings, IPV4_WIDTH, IPV6_WIDTH};
 
-/// A table that gives H of keys of one width: by byte, with one read for each byte of a key, or at width 37 by half-byte, with two for each byte
-/// in an eighth of the memory. A call that is lent one for keys of another width refuses it as [`Refusal::AreaLength`].
+/// What gives H of keys of one width by reads: the numbers that flow_hash_table fills, by byte, with one read for each byte of a key, or at width 37 by
+/// half-byte, with two for each byte in an eighth of the memory. A call that is lent one for keys of another width refuses it as
+/// [`Refusal::AreaLength`]. A [`Table`](crate::Table) has one of its own.
 ///
 /// ```
-/// use flow::{hash, HashTable, Refusal, IPV6_WIDTH};
+/// use flow::{hash, KeyHasher, Refusal, IPV6_WIDTH};
 ///
 /// let key = [7; 37];
 /// let h = hash(IPV6_WIDTH, &key)?;
-/// assert_eq!(HashTable::ipv6_by_byte().hash(&key), Ok(h));
-/// assert_eq!(HashTable::ipv6_by_half_byte().hash(&key), Ok(h));
-/// assert_eq!(HashTable::ipv4().hash(&key), Err(Refusal::KeyLength));
+/// assert_eq!(KeyHasher::ipv6_by_byte().hash(&key), Ok(h));
+/// assert_eq!(KeyHasher::ipv6_by_half_byte().hash(&key), Ok(h));
+/// assert_eq!(KeyHasher::ipv4().hash(&key), Err(Refusal::KeyLength));
 /// # Ok::<(), Refusal>(())
 /// ```
-#[derive(Clone, Debug)]
-pub struct HashTable {
+#[derive(Clone)]
+pub struct KeyHasher {
     width: u64,
     entries: Vec<u64>,
 }
 
-impl HashTable {
+impl KeyHasher {
     /// For keys of 13 bytes: by byte, 26,624 bytes.
-    pub fn ipv4() -> HashTable {
-        HashTable::filled(IPV4_WIDTH, 256 * IPV4_WIDTH as usize)
+    pub fn ipv4() -> KeyHasher {
+        KeyHasher::filled(IPV4_WIDTH, 256 * IPV4_WIDTH as usize)
     }
 
     /// For keys of 37 bytes: by byte, 75,776 bytes.
-    pub fn ipv6_by_byte() -> HashTable {
-        HashTable::filled(IPV6_WIDTH, 256 * IPV6_WIDTH as usize)
+    pub fn ipv6_by_byte() -> KeyHasher {
+        KeyHasher::filled(IPV6_WIDTH, 256 * IPV6_WIDTH as usize)
     }
 
     /// For keys of 37 bytes: by half-byte, 9,472 bytes.
-    pub fn ipv6_by_half_byte() -> HashTable {
-        HashTable::filled(IPV6_WIDTH, 16 * 2 * IPV6_WIDTH as usize)
+    pub fn ipv6_by_half_byte() -> KeyHasher {
+        KeyHasher::filled(IPV6_WIDTH, 16 * 2 * IPV6_WIDTH as usize)
     }
 
     /// For the keys of a table with these settings: by byte, of either width.
-    pub fn of(settings: &Settings) -> HashTable {
+    pub fn of(settings: &Settings) -> KeyHasher {
         match settings.width {
-            IPV4_WIDTH => HashTable::ipv4(),
-            _ => HashTable::ipv6_by_byte(),
+            IPV4_WIDTH => KeyHasher::ipv4(),
+            _ => KeyHasher::ipv6_by_byte(),
         }
     }
 
-    fn filled(width: u64, length: usize) -> HashTable {
+    fn filled(width: u64, length: usize) -> KeyHasher {
         let mut entries = vec![0; length];
         accepted(doors::hash_table(width, &mut entries))
             .expect("a table of a width and of a length for it is filled");
-        HashTable { width, entries }
+        KeyHasher { width, entries }
     }
 
     /// H of a key. [`Refusal::KeyLength`] where the key is not of the table's width.
@@ -68,6 +71,13 @@ impl HashTable {
     /// 2 * a is the low four bits of key byte a.
     pub fn entries(&self) -> &[u64] {
         &self.entries
+    }
+}
+
+impl fmt::Debug for KeyHasher {
+    fn fmt(&self, f: &mut fmt::Formatter<'_>) -> fmt::Result {
+        let (width, numbers) = (self.width, self.entries.len());
+        write!(f, "KeyHasher {{ width: {width}, numbers: {numbers} }}")
     }
 }
 

@@ -1,7 +1,7 @@
 //! The flow card's pruned hash table, over the doors of its proved static library.
 //!
 //! [`doors`] has each door as it stands: numbers and slices in, the answer's number out. The rest of the crate is what a Rust user
-//! takes: [`Settings`] that are in range, a [`Table`] that owns its areas, a [`HashTable`] that is filled, [`LookupAreas`] to [`search`],
+//! takes: [`Settings`] that are in range, a [`FlowKey`] of addresses, ports and protocol, a [`Table`] that owns its areas, a [`KeyHasher`], [`LookupAreas`] to [`search`],
 //! by one key or by a burst of keys ([`search_burst`]), and to [`tally`] where others own them, a [`Window`] over the latest searches, the key
 //! of a packet by [`packet_key`] or [`packet6_key`], the [`Generator`] of a load for the bench, and a [`Refusal`] in place of a number.
 //! A [`Live`] table is updated by one thread while others search it, each by a [`Reader`] that takes [`View`]s.
@@ -11,6 +11,7 @@
 
 #![deny(missing_docs)]
 
+mod flow_key;
 mod generator;
 mod hash;
 mod live;
@@ -22,16 +23,17 @@ mod window;
 
 pub mod doors;
 
+pub use flow_key::{BadFlowKey, FlowKey};
 pub use generator::Generator;
-pub use hash::{hash, key_buckets, HashTable, KeyBuckets};
+pub use hash::{hash, key_buckets, KeyBuckets, KeyHasher};
 pub use live::{Live, Reader, View};
 pub use lookup::{
     search, search_burst, search_counts, search_counts_lent, search_lent, search_place, tally,
     Answers, LookupAreas, RecordPlace, SearchAnswer, SearchCounts, Store, Tally,
 };
 pub use packet::{packet6_key, packet6_key_into, packet_key, packet_key_into};
-pub use refusal::Refusal;
-pub use table::{Table, TableAreas};
+pub use refusal::{NoRefusal, Refusal};
+pub use table::{Flows, Table, TableAreas};
 pub use window::{Window, WindowCounts};
 
 /// A table has this many settings.
@@ -70,21 +72,28 @@ pub struct Settings {
     width: u64,
 }
 
+/// Settings under way: each is given by its name, and all are judged by [`SettingsBuilder::build`].
+#[derive(Clone, Copy, Debug)]
+#[must_use]
+pub struct SettingsBuilder {
+    numbers: [u64; SETTINGS_COUNT],
+}
+
 /// The lengths of the six areas that a table is lent.
 #[derive(Clone, Copy, Debug, PartialEq, Eq)]
 pub struct AreaLengths {
     /// The ledger, in bytes.
-    pub ledger: u64,
+    pub ledger: usize,
     /// The true counts, in 16-bit numbers.
-    pub true_counts: u64,
+    pub true_counts: usize,
     /// The clipped counts, in bytes.
-    pub clipped_counts: u64,
+    pub clipped_counts: usize,
     /// The buckets, in bytes.
-    pub buckets: u64,
+    pub buckets: usize,
     /// The side store, in bytes.
-    pub side_store: u64,
+    pub side_store: usize,
     /// The work area, in 16-bit numbers.
-    pub work: u64,
+    pub work: usize,
 }
 
 impl Settings {
@@ -144,6 +153,60 @@ impl Settings {
         ]
     }
 
+    /// Settings by name. They start as those of a table for 4,096 IPv4 flows with the fewest records compared: p 12, k 3, room 4, top 15,
+    /// capacity 4,096, side places 64, width 13.
+    ///
+    /// ```
+    /// use flow::{Refusal, Settings, IPV6_WIDTH};
+    ///
+    /// let settings = Settings::builder().p(8).room(2).capacity(256).width(IPV6_WIDTH).build()?;
+    /// assert_eq!(settings, Settings::new(8, 3, 2, 15, 256, 64, 37)?);
+    /// assert_eq!((settings.p(), settings.k(), settings.room(), settings.top()), (8, 3, 2, 15));
+    /// assert_eq!((settings.capacity(), settings.side_places(), settings.width()), (256, 64, 37));
+    /// assert_eq!(Settings::builder().p(13).build(), Err(Refusal::Setting));
+    /// # Ok::<(), Refusal>(())
+    /// ```
+    pub fn builder() -> SettingsBuilder {
+        SettingsBuilder {
+            numbers: [12, 3, 4, 15, 4096, 64, IPV4_WIDTH],
+        }
+    }
+
+    /// p: there are 2^p buckets.
+    pub fn p(&self) -> u64 {
+        self.p
+    }
+
+    /// k, the bucket hashes of a key.
+    pub fn k(&self) -> u64 {
+        self.k
+    }
+
+    /// The records that a bucket has room for.
+    pub fn room(&self) -> u64 {
+        self.room
+    }
+
+    /// The top count of a counter.
+    pub fn top(&self) -> u64 {
+        self.top
+    }
+
+    /// The most flows that are held.
+    pub fn capacity(&self) -> u64 {
+        self.capacity
+    }
+
+    /// The records that the side store has room for.
+    pub fn side_places(&self) -> u64 {
+        self.side_places
+    }
+
+    /// The width: the bytes of a key, as a setting.
+    pub fn width(&self) -> u64 {
+        self.width
+    }
+
     /// The width: the bytes of a key.
     pub fn key_bytes(&self) -> usize {
         self.width as usize
@@ -159,7 +222,8 @@ impl Settings {
         let mut lengths = [0; 6];
         accepted(doors::area_lengths(self.numbers(), &mut lengths))
             .expect("settings in range have area lengths");
-        let [ledger, true_counts, clipped_counts, buckets, side_store, work] = lengths;
+        let [ledger, true_counts, clipped_counts, buckets, side_store, work] =
+            lengths.map(|length| length as usize);
         AreaLengths {
             ledger,
             true_counts,
@@ -171,10 +235,58 @@ impl Settings {
     }
 }
 
+impl SettingsBuilder {
+    // Setting `at`, in the order of [`Settings::new`].
+    fn with(mut self, at: usize, number: u64) -> SettingsBuilder {
+        self.numbers[at] = number;
+        self
+    }
+
+    /// p, 4 to 12: there are 2^p buckets.
+    pub fn p(self, p: u64) -> SettingsBuilder {
+        self.with(0, p)
+    }
+
+    /// k, 1 to 4 bucket hashes of a key.
+    pub fn k(self, k: u64) -> SettingsBuilder {
+        self.with(1, k)
+    }
+
+    /// Room for 1 to 4 records a bucket.
+    pub fn room(self, room: u64) -> SettingsBuilder {
+        self.with(2, room)
+    }
+
+    /// The top count of a counter, 2 to 15.
+    pub fn top(self, top: u64) -> SettingsBuilder {
+        self.with(3, top)
+    }
+
+    /// The most flows that are held, 1 to 4,096.
+    pub fn capacity(self, capacity: u64) -> SettingsBuilder {
+        self.with(4, capacity)
+    }
+
+    /// Room for 0 to 64 records in the side store.
+    pub fn side_places(self, side_places: u64) -> SettingsBuilder {
+        self.with(5, side_places)
+    }
+
+    /// The width of a key: [`IPV4_WIDTH`] or [`IPV6_WIDTH`].
+    pub fn width(self, width: u64) -> SettingsBuilder {
+        self.with(6, width)
+    }
+
+    /// The settings, or [`Refusal::Setting`] where one is out of its range.
+    pub fn build(self) -> Result<Settings, Refusal> {
+        Settings::of(self.numbers)
+    }
+}
+
 // A door's answer: 0, or the number of a refusal.
 fn accepted(answer: u32) -> Result<(), Refusal> {
-    match Refusal::from_number(answer) {
-        None => Ok(()),
-        Some(refusal) => Err(refusal),
+    match answer {
+        0 => Ok(()),
+        number => Err(Refusal::of_answer(number)),
     }
 }

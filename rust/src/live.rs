@@ -15,10 +15,11 @@
 
 #![forbid(unsafe_code)]
 
+use std::fmt;
 use std::sync::atomic::{AtomicU64, Ordering};
 use std::sync::{Arc, Mutex, MutexGuard, PoisonError};
 
-use crate::{lookup, Answers, HashTable, LookupAreas, Refusal, Settings, Table};
+use crate::{lookup, Answers, KeyHasher, LookupAreas, Refusal, Settings, Table};
 
 // Areas are compared and copied in parts of this many bytes, a line of a processor's cache.
 const LINE: usize = 64;
@@ -117,10 +118,11 @@ pub struct Reader {
 
 /// A [`Live`] table as one update left it, for searching. It does not alter. What else only reads, as [`search_counts`](crate::search_counts), takes
 /// [`View::settings`] and [`View::areas`].
-#[derive(Debug)]
 pub struct View {
     version: u64,
     settings: Settings,
+    // the table's own
+    hasher: Arc<KeyHasher>,
     clipped_counts: Vec<u8>,
     buckets: Vec<u8>,
     side_store: Vec<u8>,
@@ -295,6 +297,7 @@ impl View {
         View {
             version,
             settings: *table.settings(),
+            hasher: Arc::clone(table.hasher()),
             clipped_counts: lookup.clipped_counts.to_vec(),
             buckets: lookup.buckets.to_vec(),
             side_store: lookup.side_store.to_vec(),
@@ -330,24 +333,25 @@ impl View {
     }
 
     /// The class of a held flow, or None for an absent one. [`Refusal::KeyLength`] where the key is not of the table's width.
+    /// It goes by the table's own [`KeyHasher`].
     pub fn search(&self, key: &[u8]) -> Result<Option<u32>, Refusal> {
-        lookup::search(&self.settings, &self.areas(), key)
+        self.search_lent(&self.hasher, key)
     }
 
-    /// [`View::search`] with a hash table that is kept from call to call. Also [`Refusal::AreaLength`] where it is for keys of another width.
-    pub fn search_lent(&self, table: &HashTable, key: &[u8]) -> Result<Option<u32>, Refusal> {
-        lookup::search_lent(table, &self.settings, &self.areas(), key)
+    /// [`View::search`] with a hasher that is kept from call to call. Also [`Refusal::AreaLength`] where it is for keys of another width.
+    pub fn search_lent(&self, hasher: &KeyHasher, key: &[u8]) -> Result<Option<u32>, Refusal> {
+        lookup::search_lent(hasher, &self.settings, &self.areas(), key)
     }
 
     /// [`View::search_lent`] for many keys at once, all in this one table: as [`search_burst`](crate::search_burst).
     ///
     /// ```
-    /// use flow::{HashTable, Live, Refusal, Settings};
+    /// use flow::{KeyHasher, Live, Refusal, Settings};
     ///
     /// let mut live = Live::new(Settings::new(6, 3, 2, 4, 128, 8, 13)?);
     /// let mut reader = live.reader();
     /// live.update(|table| table.add(&[1; 13], 7))?;
-    /// let hash_table = HashTable::ipv4();
+    /// let hash_table = KeyHasher::ipv4();
     /// let keys = [[1; 13], [2; 13]].concat();
     /// let mut numbers = [0; 2];
     /// let mut answers = reader.view().search_burst(&hash_table, &keys, &mut numbers)?;
@@ -357,11 +361,19 @@ impl View {
     /// ```
     pub fn search_burst<'a>(
         &self,
-        table: &HashTable,
+        hasher: &KeyHasher,
         keys: &[u8],
         numbers: &'a mut [u64],
     ) -> Result<Answers<'a>, Refusal> {
-        lookup::search_burst(table, &self.settings, &self.areas(), keys, numbers)
+        lookup::search_burst(hasher, &self.settings, &self.areas(), keys, numbers)
+    }
+}
+
+impl fmt::Debug for View {
+    /// `View { version: 1, settings: [6, 3, 2, 4, 128, 8, 13] }`
+    fn fmt(&self, f: &mut fmt::Formatter<'_>) -> fmt::Result {
+        let (version, settings) = (self.version, self.settings.numbers());
+        write!(f, "View {{ version: {version}, settings: {settings:?} }}")
     }
 }
 

@@ -1,6 +1,6 @@
 //! The calls that only read: search and tally.
 
-use crate::{accepted, doors, HashTable, Refusal, Settings};
+use crate::{accepted, doors, KeyHasher, Refusal, Settings};
 
 // The answer of a search that finds nothing.
 const ABSENT: u32 = 100;
@@ -41,9 +41,9 @@ pub struct Tally {
 /// // the areas of an empty table are all zeros
 /// let settings = Settings::new(6, 3, 2, 4, 128, 8, 13)?;
 /// let lengths = settings.area_lengths();
-/// let clipped_counts = vec![0; lengths.clipped_counts as usize];
-/// let buckets = vec![0; lengths.buckets as usize];
-/// let side_store = vec![0; lengths.side_store as usize];
+/// let clipped_counts = vec![0; lengths.clipped_counts];
+/// let buckets = vec![0; lengths.buckets];
+/// let side_store = vec![0; lengths.side_store];
 /// let areas = LookupAreas {
 ///     clipped_counts: &clipped_counts,
 ///     buckets: &buckets,
@@ -67,11 +67,11 @@ pub fn search(
     ))
 }
 
-/// [`search`] with a table that is kept from call to call: reads of it, for each byte or half-byte of the key, in place of a computation. Also
+/// [`search`] with a hasher that is kept from call to call: reads of it, for each byte or half-byte of the key, in place of a computation. Also
 /// [`Refusal::AreaLength`] where the table is for keys of another width.
 ///
 /// ```
-/// use flow::{search_lent, HashTable, LookupAreas, Refusal, Settings};
+/// use flow::{search_lent, KeyHasher, LookupAreas, Refusal, Settings};
 ///
 /// // One flow of class 7, by hand. The zero key has bucket 0 alone: counter 1, mark 1 and the record.
 /// let settings = Settings::new(4, 1, 1, 2, 1, 0, 13)?;
@@ -85,18 +85,18 @@ pub fn search(
 ///     buckets: &buckets,
 ///     side_store: &[0; 2],
 /// };
-/// let table = HashTable::ipv4();
+/// let table = KeyHasher::ipv4();
 /// assert_eq!(search_lent(&table, &settings, &areas, &[0; 13]), Ok(Some(7)));
 /// # Ok::<(), Refusal>(())
 /// ```
 pub fn search_lent(
-    table: &HashTable,
+    hasher: &KeyHasher,
     settings: &Settings,
     areas: &LookupAreas,
     key: &[u8],
 ) -> Result<Option<u32>, Refusal> {
     found(doors::search_lent(
-        table.entries(),
+        hasher.entries(),
         settings.numbers(),
         areas.clipped_counts,
         areas.buckets,
@@ -257,10 +257,10 @@ pub fn search_counts(
     counted(number, counts)
 }
 
-/// [`search_counts`] with a table that is kept from call to call.
+/// [`search_counts`] with a hasher that is kept from call to call.
 ///
 /// ```
-/// use flow::{search_counts_lent, HashTable, LookupAreas, Refusal, Settings};
+/// use flow::{search_counts_lent, KeyHasher, LookupAreas, Refusal, Settings};
 ///
 /// // the areas of an empty table are all zeros, and a zero counter ends a search
 /// let settings = Settings::new(4, 1, 1, 2, 1, 0, 13)?;
@@ -269,20 +269,20 @@ pub fn search_counts(
 ///     buckets: &[0; 16 * 18],
 ///     side_store: &[0; 2],
 /// };
-/// let table = HashTable::ipv4();
+/// let table = KeyHasher::ipv4();
 /// let answer = search_counts_lent(&table, &settings, &areas, &[1; 13])?;
 /// assert_eq!((answer.class, answer.counts.buckets_read), (None, 0));
 /// # Ok::<(), Refusal>(())
 /// ```
 pub fn search_counts_lent(
-    table: &HashTable,
+    hasher: &KeyHasher,
     settings: &Settings,
     areas: &LookupAreas,
     key: &[u8],
 ) -> Result<SearchAnswer, Refusal> {
     let mut counts = [0; 3];
     let number = doors::search_counts_lent(
-        table.entries(),
+        hasher.entries(),
         settings.numbers(),
         areas.clipped_counts,
         areas.buckets,
@@ -321,7 +321,7 @@ impl ExactSizeIterator for Answers<'_> {}
 /// not the settings' width for each number that is lent. Then the numbers stay. Damaged areas refuse only the keys whose searches read what is damaged.
 ///
 /// ```
-/// use flow::{search_burst, HashTable, LookupAreas, Refusal, Settings};
+/// use flow::{search_burst, KeyHasher, LookupAreas, Refusal, Settings};
 ///
 /// // One flow of class 7, by hand. The zero key has bucket 0 alone: counter 1, mark 1 and the record.
 /// let settings = Settings::new(4, 1, 1, 2, 1, 0, 13)?;
@@ -335,7 +335,7 @@ impl ExactSizeIterator for Answers<'_> {}
 ///     buckets: &buckets,
 ///     side_store: &[0; 2],
 /// };
-/// let table = HashTable::ipv4();
+/// let table = KeyHasher::ipv4();
 ///
 /// // kept from burst to burst, with room for 32 packets, of which two came
 /// let mut keys = [0; 32 * 13];
@@ -351,14 +351,14 @@ impl ExactSizeIterator for Answers<'_> {}
 /// # Ok::<(), Refusal>(())
 /// ```
 pub fn search_burst<'a>(
-    table: &HashTable,
+    hasher: &KeyHasher,
     settings: &Settings,
     areas: &LookupAreas,
     keys: &[u8],
     numbers: &'a mut [u64],
 ) -> Result<Answers<'a>, Refusal> {
     accepted(doors::search_burst(
-        table.entries(),
+        hasher.entries(),
         settings.numbers(),
         areas.clipped_counts,
         areas.buckets,
@@ -424,7 +424,8 @@ fn counted(door: u64, counts: [u32; 3]) -> Result<SearchAnswer, Refusal> {
 // What a search door gave for an answer, as a window takes it: the number, and the counts, which are zeros where it was refused.
 pub(crate) fn as_given(search: Result<SearchAnswer, Refusal>) -> (u64, [u32; 3]) {
     match search {
-        Err(refusal) => (u64::from(refusal.number()) << 32, [0; 3]),
+        // the window passes over any refusal, whatever its number
+        Err(_) => (u64::from(Refusal::Setting.number()) << 32, [0; 3]),
         Ok(SearchAnswer { class, counts }) => {
             let number = class.map_or(u64::from(ABSENT) << 32, u64::from);
             let SearchCounts {
@@ -445,4 +446,25 @@ fn found(door: u64) -> Result<Option<u32>, Refusal> {
     }
     accepted(number)?;
     Ok(Some(door as u32))
+}
+
+#[cfg(test)]
+mod tests {
+    use super::*;
+
+    // What a door may answer, and what no door answers today: only 0 is held, and only 100 is absent.
+    #[test]
+    fn numbers_that_are_not_known_are_no_success() {
+        for number in (0..200).chain([1 << 16, u32::MAX]) {
+            let expected = match number {
+                0 => Ok(Some(7)),
+                100 => Ok(None),
+                number => Err(Refusal::of_answer(number)),
+            };
+            assert_eq!(found(u64::from(number) << 32 | 7), expected);
+            assert_eq!(accepted(number).is_ok(), number == 0);
+        }
+        assert_eq!(accepted(17), Err(Refusal::Unknown(17)));
+        assert_eq!(found(17 << 32), Err(Refusal::Unknown(17)));
+    }
 }

@@ -1,9 +1,12 @@
 //! A table that owns its areas.
 
+use std::fmt;
+use std::sync::Arc;
+
 use crate::doors::{self, LentAreas};
 use crate::{
-    accepted, lookup, Answers, HashTable, LookupAreas, RecordPlace, Refusal, SearchAnswer,
-    Settings, Tally, IPV4_WIDTH, SETTINGS_COUNT,
+    accepted, lookup, Answers, FlowKey, KeyHasher, LookupAreas, RecordPlace, Refusal, SearchAnswer,
+    Settings, Tally, CLASS_BYTES, IPV4_WIDTH, SETTINGS_COUNT,
 };
 
 // A snapshot: a two-byte count of settings, these in two bytes each, a two-byte count of records, and these. Width 13 is left out of it.
@@ -31,13 +34,17 @@ const SETTINGS_WITHOUT_WIDTH: usize = SETTINGS_COUNT - 1;
 /// assert_eq!(ipv6.search(&key), Err(Refusal::KeyLength));
 /// # Ok::<(), Refusal>(())
 /// ```
-#[derive(Clone, Debug)]
+///
+/// Two tables are equal where their settings and flows are, and so their areas' bytes.
+#[derive(Clone)]
 pub struct Table {
     settings: Settings,
     own: OwnAreas,
+    // for the keys' H; clones share it
+    hasher: Arc<KeyHasher>,
 }
 
-#[derive(Clone, Debug, Default)]
+#[derive(Clone, Default)]
 struct OwnAreas {
     ledger: Vec<u8>,
     true_counts: Vec<u16>,
@@ -52,12 +59,12 @@ impl OwnAreas {
     fn of(settings: &Settings) -> OwnAreas {
         let lengths = settings.area_lengths();
         OwnAreas {
-            ledger: vec![0; lengths.ledger as usize],
-            true_counts: vec![0; lengths.true_counts as usize],
-            clipped_counts: vec![0; lengths.clipped_counts as usize],
-            buckets: vec![0; lengths.buckets as usize],
-            side_store: vec![0; lengths.side_store as usize],
-            work: vec![0; lengths.work as usize],
+            ledger: vec![0; lengths.ledger],
+            true_counts: vec![0; lengths.true_counts],
+            clipped_counts: vec![0; lengths.clipped_counts],
+            buckets: vec![0; lengths.buckets],
+            side_store: vec![0; lengths.side_store],
+            work: vec![0; lengths.work],
         }
     }
 
@@ -71,6 +78,12 @@ impl OwnAreas {
         };
         (areas, &mut self.work)
     }
+}
+
+/// The flows of a [`Table`] with their classes, in rising key order: what [`Table::iter`] gives.
+#[derive(Clone)]
+pub struct Flows<'a> {
+    records: std::slice::ChunksExact<'a, u8>,
 }
 
 /// The five areas of a [`Table`], for reading.
@@ -103,14 +116,67 @@ impl Table {
     /// A cleared table.
     pub fn new(settings: Settings) -> Table {
         let own = OwnAreas::of(&settings);
-        let mut table = Table { settings, own };
+        let mut table = Table::with(settings, own);
         table.clear();
         table
+    }
+
+    fn with(settings: Settings, own: OwnAreas) -> Table {
+        Table {
+            hasher: Arc::new(KeyHasher::of(&settings)),
+            settings,
+            own,
+        }
     }
 
     /// The settings.
     pub fn settings(&self) -> &Settings {
         &self.settings
+    }
+
+    /// What gives H of its keys.
+    pub fn hasher(&self) -> &Arc<KeyHasher> {
+        &self.hasher
+    }
+
+    /// How many flows are held.
+    ///
+    /// ```
+    /// use flow::{Refusal, Settings, Table};
+    ///
+    /// let mut table = Table::new(Settings::new(6, 3, 2, 4, 128, 8, 13)?);
+    /// assert!(table.is_empty());
+    /// table.add(&[1; 13], 7)?;
+    /// assert_eq!((table.len(), table.is_empty()), (1, false));
+    /// # Ok::<(), Refusal>(())
+    /// ```
+    pub fn len(&self) -> usize {
+        usize::from(u16::from_be_bytes([self.own.ledger[0], self.own.ledger[1]]))
+    }
+
+    /// Whether no flow is held.
+    pub fn is_empty(&self) -> bool {
+        self.len() == 0
+    }
+
+    /// The flows with their classes, in rising key order.
+    ///
+    /// ```
+    /// use flow::{FlowKey, Refusal, Settings, Table};
+    ///
+    /// let mut table = Table::new(Settings::new(6, 3, 2, 4, 128, 8, 13)?);
+    /// table.add(&[2; 13], 8)?;
+    /// table.add(&[1; 13], 7)?;
+    /// let flows: Vec<(FlowKey, u32)> = table.iter().collect();
+    /// assert_eq!(flows, [([1; 13].into(), 7), ([2; 13].into(), 8)]);
+    /// assert_eq!(table.iter().len(), 2);
+    /// # Ok::<(), Refusal>(())
+    /// ```
+    pub fn iter(&self) -> Flows<'_> {
+        let bytes = self.settings.record_bytes();
+        Flows {
+            records: self.own.ledger[2..][..bytes * self.len()].chunks_exact(bytes),
+        }
     }
 
     /// The five areas.
@@ -155,9 +221,31 @@ impl Table {
         accepted(doors::remove(numbers, areas, work, key))
     }
 
-    /// The class of a held flow, or None for an absent one. [`Refusal::KeyLength`] where the key is not of the table's width.
+    /// The class of a held flow, or None for an absent one. [`Refusal::KeyLength`] where the key is not of the table's width. It goes by the table's
+    /// own [`KeyHasher`].
     pub fn search(&self, key: &[u8]) -> Result<Option<u32>, Refusal> {
-        lookup::search(&self.settings, &self.areas().lookup(), key)
+        self.search_lent(&self.hasher, key)
+    }
+
+    /// The class of a held flow; None for an absent one, and for a key that is not of the table's width.
+    ///
+    /// ```
+    /// use flow::{Refusal, Settings, Table};
+    ///
+    /// let mut table = Table::new(Settings::new(6, 3, 2, 4, 128, 8, 13)?);
+    /// table.add(&[1; 13], 7)?;
+    /// assert_eq!(table.get(&[1; 13]), Some(7));
+    /// assert_eq!((table.get(&[2; 13]), table.get(&[1; 37])), (None, None));
+    /// assert!(table.contains(&[1; 13]) && !table.contains(&[2; 13]));
+    /// # Ok::<(), Refusal>(())
+    /// ```
+    pub fn get(&self, key: &[u8]) -> Option<u32> {
+        self.search(key).ok().flatten()
+    }
+
+    /// Whether a flow is held.
+    pub fn contains(&self, key: &[u8]) -> bool {
+        self.get(key).is_some()
     }
 
     /// [`Table::search`] that also says where the record lies: as [`search_place`](crate::search_place).
@@ -165,9 +253,9 @@ impl Table {
         lookup::search_place(&self.settings, &self.areas().lookup(), key)
     }
 
-    /// [`Table::search`] with a hash table that is kept from call to call.
-    pub fn search_lent(&self, table: &HashTable, key: &[u8]) -> Result<Option<u32>, Refusal> {
-        lookup::search_lent(table, &self.settings, &self.areas().lookup(), key)
+    /// [`Table::search`] with a hasher that is kept from call to call.
+    pub fn search_lent(&self, hasher: &KeyHasher, key: &[u8]) -> Result<Option<u32>, Refusal> {
+        lookup::search_lent(hasher, &self.settings, &self.areas().lookup(), key)
     }
 
     /// [`Table::search`] that also gives the search's counts: as [`search_counts`](crate::search_counts). A [`Window`](crate::Window) takes what
@@ -176,13 +264,13 @@ impl Table {
         lookup::search_counts(&self.settings, &self.areas().lookup(), key)
     }
 
-    /// [`Table::search_counts`] with a hash table that is kept from call to call.
+    /// [`Table::search_counts`] with a hasher that is kept from call to call.
     pub fn search_counts_lent(
         &self,
-        table: &HashTable,
+        hasher: &KeyHasher,
         key: &[u8],
     ) -> Result<SearchAnswer, Refusal> {
-        lookup::search_counts_lent(table, &self.settings, &self.areas().lookup(), key)
+        lookup::search_counts_lent(hasher, &self.settings, &self.areas().lookup(), key)
     }
 
     /// [`Table::search_lent`] for many keys at once, one after the other in `keys`, with a number lent for each answer: as
@@ -190,11 +278,11 @@ impl Table {
     /// stay.
     ///
     /// ```
-    /// use flow::{HashTable, Refusal, Settings, Table};
+    /// use flow::{KeyHasher, Refusal, Settings, Table};
     ///
     /// let mut table = Table::new(Settings::new(6, 3, 2, 4, 128, 8, 13)?);
     /// table.add(&[1; 13], 7)?;
-    /// let hash_table = HashTable::ipv4();
+    /// let hash_table = KeyHasher::ipv4();
     /// let keys = [[1; 13], [2; 13], [1; 13]].concat();
     /// let mut numbers = [0; 3];
     /// for (i, class) in table.search_burst(&hash_table, &keys, &mut numbers)?.enumerate() {
@@ -204,11 +292,17 @@ impl Table {
     /// ```
     pub fn search_burst<'a>(
         &self,
-        table: &HashTable,
+        hasher: &KeyHasher,
         keys: &[u8],
         numbers: &'a mut [u64],
     ) -> Result<Answers<'a>, Refusal> {
-        lookup::search_burst(table, &self.settings, &self.areas().lookup(), keys, numbers)
+        lookup::search_burst(
+            hasher,
+            &self.settings,
+            &self.areas().lookup(),
+            keys,
+            numbers,
+        )
     }
 
     /// Counts what the table holds.
@@ -239,18 +333,19 @@ impl Table {
     /// assert_eq!(Table::load(&file)?.search(&[1; 37]), Ok(Some(7)));
     /// # Ok::<(), Refusal>(())
     /// ```
-    pub fn save(&mut self) -> Vec<u8> {
-        let held = u16::from_be_bytes([self.own.ledger[0], self.own.ledger[1]]);
+    pub fn save(&self) -> Vec<u8> {
         let settings_saved = match self.settings.numbers() {
             [.., IPV4_WIDTH] => SETTINGS_WITHOUT_WIDTH,
             _ => SETTINGS_COUNT,
         };
         let head = 2 + 2 * settings_saved + 2;
-        let mut file = vec![0; head + self.settings.record_bytes() * usize::from(held)];
+        let mut file = vec![0; head + self.settings.record_bytes() * self.len()];
+        // the door writes to its work area, and this table's may be read by others
+        let mut work = vec![0; self.own.work.len()];
         accepted(doors::save(
             self.settings.numbers(),
             &self.own.ledger,
-            &mut self.own.work,
+            &mut work,
             &mut file,
         ))
         .expect("a table's own ledger is not damaged, and its side store suffices");
@@ -272,7 +367,67 @@ impl Table {
         let (areas, work) = own.lend();
         accepted(doors::load(file, areas, work, &mut numbers))?;
         let settings = Settings::of(numbers)?;
-        Ok(Table { settings, own })
+        Ok(Table::with(settings, own))
+    }
+}
+
+impl PartialEq for Table {
+    /// ```
+    /// use flow::{Refusal, Settings, Table};
+    ///
+    /// let mut table = Table::new(Settings::new(6, 3, 2, 4, 128, 8, 13)?);
+    /// table.add(&[1; 13], 7)?;
+    /// assert!(table == Table::load(&table.save())?);
+    /// assert!(table != Table::new(*table.settings()));
+    /// # Ok::<(), Refusal>(())
+    /// ```
+    fn eq(&self, other: &Table) -> bool {
+        self.settings == other.settings && self.areas() == other.areas()
+    }
+}
+
+impl Eq for Table {}
+
+impl fmt::Debug for Table {
+    /// `Table { settings: [6, 3, 2, 4, 128, 8, 13], flows: 2 }`
+    fn fmt(&self, f: &mut fmt::Formatter<'_>) -> fmt::Result {
+        let (settings, flows) = (self.settings.numbers(), self.len());
+        write!(f, "Table {{ settings: {settings:?}, flows: {flows} }}")
+    }
+}
+
+impl<'a> IntoIterator for &'a Table {
+    type Item = (FlowKey, u32);
+    type IntoIter = Flows<'a>;
+
+    fn into_iter(self) -> Flows<'a> {
+        self.iter()
+    }
+}
+
+impl Iterator for Flows<'_> {
+    type Item = (FlowKey, u32);
+
+    fn next(&mut self) -> Option<(FlowKey, u32)> {
+        let (key, class) = self
+            .records
+            .next()
+            .map(|record| record.split_at(record.len() - CLASS_BYTES))?;
+        let key = FlowKey::try_from(key).expect("a key of a width");
+        let class = class.try_into().expect("a class of 4 bytes");
+        Some((key, u32::from_be_bytes(class)))
+    }
+
+    fn size_hint(&self) -> (usize, Option<usize>) {
+        self.records.size_hint()
+    }
+}
+
+impl ExactSizeIterator for Flows<'_> {}
+
+impl fmt::Debug for Flows<'_> {
+    fn fmt(&self, f: &mut fmt::Formatter<'_>) -> fmt::Result {
+        f.debug_map().entries(self.clone()).finish()
     }
 }
 

@@ -96,7 +96,7 @@ fn load_to_the_same_areas_and_save_as_the_same_bytes() {
         let answer = doors::save(numbers, &areas.ledger, &mut work, &mut saved);
         assert_eq!((answer, &saved[..]), (0, earlier.file));
 
-        let mut table = Table::load(earlier.file).unwrap();
+        let table = Table::load(earlier.file).unwrap();
         assert_eq!(table.settings().numbers(), numbers);
         assert_eq!(table.areas().buckets, expected.buckets);
         assert_eq!(table.save(), earlier.file);

@@ -1,6 +1,6 @@
 //! H, the hash tables, the hashes and the bucket numbers against the model, at both widths: with no table, by byte, and at 37 by half-byte too.
 
-use flow::{doors, HashTable, Refusal, Settings};
+use flow::{doors, KeyHasher, Refusal, Settings};
 use model::hash::{self as paper, By};
 use model::records::Key;
 use model::settings::{Settings as Model, IPV4_WIDTH, IPV6_WIDTH};
@@ -42,7 +42,7 @@ fn table_lengths() {
     assert_eq!(lengths(IPV6_WIDTH), [1_184, 9_472]);
     for width in [IPV4_WIDTH, IPV6_WIDTH] {
         let settings = Settings::new(6, 3, 2, 4, 128, 8, width).unwrap();
-        let table = HashTable::of(&settings);
+        let table = KeyHasher::of(&settings);
         assert_eq!(table.width(), width);
         assert_eq!(table.entries(), paper::table(width, By::Byte));
     }
@@ -51,7 +51,7 @@ fn table_lengths() {
 // The entries of half-byte 2a are those of the low four bits of byte a, and of 2a + 1 those of its high four bits.
 #[test]
 fn half_bytes_of_a_byte() {
-    let (by_half_byte, by_byte) = (HashTable::ipv6_by_half_byte(), HashTable::ipv6_by_byte());
+    let (by_half_byte, by_byte) = (KeyHasher::ipv6_by_half_byte(), KeyHasher::ipv6_by_byte());
     let (halves, bytes) = (by_half_byte.entries(), by_byte.entries());
     for a in 0..37 {
         for v in 0..256 {

@@ -1,7 +1,7 @@
 //! Searches beside updates, at both widths: by threads, and step by step on one thread. What a view holds, which updates it has, when readers hold no
 //! older ones, and what is published where a closure is refused, panics or replaces the table.
 
-use flow::{HashTable, Live, LookupAreas, Reader, Refusal, Settings, Table, View};
+use flow::{KeyHasher, Live, LookupAreas, Reader, Refusal, Settings, Table, View};
 use model::records::Key;
 use std::hint;
 use std::panic::{catch_unwind, resume_unwind, AssertUnwindSafe};
@@ -135,7 +135,7 @@ impl Flows {
 }
 
 // What a view answers for each key, by the call that takes a turn.
-fn answers(view: &View, hash_table: &HashTable, keys: &[Key], turn: u64) -> Vec<Answer> {
+fn answers(view: &View, hash_table: &KeyHasher, keys: &[Key], turn: u64) -> Vec<Answer> {
     match turn % 3 {
         0 => keys.iter().map(|key| view.search(key)).collect(),
         1 => keys
@@ -241,7 +241,7 @@ fn readers_beside_a_writer(width: u64) {
     let history = flows.history(UPDATES as u64);
     let mut live = Live::from(flows.table());
     let told = Told::new();
-    let check = |hash_table: &HashTable, view: &View, turn: u64| {
+    let check = |hash_table: &KeyHasher, view: &View, turn: u64| {
         let version = view.version();
         for pause in [true, false] {
             let turn = turn + u64::from(pause);
@@ -411,11 +411,11 @@ fn a_view_answers_as_its_table(width: u64) {
 fn bursts_as_the_table(
     table: &Table,
     view: &View,
-    hash_table: &HashTable,
-    other: &HashTable,
+    hash_table: &KeyHasher,
+    other: &KeyHasher,
     keys: &[Key],
 ) {
-    let burst = |hash_table: &HashTable, keys: &[u8], n: usize| {
+    let burst = |hash_table: &KeyHasher, keys: &[u8], n: usize| {
         let (mut by_view, mut by_table) = (vec![7; n], vec![7; n]);
         let found = view.search_burst(hash_table, keys, &mut by_view);
         let found = found.map(|answers| answers.collect::<Vec<Answer>>());

@@ -1,7 +1,7 @@
 //! Both search doors and tally against the model, at both widths and with every hash table: on layouts that the model makes, on damaged areas, on wrong lengths and settings. The listing of
 //! source document 001 is compared with them in every search: the doors' number, and the model's whole answer.
 
-use flow::{doors, HashTable, LookupAreas, Refusal, Store, Tally};
+use flow::{doors, KeyHasher, LookupAreas, Refusal, Store, Tally};
 use model::card::Card;
 use model::layout::{layout, Areas};
 use model::ledger::Ledger;
@@ -32,7 +32,7 @@ const TALLIES: u64 = 60_000;
 
 // What a test calls the doors with.
 struct Doors {
-    tables: Vec<HashTable>,
+    tables: Vec<KeyHasher>,
     seen: Seen,
     places: Seen,
     cases: Seen,

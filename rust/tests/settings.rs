@@ -1,7 +1,7 @@
 //! The settings' verdicts and the areas' lengths against the model, on every combination of values at and around the limits, with every width and
 //! numbers that are none.
 
-use flow::{doors, Refusal, Settings};
+use flow::{doors, NoRefusal, Refusal, Settings};
 use model::settings::{Settings as Model, LIMITS, WIDTHS};
 use testing::at_both_widths;
 use testing::made::NO_WIDTHS;
@@ -76,7 +76,8 @@ fn verdicts_and_lengths_at_every_limit() {
                         named.buckets,
                         named.side_store,
                         named.work
-                    ],
+                    ]
+                    .map(|length| length as u64),
                     model.area_lengths()
                 );
             } else {
@@ -132,18 +133,64 @@ fn lengths_wrong(width: u64) {
     }
 }
 
+// A builder's settings are those of the same numbers, each under its name, in range or not.
+#[test]
+fn settings_by_name() {
+    let lists = [
+        [4, 1, 1, 2, 1, 0, 13],
+        [12, 4, 4, 15, 4096, 64, 37],
+        [3, 1, 1, 2, 1, 0, 13],
+        [4, 5, 1, 2, 1, 0, 13],
+        [4, 1, 0, 2, 1, 0, 13],
+        [4, 1, 1, 16, 1, 0, 13],
+        [4, 1, 1, 2, 4097, 0, 13],
+        [4, 1, 1, 2, 1, 65, 13],
+        [4, 1, 1, 2, 1, 0, 14],
+    ];
+    for numbers in lists {
+        let [p, k, room, top, capacity, side_places, width] = numbers;
+        let built = Settings::builder()
+            .width(width)
+            .side_places(side_places)
+            .capacity(capacity)
+            .top(top)
+            .room(room)
+            .k(k)
+            .p(p)
+            .build();
+        assert_eq!(built, Settings::of(numbers));
+        if let Ok(s) = built {
+            let named = [
+                s.p(),
+                s.k(),
+                s.room(),
+                s.top(),
+                s.capacity(),
+                s.side_places(),
+                s.width(),
+            ];
+            assert_eq!(named, numbers);
+        }
+    }
+}
+
 #[test]
 fn refusals_by_number() {
     for (i, refusal) in Refusal::ALL.into_iter().enumerate() {
         assert_eq!(refusal.number() as usize, i + 1);
         assert_eq!(Refusal::from_number(refusal.number()), Some(refusal));
+        assert_eq!(Refusal::try_from(refusal.number()), Ok(refusal));
+        assert_eq!(u32::from(refusal) as usize, i + 1);
         assert!(refusal
             .to_string()
             .starts_with(&format!("refusal {}: ", i + 1)));
     }
     for number in [0, 17, 100, u32::MAX] {
         assert_eq!(Refusal::from_number(number), None);
+        assert_eq!(Refusal::try_from(number), Err(NoRefusal(number)));
     }
+    assert_eq!(u32::from(Refusal::Unknown(17)), 17);
+    assert!(Refusal::Unknown(17).to_string().starts_with("refusal 17: "));
 }
 
 at_both_widths!(lengths_wrong);

@@ -737,7 +737,7 @@ fn safe_table(width: u64) {
             table.as_ref().err().copied(),
             Refusal::from_number(by_paper)
         );
-        if let Ok(mut table) = table {
+        if let Ok(table) = table {
             assert_eq!(table.settings().numbers(), of_file.numbers());
             let head = head(&of_file);
             assert!(table.areas().ledger[..2] == load.file[head - 2..head]);

@@ -1,7 +1,7 @@
 //! The doors that write against the model, at both widths: lists of calls with all five areas compared after every call, areas that no call left behind,
 //! damaged ledgers, wrong lengths and settings, and lists that end with the same flows.
 
-use flow::{doors, HashTable, Refusal, Table, Tally};
+use flow::{doors, KeyHasher, Refusal, Table, Tally};
 use model::calls::{perform, Call};
 use model::card::Card;
 use model::layout::{layout, placing, Areas};
@@ -117,7 +117,7 @@ impl Beside {
     }
 
     // With no table, or with one.
-    fn search(&self, table: Option<&HashTable>, key: &[u8]) -> u32 {
+    fn search(&self, table: Option<&KeyHasher>, key: &[u8]) -> u32 {
         let numbers = self.card.settings.numbers();
         let paper::Lookup {
             clipped,

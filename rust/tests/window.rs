@@ -1,7 +1,7 @@
 //! The window over the latest searches, and at both widths the searches that give their counts, through their doors against the model: lists of calls with
 //! the whole area and a fresh count compared after every one, areas of any contents, wrong lengths, searches of tables that enter windows.
 
-use flow::{doors, HashTable, LookupAreas, Refusal, SearchAnswer, SearchCounts, Settings, Table};
+use flow::{doors, KeyHasher, LookupAreas, Refusal, SearchAnswer, SearchCounts, Settings, Table};
 use model::card::Card;
 use model::layout::{layout, Areas};
 use model::ledger::Ledger;
@@ -357,7 +357,7 @@ fn wrong_lengths_of_windows() {
 
 // What a test calls the search doors with.
 struct Doors {
-    tables: Vec<HashTable>,
+    tables: Vec<KeyHasher>,
     seen: Seen,
     places: Places,
 }

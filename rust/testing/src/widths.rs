@@ -1,6 +1,6 @@
 //! The two widths that tests run at.
 
-use flow::HashTable;
+use flow::KeyHasher;
 use model::hash::By;
 pub use model::settings::{IPV4_WIDTH, IPV6_WIDTH, WIDTHS};
 
@@ -24,19 +24,19 @@ macro_rules! at_both_widths {
 }
 
 /// The hash tables for keys of a width, each with how it is read.
-pub fn hash_tables(width: u64) -> Vec<(By, HashTable)> {
+pub fn hash_tables(width: u64) -> Vec<(By, KeyHasher)> {
     match width {
-        IPV4_WIDTH => vec![(By::Byte, HashTable::ipv4())],
+        IPV4_WIDTH => vec![(By::Byte, KeyHasher::ipv4())],
         IPV6_WIDTH => vec![
-            (By::HalfByte, HashTable::ipv6_by_half_byte()),
-            (By::Byte, HashTable::ipv6_by_byte()),
+            (By::HalfByte, KeyHasher::ipv6_by_half_byte()),
+            (By::Byte, KeyHasher::ipv6_by_byte()),
         ],
         _ => panic!("{width} is no width"),
     }
 }
 
 /// The tables alone.
-pub fn tables(width: u64) -> Vec<HashTable> {
+pub fn tables(width: u64) -> Vec<KeyHasher> {
     hash_tables(width)
         .into_iter()
         .map(|(_, table)| table)
