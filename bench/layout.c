@@ -7,7 +7,7 @@ enum { MOST_BUCKETS = 4096 };
 static int by_key(const void *a, const void *b) { return memcmp(a, b, KEY); }
 
 /* The key's bucket numbers, repeats dropped; how many. */
-static size_t numbers_of(const struct settings *set, const uint64_t *table, const uint8_t *key, size_t *numbers)
+static size_t numbers_of(const struct flow_settings *set, const uint64_t *table, const uint8_t *key, size_t *numbers)
 {
     const uint64_t h = hash_of(table, key);
     size_t n = 0;
@@ -23,20 +23,20 @@ static size_t numbers_of(const struct settings *set, const uint64_t *table, cons
     return n;
 }
 
-int lay_out(const struct settings *set, const uint64_t *table, uint8_t keys[][KEY], uint32_t *classes, struct lookup *at)
+int lay_out(const struct flow_settings *set, uint64_t flows, const uint64_t *table, uint8_t keys[][KEY], uint32_t *classes, struct flow_areas *at)
 {
     static uint8_t records[MOST_FLOWS][RECORD];
     static size_t true_counts[MOST_BUCKETS], choosers[MOST_BUCKETS], choice[MOST_FLOWS];
     const size_t m = (size_t)1 << set->p, bucket_size = 1 + RECORD * set->room, nowhere = m;
     size_t numbers[4];
 
-    for (size_t i = 0; i < set->flows; i++) {
+    for (size_t i = 0; i < flows; i++) {
         put_record(records[i], keys[i], classes[i]);
     }
-    qsort(records, set->flows, RECORD, by_key);
+    qsort(records, flows, RECORD, by_key);
     memset(true_counts, 0, sizeof true_counts);
     memset(choosers, 0, sizeof choosers);
-    for (size_t i = 0; i < set->flows; i++) {
+    for (size_t i = 0; i < flows; i++) {
         const uint8_t *r = records[i];
         memcpy(keys[i], r, KEY);
         classes[i] = class_of(r);
@@ -46,7 +46,7 @@ int lay_out(const struct settings *set, const uint64_t *table, uint8_t keys[][KE
         }
     }
     /* the least count below T and, of its buckets, the lowest */
-    for (size_t i = 0; i < set->flows; i++) {
+    for (size_t i = 0; i < flows; i++) {
         size_t n = numbers_of(set, table, records[i], numbers), least = set->top, best = nowhere;
         for (size_t j = 0; j < n; j++) {
             size_t b = numbers[j], count = true_counts[b];
@@ -79,7 +79,7 @@ int lay_out(const struct settings *set, const uint64_t *table, uint8_t keys[][KE
         at->buckets[b * bucket_size] = choosers[b] > set->room ? 255 : 0;
     }
     size_t on_side = 0;
-    for (size_t i = 0; i < set->flows; i++) {
+    for (size_t i = 0; i < flows; i++) {
         uint8_t *bucket = choice[i] == nowhere ? NULL : at->buckets + choice[i] * bucket_size;
         if (bucket != NULL && bucket[0] != 255) {
             memcpy(bucket + 1 + RECORD * bucket[0]++, records[i], RECORD);

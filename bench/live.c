@@ -45,7 +45,7 @@ static void update(void)
     static uint64_t flow;
     if (held_now) {
         must(flow_table_remove(&own, absent[flow]), "flow_remove");
-        flow = (flow + 1) % set.flows;
+        flow = (flow + 1) % flows;
     } else {
         must(flow_table_add(&own, absent[flow], 7), "flow_add");
     }
@@ -257,7 +257,7 @@ static void print_searches(void)
 {
     printf("\n| held keys, %" PRIu64 " flows, p 12%s | ns, no writer | more than without | ns beside a writer | more than without, no writer | the writer's "
            "updates a second |\n|---|---|---|---|---|---|\n",
-           set.flows, WIDE ? ", keys of 37 bytes" : "");
+           flows, WIDE ? ", keys of 37 bytes" : "");
     for (int c = 0; c < CONTESTANTS; c++) {
         if (contestants[c].there == NULL) {
             continue;
@@ -328,7 +328,7 @@ static void measure_publishes(void)
 
 static void print_publishes(void)
 {
-    printf("\n| publishing, %" PRIu64 " flows, p 12%s: %zu bytes compared | us | its time to memcmp's |\n|---|---|---|\n", set.flows,
+    printf("\n| publishing, %" PRIu64 " flows, p 12%s: %zu bytes compared | us | its time to memcmp's |\n|---|---|---|\n", flows,
            WIDE ? ", keys of 37 bytes" : "", own_lookup.clipped_length + own_lookup.buckets_length + own_lookup.side_length);
     const char *const names[] = {"an update, flow_add or flow_remove", "flow_live_publish after it", "flow_live_publish, nothing altered",
                                  "memcmp of the bytes, which are alike"};
@@ -384,7 +384,7 @@ static void fill_own(void)
     settings = (struct flow_settings){SIX, WIDTH};
     size_t bytes = flow_live_bytes(&settings, COPIES), own_bytes = flow_table_bytes(&settings);
     must(flow_table_open(&own, &settings, lent(own_bytes), own_bytes), "flow_table_open");
-    for (uint64_t i = 0; i < set.flows; i++) {
+    for (uint64_t i = 0; i < flows; i++) {
         must(flow_table_add(&own, held[i], classes[i]), "flow_table_add");
     }
     own_lookup = flow_lookup_of(&own.areas);
@@ -399,7 +399,8 @@ int main(int words, char **word)
     FILE *aims = open_aims(words, word);
     pthread_t writer;
     int turns[CONTESTANTS], count = 0;
-    set = (struct settings){4000, 12, 3, 4, 15, 4096, 64};
+    flows = 4000;
+    set = (struct flow_settings){12, 3, 4, 15, 4096, 64, WIDTH};
     if (aims == NULL || fill_hash_tables() != 0 || fill_table() != 0) {
         return 1;
     }

@@ -4,8 +4,9 @@
 #include <stdio.h>
 #include <string.h>
 
-struct settings set;
-struct lookup at;
+struct flow_settings set;
+struct flow_areas at;
+uint64_t flows;
 uint64_t table[TABLE], halves[HALVES];
 uint8_t held[MOST_FLOWS][KEY], absent[MOST_FLOWS][KEY];
 uint32_t classes[MOST_FLOWS];
@@ -23,13 +24,13 @@ int fill_hash_tables(void) { return flow_hash_table(WIDTH, table, TABLE) != 0 ||
 
 int fill_table(void)
 {
-    for (uint64_t i = 0; i < set.flows; i++) {
+    for (uint64_t i = 0; i < flows; i++) {
         random_key(held[i]);
         random_key(absent[i]);
         classes[i] = (uint32_t)random_number();
     }
-    if (lay_out(&set, table, held, classes, &at) != 0) {
-        printf("%" PRIu64 " flows: no layout\n", set.flows);
+    if (lay_out(&set, flows, table, held, classes, &at) != 0) {
+        printf("%" PRIu64 " flows: no layout\n", flows);
         return 1;
     }
     return 0;
@@ -39,7 +40,7 @@ uint64_t draw(enum mix mix)
 {
     uint64_t sum = 0;
     for (int i = 0; i < LOOKUPS; i++) {
-        uint64_t x = random_number(), flow = x % set.flows;
+        uint64_t x = random_number(), flow = x % flows;
         int hit = mix == HITS || (mix == HALF && x >> 63);
         memcpy(order[i], hit ? held[flow] : absent[flow], KEY);
         sum += wanted[i] = hit ? classes[flow] : ABSENT;

@@ -40,7 +40,7 @@ INLINED const uint8_t *record_of(const struct list *list, size_t i)
 }
 
 /* One more for each of the key's bucket numbers, repeats dropped. */
-INLINED void count(const struct settings *set, uint16_t *counts, uint64_t h)
+INLINED void count(const struct flow_settings *set, uint16_t *counts, uint64_t h)
 {
     const size_t mask = ((size_t)1 << set->p) - 1;
     size_t b[4];
@@ -55,7 +55,7 @@ INLINED void count(const struct settings *set, uint16_t *counts, uint64_t h)
 }
 
 /* Of the key's numbers with the least count, the lowest; NOWHERE where all counts are T or more. Repeats do no harm. */
-INLINED size_t choice_of(const struct settings *set, const uint16_t *counts, uint64_t h)
+INLINED size_t choice_of(const struct flow_settings *set, const uint16_t *counts, uint64_t h)
 {
     const size_t mask = ((size_t)1 << set->p) - 1;
     uint32_t least = UINT32_MAX;
@@ -67,7 +67,7 @@ INLINED size_t choice_of(const struct settings *set, const uint16_t *counts, uin
 }
 
 /* The same with branches: repeats dropped first, and a branch at each comparison. */
-INLINED size_t choice_by_branches(const struct settings *set, const uint16_t *counts, uint64_t h)
+INLINED size_t choice_by_branches(const struct flow_settings *set, const uint16_t *counts, uint64_t h)
 {
     const size_t mask = ((size_t)1 << set->p) - 1;
     size_t own[4], n = 0, least = set->top, best = NOWHERE;
@@ -93,7 +93,7 @@ INLINED size_t choice_by_branches(const struct settings *set, const uint16_t *co
 }
 
 /* 1, 2, 3, 4, then 6, 7 or 8; else 0 with the list that the call would make. */
-static uint32_t judge(const struct settings *set, const struct areas *at, enum edit edit, const uint8_t *key, size_t key_length,
+static uint32_t judge(const struct flow_settings *set, const struct flow_areas *at, enum edit edit, const uint8_t *key, size_t key_length,
                       struct list *list)
 {
     if (out_of_range(set->p, set->k, set->room, set->top, set->capacity, set->side_places, WIDTH)) {
@@ -166,7 +166,7 @@ static void edit_ledger(const struct list *list, uint8_t *ledger)
 }
 
 /* Both counts, the marks of crowded buckets, and zeros. */
-static void write_counts(const struct settings *set, struct areas *at)
+static void write_counts(const struct flow_settings *set, struct flow_areas *at)
 {
     const size_t m = (size_t)1 << set->p, bucket_size = 1 + RECORD * set->room;
     const uint16_t *counts = at->work, *choosers = at->work + m;
@@ -184,21 +184,21 @@ static void write_counts(const struct settings *set, struct areas *at)
     }
 }
 
-INLINED int to_side(const struct settings *set, const uint16_t *choosers, size_t choice)
+INLINED int to_side(const struct flow_settings *set, const uint16_t *choosers, size_t choice)
 {
     return choice == NOWHERE || choosers[choice] > set->room;
 }
 
-INLINED void put(const struct settings *set, struct areas *at, size_t choice, const uint8_t *record)
+INLINED void put(const struct flow_settings *set, struct flow_areas *at, size_t choice, const uint8_t *record)
 {
     uint8_t *bucket = at->buckets + choice * (1 + RECORD * set->room);
     memcpy(bucket + 1 + RECORD * bucket[0]++, record, RECORD);
 }
 
-typedef size_t choose(const struct settings *set, const uint16_t *counts, uint64_t h);
+typedef size_t choose(const struct flow_settings *set, const uint16_t *counts, uint64_t h);
 
 /* Five passes over the records, each with the hash of every key. Made once for each way to choose. */
-INLINED uint32_t five_passes(choose *choice_by, const struct settings *set, const uint64_t *table, struct areas *at, enum edit edit,
+INLINED uint32_t five_passes(choose *choice_by, const struct flow_settings *set, const uint64_t *table, struct flow_areas *at, enum edit edit,
                              const uint8_t *key, size_t key_length, uint32_t class)
 {
     struct list list;
@@ -252,13 +252,13 @@ INLINED uint32_t five_passes(choose *choice_by, const struct settings *set, cons
     return 0;
 }
 
-uint32_t plain_update_branching(const struct settings *set, const uint64_t *table, struct areas *at, enum edit edit, const uint8_t *key,
+uint32_t plain_update_branching(const struct flow_settings *set, const uint64_t *table, struct flow_areas *at, enum edit edit, const uint8_t *key,
                                 size_t key_length, uint32_t class)
 {
     return five_passes(choice_by_branches, set, table, at, edit, key, key_length, class);
 }
 
-uint32_t plain_update_five(const struct settings *set, const uint64_t *table, struct areas *at, enum edit edit, const uint8_t *key,
+uint32_t plain_update_five(const struct flow_settings *set, const uint64_t *table, struct flow_areas *at, enum edit edit, const uint8_t *key,
                            size_t key_length, uint32_t class)
 {
     return five_passes(choice_of, set, table, at, edit, key, key_length, class);
@@ -266,7 +266,7 @@ uint32_t plain_update_five(const struct settings *set, const uint64_t *table, st
 
 /* The choices are kept until the areas are written, so only the first two passes need hashes: the second takes those of the first, or
  * hashes each key again. */
-INLINED uint32_t choices_kept(int hashes_kept, const struct settings *set, const uint64_t *table, struct areas *at, enum edit edit,
+INLINED uint32_t choices_kept(int hashes_kept, const struct flow_settings *set, const uint64_t *table, struct flow_areas *at, enum edit edit,
                               const uint8_t *key, size_t key_length, uint32_t class)
 {
     static uint64_t hashes[MOST_FLOWS];
@@ -321,13 +321,13 @@ INLINED uint32_t choices_kept(int hashes_kept, const struct settings *set, const
     return 0;
 }
 
-uint32_t plain_update_twice(const struct settings *set, const uint64_t *table, struct areas *at, enum edit edit, const uint8_t *key,
+uint32_t plain_update_twice(const struct flow_settings *set, const uint64_t *table, struct flow_areas *at, enum edit edit, const uint8_t *key,
                             size_t key_length, uint32_t class)
 {
     return choices_kept(0, set, table, at, edit, key, key_length, class);
 }
 
-uint32_t plain_update_kept(const struct settings *set, const uint64_t *table, struct areas *at, enum edit edit, const uint8_t *key,
+uint32_t plain_update_kept(const struct flow_settings *set, const uint64_t *table, struct flow_areas *at, enum edit edit, const uint8_t *key,
                            size_t key_length, uint32_t class)
 {
     return choices_kept(1, set, table, at, edit, key, key_length, class);

@@ -3,18 +3,14 @@
 #ifndef PLAIN_UPDATE_H
 #define PLAIN_UPDATE_H
 
-#include "layout.h"
-
-/* The five areas and work, which is of 2 * m numbers. */
-struct areas {
-    uint8_t *ledger, *clipped, *buckets, *side;
-    uint16_t *true_counts, *work;
-    size_t ledger_length, true_counts_length, clipped_length, buckets_length, side_length, work_length;
-};
+#include "width.h"
+#include <stddef.h>
+#include <stdint.h>
 
 enum edit { ADD, REMOVE };
 
-typedef uint32_t update(const struct settings *set, const uint64_t *table, struct areas *at, enum edit edit, const uint8_t *key,
+/* The settings' width is not looked at: the C is compiled for one. Work is of 2 * m numbers. */
+typedef uint32_t update(const struct flow_settings *set, const uint64_t *table, struct flow_areas *at, enum edit edit, const uint8_t *key,
                         size_t key_length, uint32_t class);
 
 /* Five passes over the records, each with the hash of every key; the choice of a bucket branches. */

@@ -14,12 +14,15 @@
 enum { ROUNDS = 401 };
 
 /* One flow for each bucket, or nearly so; then fewer flows in as many buckets as the largest has. */
-static const struct settings shapes[] = {
-    {256, 8, 3, 4, 15, 256, 64},
-    {1000, 10, 3, 4, 15, 1024, 64},
-    {4000, 12, 3, 4, 15, 4096, 64},
-    {256, 12, 3, 4, 15, 4096, 64},
-    {1000, 12, 3, 4, 15, 4096, 64},
+static const struct {
+    uint64_t flows;
+    struct flow_settings settings;
+} shapes[] = {
+    {256, {8, 3, 4, 15, 256, 64, WIDTH}},
+    {1000, {10, 3, 4, 15, 1024, 64, WIDTH}},
+    {4000, {12, 3, 4, 15, 4096, 64, WIDTH}},
+    {256, {12, 3, 4, 15, 4096, 64, WIDTH}},
+    {1000, {12, 3, 4, 15, 4096, 64, WIDTH}},
 };
 enum { LARGEST = 2, SHAPES = sizeof shapes / sizeof shapes[0] };
 
@@ -276,12 +279,12 @@ static void count_reads(int shape, enum mix mix, uint8_t keys[][KEY])
 {
     for (int r = 0; r < READERS; r++) {
         uint64_t sum = 0;
-        for (uint64_t i = 0; i < set.flows && readers[r].reads != NULL; i++) {
+        for (uint64_t i = 0; i < flows && readers[r].reads != NULL; i++) {
             unsigned n = readers[r].reads(keys[i]);
             reads[r][shape][mix].most = n > reads[r][shape][mix].most ? n : reads[r][shape][mix].most;
             sum += n;
         }
-        reads[r][shape][mix].mean = (double)sum / (double)set.flows;
+        reads[r][shape][mix].mean = (double)sum / (double)flows;
     }
 }
 
@@ -296,7 +299,7 @@ static int check(uint8_t keys[][KEY], size_t n, const uint64_t *right)
         memset(answers, 255, sizeof answers);
         contestants[c].all(keys, n, answers);
         if (memcmp(answers, right, n * sizeof answers[0]) != 0) {
-            printf("%s, %" PRIu64 " flows: a wrong answer\n", contestants[c].name, set.flows);
+            printf("%s, %" PRIu64 " flows: a wrong answer\n", contestants[c].name, flows);
             return 1;
         }
     }
@@ -345,24 +348,24 @@ static int build(void)
     if (fill_table() != 0) {
         return 1;
     }
-    for (uint64_t i = 0; i < set.flows; i++) {
+    for (uint64_t i = 0; i < flows; i++) {
         found[i] = classes[i];
         not_found[i] = ABSENT;
     }
-    chained_build(table, held, classes, set.flows);
-    hashmap_build(&held[0][0], classes, set.flows);
-    if (rte_build != NULL && rte_build(held, classes, set.flows) != 0) {
+    chained_build(table, held, classes, flows);
+    hashmap_build(&held[0][0], classes, flows);
+    if (rte_build != NULL && rte_build(held, classes, flows) != 0) {
         printf("rte_hash: not built\n");
         return 1;
     }
-    return check(held, set.flows, found) != 0 || check(absent, set.flows, not_found) != 0;
+    return check(held, flows, found) != 0 || check(absent, flows, not_found) != 0;
 }
 
 static void print_shapes(const char *what)
 {
     printf("\n| %s%s |", WIDE ? "keys of 37 bytes: " : "", what);
     for (int shape = 0; shape < SHAPES; shape++) {
-        printf(" %" PRIu64 " flows, p %" PRIu64 " |", shapes[shape].flows, shapes[shape].p);
+        printf(" %" PRIu64 " flows, p %" PRIu64 " |", shapes[shape].flows, shapes[shape].settings.p);
     }
     printf("\n|---|---|---|---|---|---|\n");
 }
@@ -492,7 +495,8 @@ int main(int words, char **word)
         return 1;
     }
     for (int shape = 0; shape < SHAPES; shape++) {
-        set = shapes[shape];
+        flows = shapes[shape].flows;
+        set = shapes[shape].settings;
         if (build() != 0) {
             return 1;
         }

@@ -14,7 +14,7 @@ enum { PAIRS = 8, ROUNDS = 101, MOST_FLOWS = 4096 };
 static const uint64_t sizes[] = {250, 500, 1000, 2000, 4000};
 enum { AT_1000 = 2, AT_4000 = 4, SIZES = sizeof sizes / sizeof sizes[0] };
 
-static struct settings set = {0, 12, 3, 4, 15, 4096, 64};
+static const struct flow_settings set = {12, 3, 4, 15, 4096, 64, WIDTH};
 /* the one that the doors make for an update: at 37 by half-byte */
 enum { UPDATE_TABLE = WIDE ? HALVES : TABLE };
 static uint64_t table[UPDATE_TABLE];
@@ -28,16 +28,12 @@ update plain_update_kept_by_gcc WHERE_LINKED, plain_update_kept_by_clang WHERE_L
 
 /* The doors as the C is called; they make their hash table themselves. */
 #define DOORS(name, add, remove, WITH_WIDTH)                                                                                             \
-    static uint32_t name(const struct settings *s, const uint64_t *no_table, struct areas *at, enum edit edit, const uint8_t *key,       \
-                         size_t key_length, uint32_t class)                                                                              \
+    static uint32_t name(const struct flow_settings *s, const uint64_t *no_table, struct flow_areas *at, enum edit edit,                 \
+                         const uint8_t *key, size_t key_length, uint32_t class)                                                          \
     {                                                                                                                                    \
         (void)no_table;                                                                                                                  \
-        return edit == ADD ? add(s->p, s->k, s->room, s->top, s->capacity, s->side_places WITH_WIDTH, at->ledger, at->ledger_length,     \
-                                 at->true_counts, at->true_counts_length, at->clipped, at->clipped_length, at->buckets,                  \
-                                 at->buckets_length, at->side, at->side_length, at->work, at->work_length, key, key_length, class)       \
-                           : remove(s->p, s->k, s->room, s->top, s->capacity, s->side_places WITH_WIDTH, at->ledger, at->ledger_length,  \
-                                    at->true_counts, at->true_counts_length, at->clipped, at->clipped_length, at->buckets,               \
-                                    at->buckets_length, at->side, at->side_length, at->work, at->work_length, key, key_length);          \
+        return edit == ADD ? add(SIX_OF(s) WITH_WIDTH, FLOW_AREAS(at), FLOW_WORK(at), key, key_length, class)                            \
+                           : remove(SIX_OF(s) WITH_WIDTH, FLOW_AREAS(at), FLOW_WORK(at), key, key_length);                               \
     }
 #define NOW_WIDTH , WIDTH
 DOORS(doors, flow_add, flow_remove, NOW_WIDTH)
@@ -66,7 +62,7 @@ static const struct {
     [KEPT_CLANG] = {"plain C by clang, hashes kept", OF_C(kept_by_clang)},
 };
 /* clang-format on */
-static struct areas areas[CONTESTANTS];
+static struct flow_areas areas[CONTESTANTS];
 static struct column columns[SIZES];
 
 static uint32_t call(int c, enum edit edit, const uint8_t *key) { return contestants[c].call(&set, table, &areas[c], edit, key, KEY, 7); }
@@ -91,7 +87,7 @@ static void random_bytes(uint8_t *to, size_t n)
 
 static int by_key(const void *a, const void *b) { return memcmp(a, b, KEY); }
 
-static int alike(const struct areas *a, const struct areas *b)
+static int alike(const struct flow_areas *a, const struct flow_areas *b)
 {
     return memcmp(a->ledger, b->ledger, a->ledger_length) == 0 &&
            memcmp(a->true_counts, b->true_counts, a->true_counts_length * sizeof a->true_counts[0]) == 0 &&
@@ -102,10 +98,10 @@ static int alike(const struct areas *a, const struct areas *b)
 /* Work is as long as the contestant asks for: the doors of each library say it, the C takes 2 * m numbers. */
 static int allocate(int c)
 {
-    struct areas *at = &areas[c];
+    struct flow_areas *at = &areas[c];
     uint64_t lengths[6];
-    uint32_t answer = c == BEFORE ? before_flow_area_lengths(set.p, set.k, set.room, set.top, set.capacity, set.side_places BEFORE_WIDTH, lengths, 6)
-                                  : flow_area_lengths(set.p, set.k, set.room, set.top, set.capacity, set.side_places, WIDTH, lengths, 6);
+    uint32_t answer = c == BEFORE ? before_flow_area_lengths(SIX_OF(&set) BEFORE_WIDTH, lengths, 6)
+                                  : flow_area_lengths(FLOW_SETTINGS(&set), lengths, 6);
     if (answer != 0) {
         return 1;
     }
@@ -129,7 +125,7 @@ static void build(size_t flows)
     random_bytes(&records[0][0], RECORD * flows);
     qsort(records, flows, RECORD, by_key);
     for (int c = 0; c < CONTESTANTS; c++) {
-        struct areas *at = &areas[c];
+        struct flow_areas *at = &areas[c];
         if (contestants[c].there == NULL) {
             continue;
         }

@@ -17,6 +17,9 @@ enum {
     HALVES = FLOW_HALF_BYTE_TABLE_NUMBERS /* by half-byte, at 37 */
 };
 
+/* The settings that a struct holds, but for the width: it is passed as the constant that it is, and not at all to doors that took none. */
+#define SIX_OF(of) (of)->p, (of)->k, (of)->room, (of)->top, (of)->capacity, (of)->side_places
+
 /* What there is at 37 alone: a function, or NULL. */
 #define WHERE_WIDE(f) (WIDE ? (function *)(f) : (function *)0)
 

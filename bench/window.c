@@ -160,7 +160,8 @@ int main(int words, char **word)
 {
     FILE *aims = open_aims(words, word);
     int turns[CONTESTANTS], count = 0;
-    set = (struct settings){4000, 12, 3, 4, 15, 4096, 64};
+    flows = 4000;
+    set = (struct flow_settings){12, 3, 4, 15, 4096, 64, WIDTH};
     if (aims == NULL || fill_hash_tables() != 0 || fill_table() != 0) {
         return 1;
     }

@@ -7,37 +7,16 @@
 #include <stdio.h>
 #include <stdlib.h>
 
+enum { BURST = 32, KEY = FLOW_IPV4_WIDTH, HASHES = FLOW_HASH_TABLE_NUMBERS(KEY), PACKET = 28 };
+
 /* 64 buckets, 3 hashes a key, room for 2 records a bucket, top count 4, at most 128 flows, 8 side places, keys of 13 bytes. */
-#define SETTINGS 6, 3, 2, 4, 128, 8, KEY
+static const struct flow_settings settings = {.p = 6, .k = 3, .room = 2, .top = 4, .capacity = 128, .side_places = 8, .width = KEY};
 
-enum { BURST = 32, KEY = FLOW_IPV4_WIDTH, TABLE = FLOW_HASH_TABLE_NUMBERS(KEY), PACKET = 28 };
-
-/* The areas, of the lengths that flow_area_lengths gives, in the order of the doors. */
-static uint64_t lengths[6];
-static uint8_t *ledger, *clipped, *buckets, *side;
-static uint16_t *true_counts, *work;
-
-#define LOOKUP clipped, lengths[2], buckets, lengths[3], side, lengths[4]
-#define AREAS ledger, lengths[0], true_counts, lengths[1], LOOKUP
-
-/* What the driver keeps: the table, filled once, and places for the keys and the answers of a burst. */
-static uint64_t table[TABLE];
+/* What the driver keeps: the table, the numbers for H, filled in once, and places for the keys and the answers of a burst. */
+static struct flow_table table;
+static uint64_t hashes[HASHES];
 static uint8_t keys[BURST * KEY];
 static uint64_t answers[BURST];
-
-static int lend_areas(void)
-{
-    if (flow_area_lengths(SETTINGS, lengths, 6) != 0) {
-        return 0;
-    }
-    ledger = malloc(lengths[0]);
-    true_counts = malloc(lengths[1] * sizeof *true_counts);
-    clipped = malloc(lengths[2]);
-    buckets = malloc(lengths[3]);
-    side = malloc(lengths[4]);
-    work = malloc(lengths[5] * sizeof *work);
-    return ledger && true_counts && clipped && buckets && side && work;
-}
 
 /* A packet of 28 bytes from 10.0.0.`from` to 10.0.0.`to`, with the same port at both ends. */
 static void make_packet(uint8_t packet[PACKET], uint8_t from, uint8_t to, uint16_t port, uint8_t protocol)
@@ -54,13 +33,39 @@ static void add(const char *what, const uint8_t packet[PACKET], uint32_t class)
 {
     uint8_t key[KEY];
     flow_packet_key(packet, PACKET, key, KEY);
-    printf("add %s: %" PRIu32 "\n", what, flow_add(SETTINGS, AREAS, work, lengths[5], key, KEY, class));
+    printf("add %s: %" PRIu32 "\n", what, flow_table_add(&table, key, class));
 }
 
 static void show(size_t n)
 {
     for (size_t i = 0; i < n; i++) {
-        printf("  key %zu: answer %" PRIu64 ", class %" PRIu64 "\n", i, answers[i] >> 32, answers[i] & UINT32_MAX);
+        printf("  key %zu: answer %d, class %" PRIu32 "\n", i, (int)flow_answer_of(answers[i]), flow_class_of(answers[i]));
+    }
+}
+
+/* A burst of the first n keys. */
+static void burst(const char *what, size_t n)
+{
+    printf("%s: %" PRIu32 "\n", what, flow_table_search_burst(&table, hashes, HASHES, keys, answers, n));
+    show(n);
+}
+
+/* A number of answers that is not the keys', which only the door itself takes: refused, the answers are as they were. */
+static void refused_burst(size_t n)
+{
+    answers[0] = 42;
+    printf("a burst of %zu keys with %zu answers: %" PRIu32 "\n", n, n - 1,
+           flow_search_burst(hashes, HASHES, FLOW_SETTINGS(&settings), FLOW_LOOKUP(&table.areas), keys, KEY * n, answers, n - 1));
+    show(1);
+}
+
+/* The counters of a key become 15, where 4 is the most. */
+static void damage(const uint8_t *key)
+{
+    uint16_t four[4], numbers[5];
+    flow_key_buckets(FLOW_SETTINGS(&settings), key, KEY, four, 4, numbers, 5);
+    for (int i = 1; i <= numbers[0]; i++) {
+        table.areas.clipped[numbers[i] / 2] |= numbers[i] % 2 == 0 ? 0x0f : 0xf0;
     }
 }
 
@@ -73,12 +78,15 @@ int main(void)
     make_packet(wrong, 7, 8, 80, 6);
     wrong[0] = 0x60; /* version 6 */
 
-    if (!lend_areas()) {
-        fputs("no memory for the areas\n", stderr);
+    size_t bytes = flow_table_bytes(&settings);
+    void *memory = malloc(bytes);
+    if (memory == NULL) {
+        fputs("no memory for the table\n", stderr);
         return 1;
     }
-    printf("hash table: %" PRIu32 "\n", flow_hash_table(KEY, table, TABLE));
-    printf("clear: %" PRIu32 "\n", flow_clear(SETTINGS, AREAS));
+    printf("hash table: %" PRIu32 "\n", flow_hash_table(KEY, hashes, HASHES));
+    /* a table is cleared as it is opened */
+    printf("clear: %" PRIu32 "\n", flow_table_open(&table, &settings, memory, bytes));
     add("the call", call, 5);
     add("the line", line, 1);
 
@@ -88,28 +96,17 @@ int main(void)
     for (size_t i = 0; i < sizeof packets / sizeof *packets; i++) {
         uint32_t answer = flow_packet_key(packets[i], PACKET, keys + KEY * n, KEY);
         printf("packet %zu: %" PRIu32 "\n", i, answer);
-        if (answer == 0) {
+        if (answer == FLOW_DONE) {
             n++;
         }
     }
-    printf("a burst of %zu keys: %" PRIu32 "\n", n, flow_search_burst(table, TABLE, SETTINGS, LOOKUP, keys, KEY * n, answers, n));
-    show(n);
-    printf("a burst of no key: %" PRIu32 "\n", flow_search_burst(table, TABLE, SETTINGS, LOOKUP, keys, 0, answers, 0));
+    burst("a burst of 4 keys", n);
+    burst("a burst of no key", 0);
+    refused_burst(n);
 
-    /* refused, the answers are as they were */
-    answers[0] = 42;
-    printf("a burst of %zu keys with %zu answers: %" PRIu32 "\n", n, n - 1,
-           flow_search_burst(table, TABLE, SETTINGS, LOOKUP, keys, KEY * n, answers, n - 1));
-    show(1);
-
-    /* a key whose counters are damaged is refused by itself: here they are 15, where 4 is the most */
-    uint16_t hashes[4], numbers[5];
-    flow_key_buckets(SETTINGS, keys + KEY * 2, KEY, hashes, 4, numbers, 5);
-    for (int i = 1; i <= numbers[0]; i++) {
-        clipped[numbers[i] / 2] |= numbers[i] % 2 == 0 ? 0x0f : 0xf0;
-    }
-    printf("with damage to the counters of key 2: %" PRIu32 "\n",
-           flow_search_burst(table, TABLE, SETTINGS, LOOKUP, keys, KEY * n, answers, n));
-    show(n);
+    /* a key whose counters are damaged is refused by itself */
+    damage(keys + KEY * 2);
+    burst("with damage to the counters of key 2", n);
+    free(memory);
     return 0;
 }

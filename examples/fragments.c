@@ -5,20 +5,17 @@
 #include "flow.h"
 #include <inttypes.h>
 #include <stdio.h>
+#include <stdlib.h>
 
-/* 64 buckets, 3 hashes a key, room for 2 records a bucket, top count 4, at most 128 flows, 8 side places, keys of 13 bytes; and the areas' lengths
- * under them. */
-#define SETTINGS 6, 3, 2, 4, 128, 8, KEY
-enum { KEY = FLOW_IPV4_WIDTH, RECORD = FLOW_RECORD_BYTES(KEY), HEADER = 20, MORE_FRAGMENTS = 0x20, CLASS = 3 };
-static uint8_t ledger[2 + RECORD * 128], clipped[64 / 2], buckets[64 * (1 + RECORD * 2)], side[2 + RECORD * 8];
-static uint16_t true_counts[64], work[2 * 64];
+enum { KEY = FLOW_IPV4_WIDTH, HEADER = 20, MORE_FRAGMENTS = 0x20, CLASS = 3 };
 
-#define LOOKUP clipped, sizeof clipped, buckets, sizeof buckets, side, sizeof side
-#define AREAS ledger, sizeof ledger, true_counts, 64, LOOKUP
+/* 64 buckets, 3 hashes a key, room for 2 records a bucket, top count 4, at most 128 flows, 8 side places, keys of 13 bytes. */
+static const struct flow_settings settings = {.p = 6, .k = 3, .room = 2, .top = 4, .capacity = 128, .side_places = 8, .width = KEY};
+static struct flow_table table;
 
 static void add(const char *what, const uint8_t key[KEY])
 {
-    printf("add %s: %" PRIu32 "\n", what, flow_add(SETTINGS, AREAS, work, 2 * 64, key, KEY, CLASS));
+    printf("add %s: %" PRIu32 "\n", what, flow_table_add(&table, key, CLASS));
 }
 
 /* What a driver does with each packet: its key, and the class of the flow with that key. */
@@ -26,13 +23,13 @@ static void class_of(const char *what, const uint8_t *packet, size_t bytes)
 {
     uint8_t key[KEY];
     uint32_t answer = flow_packet_key(packet, bytes, key, KEY);
-    if (answer != 0) {
+    if (answer != FLOW_DONE) {
         printf("%s: refused with %" PRIu32 "\n", what, answer);
         return;
     }
-    uint64_t found = flow_search(SETTINGS, LOOKUP, key, KEY);
-    printf("%s: ports %d and %d, answer %" PRIu64 ", class %" PRIu64 "\n", what, key[8] * 256 + key[9], key[10] * 256 + key[11], found >> 32,
-           found & UINT32_MAX);
+    uint64_t found = flow_table_search(&table, key);
+    printf("%s: ports %d and %d, answer %d, class %" PRIu32 "\n", what, key[8] * 256 + key[9], key[10] * 256 + key[11],
+           (int)flow_answer_of(found), flow_class_of(found));
 }
 
 int main(void)
@@ -46,7 +43,14 @@ int main(void)
                                           0x13, 0x8c, 0x13, 0x8c, 5, 222, 0, 0};
     const uint8_t later[HEADER + 22] = {0x45, 0, 0, 42, 0, 7, 0, 185, 64, 17, 0, 0, 10, 0, 0, 1, 10, 0, 0, 2, 0x47, 0x40, 0x11, 0x10};
 
-    printf("clear: %" PRIu32 "\n", flow_clear(SETTINGS, AREAS));
+    size_t bytes = flow_table_bytes(&settings);
+    void *memory = malloc(bytes);
+    if (memory == NULL) {
+        fputs("no memory for the table\n", stderr);
+        return 1;
+    }
+    /* a table is cleared as it is opened */
+    printf("clear: %" PRIu32 "\n", flow_table_open(&table, &settings, memory, bytes));
     add("the video", video);
     class_of("first fragment", first, sizeof first);
     class_of("later fragment", later, sizeof later);
@@ -58,5 +62,6 @@ int main(void)
     /* ports can be missing only where there are some */
     class_of("first fragment, 3 bytes after the header", first, HEADER + 3);
     class_of("later fragment, 3 bytes after the header", later, HEADER + 3);
+    free(memory);
     return 0;
 }

@@ -6,24 +6,21 @@
 #include "flow.h"
 #include <inttypes.h>
 #include <stdio.h>
+#include <stdlib.h>
 #include <string.h>
 
 #if FLOW_INTERFACE != 2
 #error "written for another interface of the flow table"
 #endif
 
-/* 64 buckets, 3 hashes a key, room for 2 records a bucket, top count 4, at most 128 flows, 8 side places, keys of 37 bytes; and the areas' lengths
- * under them. */
-#define SETTINGS 6, 3, 2, 4, 128, 8, KEY
-enum { KEY = FLOW_IPV6_WIDTH, RECORD = FLOW_RECORD_BYTES(KEY), TABLE = FLOW_HASH_TABLE_NUMBERS(KEY), HEADER = 40 };
-static uint8_t ledger[2 + RECORD * 128], clipped[64 / 2], buckets[64 * (1 + RECORD * 2)], side[2 + RECORD * 8];
-static uint16_t true_counts[64], work[2 * 64];
+enum { KEY = FLOW_IPV6_WIDTH, BYTES = FLOW_HASH_TABLE_NUMBERS(KEY), HALF_BYTES = FLOW_HALF_BYTE_TABLE_NUMBERS, HEADER = 40 };
 
-#define LOOKUP clipped, sizeof clipped, buckets, sizeof buckets, side, sizeof side
-#define AREAS ledger, sizeof ledger, true_counts, 64, LOOKUP
+/* 64 buckets, 3 hashes a key, room for 2 records a bucket, top count 4, at most 128 flows, 8 side places, keys of 37 bytes. */
+static const struct flow_settings settings = {.p = 6, .k = 3, .room = 2, .top = 4, .capacity = 128, .side_places = 8, .width = KEY};
+static struct flow_table table;
 
 /* Tables for the hash: by byte, and by half-byte in an eighth of the memory. A driver keeps one of them. */
-static uint64_t by_byte[TABLE], by_half_byte[FLOW_HALF_BYTE_TABLE_NUMBERS];
+static uint64_t by_byte[BYTES], by_half_byte[HALF_BYTES];
 
 /* Next headers: UDP, and the extension header of a fragment. */
 enum { UDP = 17, FRAGMENT = 44 };
@@ -40,7 +37,7 @@ static void put_header(uint8_t packet[HEADER], uint8_t next_header, uint8_t payl
 
 static void show(const char *what, uint64_t found)
 {
-    printf("%s: answer %" PRIu64 ", class %" PRIu64 "\n", what, found >> 32, found & UINT32_MAX);
+    printf("%s: answer %d, class %" PRIu32 "\n", what, (int)flow_answer_of(found), flow_class_of(found));
 }
 
 /* What a driver does with each packet: its key, and the class of the flow with that key, here by every way to hash. */
@@ -48,21 +45,33 @@ static void class_of(const char *what, const uint8_t *packet, size_t bytes)
 {
     uint8_t key[KEY];
     uint32_t answer = flow_packet6_key(packet, bytes, key, KEY);
-    if (answer != 0) {
+    if (answer != FLOW_DONE) {
         printf("%s: refused with %" PRIu32 "\n", what, answer);
         return;
     }
     printf("%s: ports %d and %d, next header %d\n", what, key[32] * 256 + key[33], key[34] * 256 + key[35], key[36]);
-    show("  with no table", flow_search(SETTINGS, LOOKUP, key, KEY));
-    show("  by byte", flow_search_lent(by_byte, TABLE, SETTINGS, LOOKUP, key, KEY));
-    show("  by half-byte", flow_search_lent(by_half_byte, FLOW_HALF_BYTE_TABLE_NUMBERS, SETTINGS, LOOKUP, key, KEY));
+    show("  with no table", flow_table_search(&table, key));
+    show("  by byte", flow_table_search_lent(&table, by_byte, BYTES, key));
+    show("  by half-byte", flow_table_search_lent(&table, by_half_byte, HALF_BYTES, key));
 }
 
 static void add(const char *what, const uint8_t *packet, size_t bytes, uint32_t class)
 {
     uint8_t key[KEY];
     flow_packet6_key(packet, bytes, key, KEY);
-    printf("add %s: %" PRIu32 "\n", what, flow_add(SETTINGS, AREAS, work, 2 * 64, key, KEY, class));
+    printf("add %s: %" PRIu32 "\n", what, flow_table_add(&table, key, class));
+}
+
+/* The card restarts: its memory is lost, and a file of first count 7, with the width after the other settings, brings all back. */
+static void restart(void *memory, size_t bytes)
+{
+    uint8_t file[FLOW_FILE_HEAD_BYTES(KEY) + FLOW_RECORD_BYTES(KEY) * 2];
+    printf("save: %" PRIu32 "\n", flow_table_save(&table, file, sizeof file));
+    printf("the file: %zu bytes, first count %d, width %d\n", sizeof file, file[1], file[15]);
+    memset(memory, 0xff, bytes);
+    memset(&table.settings, 0xff, sizeof table.settings);
+    printf("load: %" PRIu32 ", settings", flow_table_load(&table, file, sizeof file));
+    printf(" %" PRIu64 ", %" PRIu64 ", %" PRIu64 ", %" PRIu64 ", %" PRIu64 ", %" PRIu64 ", %" PRIu64 "\n", FLOW_SETTINGS(&table.settings));
 }
 
 int main(void)
@@ -76,9 +85,16 @@ int main(void)
     memcpy(behind + HEADER, fragment, 8);
     memcpy(behind + HEADER + 8, udp, 8);
 
-    printf("hash table by byte: %" PRIu32 "\n", flow_hash_table(KEY, by_byte, TABLE));
-    printf("hash table by half-byte: %" PRIu32 "\n", flow_hash_table(KEY, by_half_byte, FLOW_HALF_BYTE_TABLE_NUMBERS));
-    printf("clear: %" PRIu32 "\n", flow_clear(SETTINGS, AREAS));
+    size_t bytes = flow_table_bytes(&settings);
+    void *memory = malloc(bytes);
+    if (memory == NULL) {
+        fputs("no memory for the table\n", stderr);
+        return 1;
+    }
+    printf("hash table by byte: %" PRIu32 "\n", flow_hash_table(KEY, by_byte, BYTES));
+    printf("hash table by half-byte: %" PRIu32 "\n", flow_hash_table(KEY, by_half_byte, HALF_BYTES));
+    /* a table is cleared as it is opened */
+    printf("clear: %" PRIu32 "\n", flow_table_open(&table, &settings, memory, bytes));
     add("the call", packet, sizeof packet, 5);
     class_of("the packet", packet, sizeof packet);
     class_of("behind a fragment header", behind, sizeof behind);
@@ -87,29 +103,17 @@ int main(void)
     add("what comes behind a fragment header", behind, sizeof behind, 6);
     class_of("behind a fragment header", behind, sizeof behind);
 
-    /* what is no IPv6 packet, what has no ports, and a key of another width */
+    /* what is no IPv6 packet, what has no ports, and a key of another width, which only the door itself takes */
     class_of("the packet cut after its header", packet, HEADER);
     class_of("the packet cut in its header", packet, HEADER - 1);
     packet[0] = 0x45;
     class_of("the packet with version 4", packet, sizeof packet);
     packet[0] = 0x60;
-    show("a key of 13 bytes", flow_search(SETTINGS, LOOKUP, ipv4_key, FLOW_IPV4_WIDTH));
+    show("a key of 13 bytes", flow_search(FLOW_SETTINGS(&settings), FLOW_LOOKUP(&table.areas), ipv4_key, FLOW_IPV4_WIDTH));
 
-    /* the card restarts: a file of first count 7, with the width after the other settings */
-    uint8_t file[FLOW_FILE_HEAD_BYTES(KEY) + RECORD * 2];
-    uint64_t settings[FLOW_SETTINGS_COUNT];
-    printf("save: %" PRIu32 "\n", flow_save(SETTINGS, ledger, sizeof ledger, work, 2 * 64, file, sizeof file));
-    printf("the file: %zu bytes, first count %d, width %d\n", sizeof file, file[1], file[15]);
-    memset(ledger, 0xff, sizeof ledger);
-    memset(clipped, 0xff, sizeof clipped);
-    memset(buckets, 0xff, sizeof buckets);
-    memset(side, 0xff, sizeof side);
-    printf("load: %" PRIu32, flow_load(file, sizeof file, AREAS, work, 2 * 64, settings, FLOW_SETTINGS_COUNT));
-    for (int i = 0; i < FLOW_SETTINGS_COUNT; i++) {
-        printf("%s %" PRIu64, i == 0 ? ", settings" : ",", settings[i]);
-    }
-    printf("\n");
+    restart(memory, bytes);
     class_of("the packet", packet, sizeof packet);
     class_of("behind a fragment header", behind, sizeof behind);
+    free(memory);
     return 0;
 }

@@ -6,14 +6,12 @@
 #include "flow.h"
 #include <inttypes.h>
 #include <stdio.h>
+#include <stdlib.h>
 
-/* flowrun's settings, and the areas' lengths under them. */
-#define SETTINGS 6, 3, 2, 4, 128, 8, FLOW_IPV4_WIDTH
-enum { CALLS = 10000, FLOWS = 1000, MOST_ANSWER = 100 };
-static uint8_t ledger[2 + 17 * 128], clipped[64 / 2], buckets[64 * (1 + 17 * 2)], side[2 + 17 * 8];
-static uint16_t true_counts[64], work[2 * 64];
-
-#define AREAS ledger, sizeof ledger, true_counts, 64, clipped, sizeof clipped, buckets, sizeof buckets, side, sizeof side
+/* flowrun's settings. */
+static const struct flow_settings settings = {.p = 6, .k = 3, .room = 2, .top = 4, .capacity = 128, .side_places = 8, .width = FLOW_IPV4_WIDTH};
+static struct flow_table table;
+enum { CALLS = 10000, FLOWS = 1000 };
 
 /* The call that two numbers make: its kind is the first modulo 4, its class the low 32 bits of the first, its key the second modulo the flow
  * count in eight bytes, high byte first, then five zero bytes. */
@@ -26,22 +24,25 @@ static uint32_t play(uint64_t first, uint64_t second)
     }
     switch (first % 4) {
     case 0:
-        return flow_add(SETTINGS, AREAS, work, 128, key, sizeof key, class);
+        return flow_table_add(&table, key, class);
     case 1:
-        return flow_change(SETTINGS, AREAS, work, 128, key, sizeof key, class);
+        return flow_table_change(&table, key, class);
     case 2:
-        return flow_remove(SETTINGS, AREAS, work, 128, key, sizeof key);
+        return flow_table_remove(&table, key);
     default:
-        return (uint32_t)(flow_search(SETTINGS, clipped, sizeof clipped, buckets, sizeof buckets, side, sizeof side, key, sizeof key) >> 32);
+        return flow_answer_of(flow_table_search(&table, key));
     }
 }
 
 int main(void)
 {
     struct flow_generator generator = {.s = 1, .w = 0};
-    static int counts[4][MOST_ANSWER + 1];
+    static int counts[4][FLOW_ABSENT + 1];
 
-    if (flow_clear(SETTINGS, AREAS) != 0) {
+    size_t bytes = flow_table_bytes(&settings);
+    void *memory = malloc(bytes);
+    if (memory == NULL || flow_table_open(&table, &settings, memory, bytes) != FLOW_DONE) {
+        fputs("no table\n", stderr);
         return 1;
     }
     for (int i = 0; i < CALLS; i++) {
@@ -50,12 +51,13 @@ int main(void)
         counts[first % 4][play(first, second)]++;
     }
     for (int kind = 0; kind < 4; kind++) {
-        for (int answer = 0; answer <= MOST_ANSWER; answer++) {
+        for (int answer = 0; answer <= FLOW_ABSENT; answer++) {
             if (counts[kind][answer] > 0) {
                 printf("%c answered %d: %d\n", "ICDS"[kind], answer, counts[kind][answer]);
             }
         }
     }
     printf("generator: s %" PRIu64 ", w %" PRIu64 "\n", generator.s, generator.w);
+    free(memory);
     return 0;
 }

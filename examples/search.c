@@ -1,4 +1,4 @@
-/* A table with one flow, laid out by hand, and what search and tally say of it.
+/* A table with one flow, whose areas are laid out by hand, and what search and tally say of it, by the bare doors.
  *
  *     gcc -std=c11 -Iinclude examples/search.c target/staticlib/libcard.a -o search && ./search
  */

@@ -1,4 +1,4 @@
-/* A table that takes flows in, gives one another class, and takes one out again.
+/* A table that takes flows in, gives one another class, and takes one out again: by the bare doors, with areas that are lent one by one.
  *
  *     gcc -std=c11 -Iinclude examples/update.c target/staticlib/libcard.a -o update && ./update
  */
@@ -31,6 +31,16 @@ static int lend_areas(void)
     return ledger && true_counts && clipped && buckets && side && work;
 }
 
+static void free_areas(void)
+{
+    free(ledger);
+    free(true_counts);
+    free(clipped);
+    free(buckets);
+    free(side);
+    free(work);
+}
+
 static void search(const char *what, const uint8_t key[FLOW_IPV4_WIDTH])
 {
     uint64_t found = flow_search(SETTINGS, clipped, lengths[2], buckets, lengths[3], side, lengths[4], key, FLOW_IPV4_WIDTH);
@@ -59,5 +69,6 @@ int main(void)
     printf("remove the call again: %" PRIu32 "\n", flow_remove(SETTINGS, AREAS, work, lengths[5], call, FLOW_IPV4_WIDTH));
     search("the call", call);
     search("the line", line);
+    free_areas();
     return 0;
 }

@@ -9,18 +9,15 @@
 #include <stdio.h>
 #include <stdlib.h>
 
+enum { KEY = FLOW_IPV4_WIDTH, HASHES = FLOW_HASH_TABLE_NUMBERS(KEY) };
+
 /* 32 buckets, 3 hashes a key, room for 2 records a bucket, top count 4, at most 32 flows, 8 side places, keys of 13 bytes: so few buckets that some
- * flows go to the side store. And the areas' lengths under them. */
-#define SETTINGS 5, 3, 2, 4, 32, 8, KEY
-enum { KEY = FLOW_IPV4_WIDTH, RECORD = FLOW_RECORD_BYTES(KEY), TABLE = FLOW_HASH_TABLE_NUMBERS(KEY) };
-static uint8_t ledger[2 + RECORD * 32], clipped[32 / 2], buckets[32 * (1 + RECORD * 2)], side[2 + RECORD * 8];
-static uint16_t true_counts[32], work[2 * 32];
+ * flows go to the side store. */
+static const struct flow_settings settings = {.p = 5, .k = 3, .room = 2, .top = 4, .capacity = 32, .side_places = 8, .width = KEY};
+static struct flow_table table;
 
-#define LOOKUP clipped, sizeof clipped, buckets, sizeof buckets, side, sizeof side
-#define AREAS ledger, sizeof ledger, true_counts, 32, LOOKUP
-
-/* What the driver keeps: the hash table, filled once, and the window. */
-static uint64_t table[TABLE];
+/* What the driver keeps: the numbers for H, filled in once, and the window. */
+static uint64_t hashes[HASHES];
 static uint16_t window[FLOW_WINDOW_NUMBERS];
 
 /* Packets come from 40 subscribers. The first 28 have a flow; of these the last 16 lose theirs for a while. */
@@ -28,10 +25,10 @@ enum { SUBSCRIBERS = 40, FLOWS = 28, KEPT = 12, CLASS = 5 };
 enum { SEARCHES = 8000, EACH = 1000, REMOVED_AFTER = 3000, ADDED_AFTER = 6000 };
 
 /* A door answers 0, or the number of a refusal. */
-static void must(const char *what, uint64_t answer)
+static void must(const char *what, uint32_t answer)
 {
-    if (answer != 0) {
-        fprintf(stderr, "%s: refused with %" PRIu64 "\n", what, answer);
+    if (answer != FLOW_DONE) {
+        fprintf(stderr, "%s: refused with %" PRIu32 "\n", what, answer);
         exit(1);
     }
 }
@@ -50,7 +47,7 @@ static void add_flows(int from, int to)
     uint8_t key[KEY];
     for (int i = from; i < to; i++) {
         make_key(key, (uint8_t)i);
-        must("flow_add", flow_add(SETTINGS, AREAS, work, 2 * 32, key, KEY, CLASS));
+        must("flow_table_add", flow_table_add(&table, key, CLASS));
     }
     printf("control software adds %d flows\n", to - from);
 }
@@ -60,7 +57,7 @@ static void remove_flows(int from, int to)
     uint8_t key[KEY];
     for (int i = from; i < to; i++) {
         make_key(key, (uint8_t)i);
-        must("flow_remove", flow_remove(SETTINGS, AREAS, work, 2 * 32, key, KEY));
+        must("flow_table_remove", flow_table_remove(&table, key));
     }
     printf("control software removes %d flows\n", to - from);
 }
@@ -71,9 +68,9 @@ static void search(uint8_t subscriber)
     uint8_t key[KEY];
     uint32_t counts[3];
     make_key(key, subscriber);
-    uint64_t found = flow_search_counts_lent(table, TABLE, SETTINGS, LOOKUP, key, KEY, counts, 3);
-    uint64_t answer = found >> 32;
-    must("flow_search_counts_lent", answer == 100 ? 0 : answer);
+    uint64_t found = flow_table_search_counts_lent(&table, hashes, HASHES, key, counts);
+    enum flow_answer answer = flow_answer_of(found);
+    must("flow_table_search_counts_lent", answer == FLOW_ABSENT ? FLOW_DONE : answer);
     must("flow_window_enter", flow_window_enter(window, FLOW_WINDOW_NUMBERS, found, counts, 3));
 }
 
@@ -91,8 +88,14 @@ int main(void)
     /* subscribers are drawn from it, the same ones everywhere */
     struct flow_generator generator = {.s = 1, .w = 0};
 
-    must("flow_hash_table", flow_hash_table(KEY, table, TABLE));
-    must("flow_clear", flow_clear(SETTINGS, AREAS));
+    size_t bytes = flow_table_bytes(&settings);
+    void *memory = malloc(bytes);
+    if (memory == NULL) {
+        fputs("no memory for the table\n", stderr);
+        return 1;
+    }
+    must("flow_hash_table", flow_hash_table(KEY, hashes, HASHES));
+    must("flow_table_open", flow_table_open(&table, &settings, memory, bytes));
     must("flow_window_clear", flow_window_clear(window, FLOW_WINDOW_NUMBERS));
     add_flows(0, FLOWS);
     for (int searches = 1; searches <= SEARCHES; searches++) {
@@ -107,5 +110,6 @@ int main(void)
             add_flows(KEPT, FLOWS);
         }
     }
+    free(memory);
     return 0;
 }

@@ -8,7 +8,7 @@
 #include <stdlib.h>
 #include <string.h>
 
-enum { TABLES = 2000, CALLS = 60, PACKETS = 20000, GENERATORS = 1000, MOST_KEYS = 40, MOST_ANSWER = 100 };
+enum { TABLES = 2000, CALLS = 60, PACKETS = 20000, GENERATORS = 1000, MOST_KEYS = 40, MOST_ANSWER = FLOW_ABSENT };
 
 /* splitmix64 */
 static uint64_t state = 91;
@@ -111,7 +111,7 @@ static const size_t sizes[6] = {1, 2, 1, 1, 1, 2};
 static void make_areas(void)
 {
     uint64_t lengths[6];
-    if (flow_area_lengths(SETTINGS, lengths, 6) != 0) {
+    if (flow_area_lengths(SETTINGS, lengths, 6) != FLOW_DONE) {
         fail("settings in range are refused");
     }
     for (int i = 0; i < 6; i++) {
@@ -165,12 +165,12 @@ static struct area some_table(void) { return right_tables[between(0, right_count
 /* A right table, or now and then one of random numbers. */
 static struct area any_table(void) { return between(0, 9) == 0 ? random_tables[between(0, right_count - 1)] : some_table(); }
 
-/* 0 when a table with a layout took the call, whose areas then are all written. */
+/* FLOW_DONE when a table with a layout took the call, whose areas then are all written. */
 static uint32_t update(void)
 {
     struct area key = some_key();
     uint32_t class = (uint32_t)next();
-    uint32_t answer = 0;
+    uint32_t answer = FLOW_DONE;
     switch (between(0, 5)) {
     case 0:
         answer = flow_change(SETTINGS, AREAS, LENT(areas[5]), LENT(key), class);
@@ -192,7 +192,7 @@ static void search(void)
     if (flow_search_lent(LENT(lent), SETTINGS, LOOKUP, LENT(key)) != found) {
         fail("the two searches differ");
     }
-    note((uint32_t)(found >> 32));
+    note(flow_answer_of(found));
     free(key.at);
 }
 
@@ -201,18 +201,18 @@ static void search_place(void)
 {
     struct area key = some_key(), place = lend(between(0, 9) == 0 ? between(0, 1) : 2, 8);
     uint64_t found = flow_search_place(SETTINGS, LOOKUP, LENT(key), LENT(place));
-    uint32_t answer = note((uint32_t)(found >> 32));
+    uint32_t answer = note(flow_answer_of(found));
     if (place.length == 2 && flow_search(SETTINGS, LOOKUP, LENT(key)) != found) {
         fail("the search with the place differs");
     }
-    if (answer == 0) {
+    if (answer == FLOW_HELD) {
         const uint64_t *lies = place.at;
         const struct area *area = lies[0] == 1 ? &areas[3] : &areas[4];
         const uint8_t *record = (const uint8_t *)area->at + lies[1];
         if (lies[0] == 0 || lies[0] > 2 || lies[1] + FLOW_RECORD_BYTES(width) > area->length || memcmp(record, key.at, width) != 0) {
             fail("the record does not lie at its place");
         }
-    } else if (answer == 100) {
+    } else if (answer == FLOW_ABSENT) {
         look_at(place.at, 16);
     }
     free(key.at);
@@ -222,7 +222,7 @@ static void search_place(void)
 /* A window: cleared where malloc left it, or random numbers. */
 static struct area window;
 
-static int is_accepted(uint64_t found) { return found >> 32 == 0 || found >> 32 == 100; }
+static int is_accepted(uint64_t found) { return flow_answer_of(found) == FLOW_HELD || flow_answer_of(found) == FLOW_ABSENT; }
 
 /* Three numbers for a search's counts, as malloc leaves them, or another number of them. What the search gives enters the window: if it was
  * refused, its counts are still as malloc left them. */
@@ -232,8 +232,8 @@ static void search_counts(void)
     struct area key = some_key(), lent = any_table(), counts = lend(length, 4), counts_lent = lend(length, 4);
     uint64_t found = flow_search_counts(SETTINGS, LOOKUP, LENT(key), LENT(counts));
     uint64_t found_lent = flow_search_counts_lent(LENT(lent), SETTINGS, LOOKUP, LENT(key), LENT(counts_lent));
-    note((uint32_t)(found >> 32));
-    note((uint32_t)(found_lent >> 32));
+    note(flow_answer_of(found));
+    note(flow_answer_of(found_lent));
     if (length == 3 && (flow_search(SETTINGS, LOOKUP, LENT(key)) != found ||
                         flow_search_lent(LENT(lent), SETTINGS, LOOKUP, LENT(key)) != found_lent)) {
         fail("the search with counts differs");
@@ -248,7 +248,7 @@ static void search_counts(void)
     if (is_accepted(found) && right && memcmp(counts.at, counts_lent.at, 12) != 0) {
         fail("the counts of the two searches differ");
     }
-    if (note(flow_window_enter(LENT(window), found, LENT(counts))) != (length == 3 ? 0 : 2)) {
+    if (note(flow_window_enter(LENT(window), found, LENT(counts))) != (length == 3 ? FLOW_DONE : FLOW_BAD_AREA_LENGTH)) {
         fail("a window does not take a search");
     }
     look_at(window.at, window.length * window.size);
@@ -262,8 +262,10 @@ static void wrong_window(void)
 {
     struct area other = lend(FLOW_WINDOW_NUMBERS, 2), counts = lend(3, 4);
     wrong_length(&other);
-    if (note(flow_window_clear(LENT(other))) != 2 || note(flow_window_enter(LENT(other), 0, LENT(counts))) != 2 ||
-        note(flow_window_remove(LENT(other))) != 2 || note(flow_window_counts(LENT(other), LENT(counts))) != 2) {
+    if (note(flow_window_clear(LENT(other))) != FLOW_BAD_AREA_LENGTH ||
+        note(flow_window_enter(LENT(other), 0, LENT(counts))) != FLOW_BAD_AREA_LENGTH ||
+        note(flow_window_remove(LENT(other))) != FLOW_BAD_AREA_LENGTH ||
+        note(flow_window_counts(LENT(other), LENT(counts))) != FLOW_BAD_AREA_LENGTH) {
         fail("a window of a wrong length is taken");
     }
     free(other.at);
@@ -277,7 +279,7 @@ static void window_calls(void)
     uint64_t times = between(0, 3) == 0 ? between(0, 1100) : between(0, 3), found = next();
     struct area counts = random_area(between(0, 9) == 0 ? between(0, 5) : 3, 4), told = lend(between(0, 9) == 0 ? between(0, 5) : 3, 4);
     if (between(0, 9) > 0) {
-        found = (uint64_t[]){0, (uint64_t)100 << 32, (uint64_t)5 << 32}[between(0, 2)] + between(0, 9);
+        found = (uint64_t[]){FLOW_HELD, FLOW_ABSENT, FLOW_DAMAGED_LOOKUP}[between(0, 2)] << 32 | between(0, 9);
     }
     switch (between(0, 5)) {
     case 0:
@@ -299,7 +301,7 @@ static void window_calls(void)
         }
     }
     look_at(window.at, window.length * window.size);
-    if (note(flow_window_counts(LENT(window), LENT(told))) == 0) {
+    if (note(flow_window_counts(LENT(window), LENT(told))) == FLOW_DONE) {
         look_at(told.at, 12);
     }
     free(counts.at);
@@ -335,14 +337,14 @@ static void burst(void)
         memset(found.at, 0xa5, found.length * 8);
     }
     uint32_t answer = note(flow_search_burst(LENT(lent), SETTINGS, LOOKUP, LENT(keys), LENT(found)));
-    for (size_t i = 0; i < found.length && (answer == 0 || marked); i++) {
+    for (size_t i = 0; i < found.length && (answer == FLOW_DONE || marked); i++) {
         const uint8_t *key = (const uint8_t *)keys.at + width * i;
-        uint64_t expected = answer == 0 ? flow_search_lent(LENT(lent), SETTINGS, LOOKUP, key, width) : 0xa5a5a5a5a5a5a5a5;
+        uint64_t expected = answer == FLOW_DONE ? flow_search_lent(LENT(lent), SETTINGS, LOOKUP, key, width) : 0xa5a5a5a5a5a5a5a5;
         if (((uint64_t *)found.at)[i] != expected) {
-            fail(answer == 0 ? "a burst and a search differ" : "a refused burst alters an answer");
+            fail(answer == FLOW_DONE ? "a burst and a search differ" : "a refused burst alters an answer");
         }
-        if (answer == 0) {
-            note((uint32_t)(expected >> 32));
+        if (answer == FLOW_DONE) {
+            note(flow_answer_of(expected));
         }
     }
     free(keys.at);
@@ -354,7 +356,7 @@ static void tally(void)
 {
     struct area totals = lend(between(0, 9) == 0 ? 3 : 4, 4);
     uint32_t answer = flow_tally(SETTINGS, LENT(areas[0]), LOOKUP, LENT(totals));
-    if (note(answer) == 0) {
+    if (note(answer) == FLOW_DONE) {
         look_at(totals.at, 16);
     }
     free(totals.at);
@@ -364,16 +366,16 @@ static void key_buckets(void)
 {
     struct area key = some_key(), h = lend(1, 8), h_lent = lend(1, 8), hashes = lend(4, 2), numbers = lend(5, 2), lent = some_table();
     /* at the width of the settings, which may be none */
-    if (note(flow_hash(settings[6], LENT(key), LENT(h))) == 0) {
+    if (note(flow_hash(settings[6], LENT(key), LENT(h))) == FLOW_DONE) {
         look_at(h.at, 8);
     }
-    if (note(flow_hash_lent(settings[6], LENT(lent), LENT(key), LENT(h_lent))) == 0) {
+    if (note(flow_hash_lent(settings[6], LENT(lent), LENT(key), LENT(h_lent))) == FLOW_DONE) {
         look_at(h_lent.at, 8);
         if (memcmp(h.at, h_lent.at, 8) != 0) {
             fail("the two hashes differ");
         }
     }
-    if (note(flow_key_buckets(SETTINGS, LENT(key), LENT(hashes), LENT(numbers))) == 0) {
+    if (note(flow_key_buckets(SETTINGS, LENT(key), LENT(hashes), LENT(numbers))) == FLOW_DONE) {
         look_at(hashes.at, 8);
         look_at(numbers.at, 10);
     }
@@ -428,7 +430,7 @@ static void save_and_load(void)
     if (between(0, 9) == 0) {
         wrong_length(&file);
     }
-    if (note(flow_save(SETTINGS, LENT(areas[0]), LENT(areas[5]), LENT(file))) == 0) {
+    if (note(flow_save(SETTINGS, LENT(areas[0]), LENT(areas[5]), LENT(file))) == FLOW_DONE) {
         look_at(file.at, file.length);
         struct area altered = lend(file.length, 1);
         memcpy(altered.at, file.at, file.length);
@@ -437,7 +439,7 @@ static void save_and_load(void)
         free(altered.at);
         forget_all_but_ledger();
         memset(areas[0].at, 0xff, areas[0].length);
-        if (load(file) == 0 && memcmp(before.at, areas[0].at, before.length) != 0) {
+        if (load(file) == FLOW_DONE && memcmp(before.at, areas[0].at, before.length) != 0) {
             fail("another ledger comes back");
         }
         look_at_areas();
@@ -450,12 +452,12 @@ static void save_and_load(void)
 static void calls_on_a_table(void)
 {
     make_areas();
-    if (note(flow_clear(SETTINGS, AREAS)) != 0) {
+    if (note(flow_clear(SETTINGS, AREAS)) != FLOW_DONE) {
         fail("clear is refused");
     }
     look_at_areas();
     window = lend(FLOW_WINDOW_NUMBERS, 2);
-    if (note(flow_window_clear(LENT(window))) != 0) {
+    if (note(flow_window_clear(LENT(window))) != FLOW_DONE) {
         fail("a window is not cleared");
     }
     for (int i = 0; i < CALLS; i++) {
@@ -485,14 +487,14 @@ static void calls_on_a_table(void)
             window_calls();
             break;
         default:
-            if (update() == 0) {
+            if (update() == FLOW_DONE) {
                 look_at_areas();
             }
         }
     }
     /* an accepted update repairs all from the ledger alone */
     forget_all_but_ledger();
-    if (update() == 0) {
+    if (update() == FLOW_DONE) {
         look_at_areas();
     }
     free(window.at);
@@ -575,11 +577,11 @@ static void packets(void)
             bytes[7] = (uint8_t)offset;
         }
         uint32_t answer = note(flow_packet_key(LENT(packet), LENT(key)));
-        if (answer == 0) {
+        if (answer == FLOW_DONE) {
             look_at(key.at, FLOW_IPV4_WIDTH);
         }
         int later = packet.length > 7 && (bytes[6] % 32 != 0 || bytes[7] != 0);
-        if (later && (answer == 11 || (answer == 0 && memcmp((const uint8_t *)key.at + 8, no_ports, 4) != 0))) {
+        if (later && (answer == FLOW_PORTS_MISSING || (answer == FLOW_DONE && memcmp((const uint8_t *)key.at + 8, no_ports, 4) != 0))) {
             fail("a later fragment has ports");
         }
         free(packet.at);
@@ -598,7 +600,7 @@ static void packets6(void)
             bytes[0] = (uint8_t)(0x60 + between(0, 15));
             bytes[6] = (uint8_t[]){6, 17, 0, 43, 44, 50, 51, 58, 60}[between(0, 8)];
         }
-        if (note(flow_packet6_key(LENT(packet), LENT(key))) == 0) {
+        if (note(flow_packet6_key(LENT(packet), LENT(key))) == FLOW_DONE) {
             const uint8_t *made = key.at, *ports = bytes[6] == 6 || bytes[6] == 17 ? bytes + 40 : no_ports;
             look_at(made, FLOW_IPV6_WIDTH);
             if (memcmp(made, bytes + 8, 32) != 0 || memcmp(made + 32, ports, 4) != 0 || made[36] != bytes[6]) {
@@ -642,8 +644,9 @@ static void make_tables(void)
         struct area shorter = lend(lengths[i] - 1, 8);
         right_tables[i] = lend(lengths[i], 8);
         random_tables[i] = random_area(lengths[i], 8);
-        if (note(flow_hash_table(width, LENT(right_tables[i]))) != 0 || note(flow_hash_table(width, LENT(shorter))) != 2 ||
-            note(flow_hash_table(width + 1, LENT(shorter))) != 1) {
+        if (note(flow_hash_table(width, LENT(right_tables[i]))) != FLOW_DONE ||
+            note(flow_hash_table(width, LENT(shorter))) != FLOW_BAD_AREA_LENGTH ||
+            note(flow_hash_table(width + 1, LENT(shorter))) != FLOW_BAD_SETTINGS) {
             fail("a hash table");
         }
         look_at(right_tables[i].at, 8 * lengths[i]);
@@ -672,7 +675,7 @@ int main(void)
                 settings[j] = between(least[j], most[j]);
             }
             settings[6] = width;
-            if (flow_settings_check(SETTINGS) != 0) {
+            if (flow_settings_check(SETTINGS) != FLOW_DONE) {
                 fail("settings in range are refused");
             }
             if (i % 2 == 0) {
