@@ -20,7 +20,6 @@ static struct flow_live live;
 static struct flow_live_reader reader;
 
 /* The writer's table, and two copies of its lookup areas that RCU guards. */
-static struct flow_settings settings;
 static struct flow_table own;
 static struct flow_lookup own_lookup, copies[2];
 static pthread_rwlock_t lock = PTHREAD_RWLOCK_INITIALIZER;
@@ -250,20 +249,18 @@ static double more_than(const struct column *column, int c, int other)
     return median(more, (size_t)column->rounds);
 }
 
-/* Beside a writer a time is compared with that of a search with no writer at all. */
-static double more_beside_writer(int c) { return time_of(&busy, c) - time_of(&quiet, contestants[c].without); }
-
 static void print_searches(void)
 {
-    printf("\n| held keys, %" PRIu64 " flows, p 12%s | ns, no writer | more than without | ns beside a writer | more than without, no writer | the writer's "
-           "updates a second |\n|---|---|---|---|---|---|\n",
+    printf("\n| held keys, %" PRIu64 " flows, p 12%s | ns, no writer | more than without | ns beside a writer | more than without | the writer's updates a second |\n"
+           "|---|---|---|---|---|---|\n",
            flows, WIDE ? ", keys of 37 bytes" : "");
     for (int c = 0; c < CONTESTANTS; c++) {
         if (contestants[c].there == NULL) {
             continue;
         }
-        printf("| %s | %.1f | %.1f | %.1f | %.1f | %.0f |\n", contestants[c].name, time_of(&quiet, c), more_than(&quiet, c, contestants[c].without),
-               time_of(&busy, c), more_beside_writer(c), median(updates_a_second[c], BUSY_ROUNDS));
+        int without = contestants[c].without;
+        printf("| %s | %.1f | %.1f | %.1f | %.1f | %.0f |\n", contestants[c].name, time_of(&quiet, c), more_than(&quiet, c, without), time_of(&busy, c),
+               more_than(&busy, c, without), median(updates_a_second[c], BUSY_ROUNDS));
     }
 }
 
@@ -349,7 +346,7 @@ static void print_aim_ns(FILE *to, const char *what, double bound, double measur
 static void print_aims(FILE *aims)
 {
     print_aim_ns(aims, "flow_live_search in sections of 32 than flow_search_lent, no writer", 1, more_than(&quiet, LIVE, LENT));
-    print_aim_ns(aims, "flow_live_search in sections of 32 beside a writer than flow_search_lent with none", 5, more_beside_writer(LIVE));
+    print_aim_ns(aims, "flow_live_search in sections of 32 than flow_search_lent, both beside a writer", 5, more_than(&busy, LIVE, LENT));
     print_aim(aims,
               &(struct aim){WIDE ? "flow_live_publish to memcmp of the lookup areas' bytes, keys of 37 bytes"
                                  : "flow_live_publish to memcmp of the lookup areas' bytes",
@@ -381,14 +378,13 @@ static struct flow_lookup copy_of_own(void)
 /* The writer's table: the flows that are held. */
 static void fill_own(void)
 {
-    settings = (struct flow_settings){SIX, WIDTH};
-    size_t bytes = flow_live_bytes(&settings, COPIES), own_bytes = flow_table_bytes(&settings);
-    must(flow_table_open(&own, &settings, lent(own_bytes), own_bytes), "flow_table_open");
+    size_t bytes = flow_live_bytes(&set, COPIES), own_bytes = flow_table_bytes(&set);
+    must(flow_table_open(&own, &set, lent(own_bytes), own_bytes), "flow_table_open");
     for (uint64_t i = 0; i < flows; i++) {
         must(flow_table_add(&own, held[i], classes[i]), "flow_table_add");
     }
     own_lookup = flow_lookup_of(&own.areas);
-    must(flow_live_open(&live, &settings, lent(bytes), bytes, &reader, 1), "flow_live_open");
+    must(flow_live_open(&live, &set, lent(bytes), bytes, &reader, 1), "flow_live_open");
     publish();
     copies[0] = copy_of_own();
     copies[1] = copy_of_own();

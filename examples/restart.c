@@ -21,20 +21,6 @@ static void *open_table(struct flow_table *table, const struct flow_settings *se
     return memory;
 }
 
-/* A setting of a file: two bytes after the count, high byte first. */
-static uint64_t setting(const uint8_t *file, int number)
-{
-    return (uint64_t)file[2 + 2 * number] << 8 | file[3 + 2 * number];
-}
-
-/* The settings of a file; a count of 6 leaves out the width, which then is 13. */
-static struct flow_settings settings_of(const uint8_t *file)
-{
-    int wide = file[1] == FLOW_SETTINGS_COUNT;
-    return (struct flow_settings){setting(file, 0), setting(file, 1), setting(file, 2), setting(file, 3),
-                                  setting(file, 4), setting(file, 5), wide ? setting(file, 6) : FLOW_IPV4_WIDTH};
-}
-
 int main(void)
 {
     /* 64 buckets, 3 hashes a key, room for 2 records a bucket, top count 4, at most 3 flows, 2 side places, keys of 13 bytes */
@@ -53,7 +39,8 @@ int main(void)
     free(memory);
 
     /* the card restarts, and has the file alone */
-    const struct flow_settings of_file = settings_of(file);
+    struct flow_settings of_file;
+    printf("settings of the file: %" PRIu32 "\n", flow_settings_of_file(&of_file, file, sizeof file));
     memory = open_table(&after, &of_file);
     printf("load: %" PRIu32 "\n", flow_table_load(&after, file, sizeof file));
     printf("a file cut by a byte: %" PRIu32 "\n", flow_table_load(&after, file, sizeof file - 1));

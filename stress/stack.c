@@ -50,6 +50,7 @@ static void add(void) { answer = flow_add(GIVEN, AREAS, WORK, keys[FLOWS], KEY, 
 static void change(void) { answer = flow_change(GIVEN, AREAS, WORK, keys[0], KEY, 8); }
 static void take_out(void) { answer = flow_remove(GIVEN, AREAS, WORK, keys[0], KEY); }
 static void save(void) { answer = flow_save(GIVEN, table.areas.ledger, table.areas.ledger_length, WORK, file, file_length); }
+static void file_settings(void) { answer = flow_file_settings(file, settings.p == 0 ? 1 : file_length, numbers, FLOW_SETTINGS_COUNT); }
 static void load(void) { answer = flow_load(file, file_length - (settings.p == 0), AREAS, WORK, numbers, FLOW_SETTINGS_COUNT); }
 static void window_clear(void) { answer = flow_window_clear(window, FLOW_WINDOW_NUMBERS - (settings.p == 0)); }
 static void window_enter(void) { answer = flow_window_enter(window, FLOW_WINDOW_NUMBERS - (settings.p == 0), 0, counts, 3); }
@@ -86,6 +87,7 @@ static const struct {
     {"flow_change", change, FLOW_STACK_LAYOUT},
     {"flow_remove", take_out, FLOW_STACK_LAYOUT},
     {"flow_save", save, FLOW_STACK_LAYOUT},
+    {"flow_file_settings", file_settings, FLOW_STACK_OTHER},
     {"flow_load", load, FLOW_STACK_LAYOUT},
     {"flow_packet_key, flow_packet6_key", packet_keys, FLOW_STACK_OTHER},
     {"flow_window_clear", window_clear, FLOW_STACK_OTHER},

@@ -384,6 +384,17 @@ static void many_flows(void)
     free(lent_to);
 }
 
+/* The settings of a file as a struct, beside the door. */
+static void settings_of(const uint8_t *file, size_t bytes)
+{
+    uint64_t told[FLOW_SETTINGS_COUNT];
+    struct flow_settings read;
+    memset(&read, 0xa5, sizeof read);
+    CHECK(flow_settings_of_file(&read, file, bytes) == flow_file_settings(file, bytes, told, FLOW_SETTINGS_COUNT));
+    const struct flow_settings expected = as_struct(told);
+    CHECK(memcmp(&read, &expected, sizeof read) == 0);
+}
+
 /* A load beside the door; refused, the table is as it was, but for work. */
 static uint32_t load(const uint8_t *file, size_t bytes)
 {
@@ -396,6 +407,7 @@ static uint32_t load(const uint8_t *file, size_t bytes)
         were[i] = lend(lengths[i]);
         memcpy(were[i], areas[i], lengths[i]);
     }
+    settings_of(file, bytes);
     uint32_t answer = flow_table_load(&table, file, bytes);
     CHECK(answer == flow_load(file, bytes, AREAS, WORK, told, FLOW_SETTINGS_COUNT));
     same_areas();
@@ -481,6 +493,7 @@ static uint64_t window_counts(void) { return flow_window_counts(L(WINDOW), L(COU
 static uint64_t packet_key(void) { return flow_packet_key(L(PACKET), L(PACKET_KEY)); }
 static uint64_t packet6_key(void) { return flow_packet6_key(L(PACKET6), L(PACKET6_KEY)); }
 static uint64_t save_file(void) { return flow_save(SETTINGS, L(LEDGER), L(WORK_AREA), L(TARGET)); }
+static uint64_t file_settings(void) { return flow_file_settings(L(FILE_BYTES), L(TOLD)); }
 static uint64_t load_file(void) { return flow_load(L(FILE_BYTES), L_AREAS, L(WORK_AREA), L(TOLD)); }
 
 /* Each door with its areas, and what it refuses one of length 0 with. */
@@ -518,6 +531,7 @@ static const struct {
     {packet_key, 2, {{PACKET, 10}, {PACKET_KEY, 3}}},
     {packet6_key, 2, {{PACKET6, 16}, {PACKET6_KEY, 3}}},
     {save_file, 3, {{LEDGER, 2}, {WORK_AREA, 2}, {TARGET, 12}}},
+    {file_settings, 2, {{FILE_BYTES, 12}, {TOLD, 2}}},
     {load_file, 8, {{FILE_BYTES, 12}, OF_AREAS, {WORK_AREA, 2}, {TOLD, 2}}},
 };
 /* clang-format on */
@@ -572,8 +586,11 @@ static void lend_each(void)
 /* What an area's bytes are now, beside before. */
 static int is_as_before(enum area area) { return memcmp(lent[area].at, lent[area].before, lent[area].length * lent[area].size) == 0; }
 
+/* A door that reads a file judges it first, and sets the settings, its last area, to zeros where it refuses. */
+static int reads_file(int door) { return doors[door].call == load_file || doors[door].call == file_settings; }
+
 /* The areas of a door that are in the set, a bit each in the order of its list, are of length 0, at a byte or NULL: the answer is the same, and no
- * area is written but work and, by a load, the settings. */
+ * area is written but work and, by a door that reads a file, the settings. */
 static void with_none(int door, unsigned set, uint64_t refusal)
 {
     uint8_t byte = 0xa5;
@@ -595,7 +612,7 @@ static void with_none(int door, unsigned set, uint64_t refusal)
             lent[doors[door].areas[i].area].length = lengths[i];
         }
         for (int i = 0; i < EACH_AREA; i++) {
-            int zeros = i == TOLD && doors[door].call == load_file && !(set >> 7 & 1);
+            int zeros = i == TOLD && reads_file(door) && !(set >> (doors[door].count - 1) & 1);
             CHECK(i == WORK_AREA || (zeros ? all_are(lent[i].at, lent[i].length * lent[i].size, 0) : is_as_before((enum area)i)));
             memcpy(lent[i].at, lent[i].before, lent[i].length * lent[i].size);
         }
@@ -603,7 +620,7 @@ static void with_none(int door, unsigned set, uint64_t refusal)
     }
 }
 
-/* One area after the other, and all of a door's at once, which is refused with the lowest number; but a load judges its file first. */
+/* One area after the other, and all of a door's at once, which is refused with the lowest number, but for a door that reads a file. */
 static void null_areas(void)
 {
     lend_each();
@@ -618,7 +635,7 @@ static void null_areas(void)
             with_none(door, 1u << i, refusal);
             lowest = refusal < lowest ? refusal : lowest;
         }
-        with_none(door, (1u << doors[door].count) - 1, doors[door].call == load_file ? FLOW_BAD_FILE_LENGTH : lowest);
+        with_none(door, (1u << doors[door].count) - 1, reads_file(door) ? FLOW_BAD_FILE_LENGTH : lowest);
     }
     CHECK(flow_search_burst(hashes, HASHES, SETTINGS, LOOKUP, NULL, 0, NULL, 0) == FLOW_DONE);
     CHECK(flow_table_search_burst(&table, hashes, HASHES, NULL, NULL, 0) == FLOW_DONE);
