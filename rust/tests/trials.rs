@@ -6,13 +6,12 @@ use model::card::Card;
 use model::flowrun;
 use model::settings::{Settings, LIMITS};
 use model::trials::{output, MOST_CALLS, TRIAL_BYTES};
-use std::io::{BufRead, BufReader, Write};
-use std::process::{Child, ChildStdin, Command, Stdio};
-use std::sync::mpsc::{channel, Receiver, RecvTimeoutError};
+use std::io::Write;
+use std::sync::mpsc::RecvTimeoutError;
 use std::thread;
 use std::time::Duration;
 use testing::made::{load, random_bytes};
-use testing::programs::{end_of, program, run, run_in_pieces, DEADLINE};
+use testing::programs::{end_of, run, run_in_pieces, started, DEADLINE};
 use testing::random::Random;
 use testing::seen::Seen;
 
@@ -460,25 +459,6 @@ fn sums_of_lines_of_flowrun() {
     seen.report("calls", &[("call", &[0, 6, 7, 9, 100])]);
 }
 
-// flowtrial, started on an input that is fed to it, and its lines as they come.
-fn started() -> (Child, ChildStdin, Receiver<String>) {
-    let mut child = Command::new(program("flowtrial"))
-        .stdin(Stdio::piped())
-        .stdout(Stdio::piped())
-        .spawn()
-        .unwrap();
-    let feed = child.stdin.take().unwrap();
-    let printed = BufReader::new(child.stdout.take().unwrap());
-    let (sender, lines) = channel();
-    thread::spawn(move || {
-        for line in printed.lines() {
-            // nobody waits for it where the test has failed already
-            let _ = sender.send(line.unwrap());
-        }
-    });
-    (child, feed, lines)
-}
-
 // Each line is there before more settings are.
 #[test]
 fn each_line_at_once() {
@@ -490,7 +470,7 @@ fn each_line_at_once() {
     let expected = output(&input).unwrap();
     let mut expected = expected.lines();
 
-    let (mut child, mut feed, lines) = started();
+    let (mut child, mut feed, lines) = started("flowtrial");
     feed.write_all(&calls).unwrap();
     for (i, &numbers) in trials.iter().enumerate() {
         // whole, or in pieces
@@ -515,7 +495,7 @@ fn each_line_at_once() {
 #[test]
 fn most_calls_are_played() {
     let input = with_trials(&load(7, 8, 1, MOST_CALLS), &[[4, 1, 1, 2, 1, 0]]);
-    let (mut child, mut feed, lines) = started();
+    let (mut child, mut feed, lines) = started("flowtrial");
     feed.write_all(&input).unwrap();
     let line = lines.recv_timeout(Duration::from_secs(1));
     let status = child.try_wait().unwrap();

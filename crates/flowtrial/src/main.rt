@@ -1,7 +1,8 @@
 // Program flowtrial: reads the 32 bytes of a load and then the settings of trials from standard input, and prints a line for each trial as soon as it
-// is run. It only reads and writes; crate trials judges, plays and makes the lines.
+// is run. It only reads and writes; crate trials judges, plays and makes the lines, and crate streams reads and writes.
 use bench_load::Asked;
 use bench_load::BenchLoad;
+use streams::Got;
 use trials::Trials;
 ghost use mathlib.Core.Path.{_≡_};
 ghost use mathlib.Core.Bool.{true};
@@ -37,10 +38,10 @@ fn run_next(
     ensures { λ r. ⌜ (r .more ≡ true → (r .left .load ≡ left .load) × (r .left .number ≡ suc (left .number))) ⌝ }
 {
     let mut settings = [0u8; 12];
-    let got = io::read_full(0, &mut settings);
-    if got == 0 {
+    let read = streams::read_full(&mut settings);
+    let Got::Bytes(got) = read else {
         return Next { left, more: false };
-    }
+    };
     let mut line = [0u8; 168];
     let told = trials::tell_next(
         left,
@@ -57,7 +58,7 @@ fn run_next(
     let rest = told.rest;
     Next {
         left: rest,
-        more: io::write_all(1, &line[..bytes]) & (got == 12),
+        more: streams::write_all(&line[..bytes]) & (got == 12),
     }
 }
 
@@ -86,7 +87,10 @@ fn run_trials(
 // "A bad load gives 15 and prints nothing." Each trial is lent parts of six areas of 64 KiB.
 fn main() {
     let mut input = [0u8; 32];
-    let got = io::read_full(0, &mut input);
+    let read = streams::read_full(&mut input);
+    let Got::Bytes(got) = read else {
+        return;
+    };
     let asked = trials::read_load(&input[..got]);
     let Asked::Load(load) = asked else {
         return;

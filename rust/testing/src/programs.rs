@@ -2,9 +2,10 @@
 
 use crate::seen::Seen;
 use model::flowrun;
-use std::io::{ErrorKind, Read, Write};
+use std::io::{BufRead, BufReader, ErrorKind, Read, Write};
 use std::path::{Path, PathBuf};
-use std::process::{Child, Command, ExitStatus, Stdio};
+use std::process::{Child, ChildStdin, Command, ExitStatus, Stdio};
+use std::sync::mpsc::{channel, Receiver};
 use std::thread;
 use std::time::{Duration, Instant};
 
@@ -71,6 +72,35 @@ pub fn run_in_pieces(
     feeder.join().unwrap();
     assert!(ended.status.success() && ended.stderr.is_empty());
     output
+}
+
+/// A program, started on an input that is fed to it, and its lines as they come.
+pub fn started(name: &str) -> (Child, ChildStdin, Receiver<String>) {
+    let mut child = Command::new(program(name))
+        .stdin(Stdio::piped())
+        .stdout(Stdio::piped())
+        .spawn()
+        .unwrap();
+    let feed = child.stdin.take().unwrap();
+    let printed = BufReader::new(child.stdout.take().unwrap());
+    let (sender, lines) = channel();
+    thread::spawn(move || {
+        for line in printed.lines() {
+            // nobody waits for it where the test has failed already
+            let _ = sender.send(line.unwrap());
+        }
+    });
+    (child, feed, lines)
+}
+
+/// How a program ends, which it must within [`DEADLINE`], and what it says on standard error.
+pub fn end_and_said(command: &mut Command) -> (ExitStatus, String) {
+    let mut child = command.stderr(Stdio::piped()).spawn().unwrap();
+    let status = end_of(&mut child);
+    let mut said = String::new();
+    let errors = child.stderr.take().unwrap();
+    errors.take(MOST_OUTPUT).read_to_string(&mut said).unwrap();
+    (status, said)
 }
 
 /// More than any run under test needs.

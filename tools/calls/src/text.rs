@@ -11,6 +11,12 @@ use std::str::FromStr;
 /// The bytes of a call.
 pub const CALL: usize = 18;
 
+// What some editors put at the start of a text.
+const BYTE_ORDER_MARK: &[u8] = b"\xef\xbb\xbf";
+
+// The most characters of a word that a message shows.
+const MOST_SHOWN: usize = 60;
+
 /// How a line is written, for messages and for the program's help.
 pub const FORMS: &str = "\
 add SOURCE DESTINATION SOURCE-PORT DESTINATION-PORT PROTOCOL CLASS
@@ -44,33 +50,85 @@ impl fmt::Display for BadLine {
     }
 }
 
-/// The calls of a text. Empty lines, and what follows a `#`, are passed over.
-pub fn calls_of(text: &str) -> Result<Vec<u8>, BadLine> {
-    let mut calls = Vec::new();
-    for (at, whole) in text.lines().enumerate() {
-        let line = whole.split('#').next().unwrap_or("");
-        let words: Vec<&str> = line.split_whitespace().collect();
-        if let Some((word, fields)) = words.split_first() {
-            let bytes = if calls.len() % CALL != 0 {
-                Err("after a line of fewer than 18 bytes, which must be the last".to_string())
-            } else {
-                call_of(word, fields)
-            };
-            let line = at + 1;
-            calls.extend(bytes.map_err(|fault| BadLine { line, fault })?);
-        }
+/// The lines of an input, read one after the other.
+#[derive(Default)]
+pub struct Lines {
+    // how many were read
+    count: usize,
+    // whether the latest call has fewer than 18 bytes
+    short: bool,
+}
+
+impl Lines {
+    /// The call of the next line. An empty line, what follows a `#`, and a byte order mark at the start of the input are passed over.
+    pub fn next_call(&mut self, line: &[u8]) -> Result<Vec<u8>, BadLine> {
+        self.count += 1;
+        let line = match line.strip_prefix(BYTE_ORDER_MARK) {
+            Some(rest) if self.count == 1 => rest,
+            _ => line,
+        };
+        self.judge(line).map_err(|fault| BadLine {
+            line: self.count,
+            fault,
+        })
     }
-    Ok(calls)
+
+    fn judge(&mut self, line: &[u8]) -> Result<Vec<u8>, String> {
+        let text = text_in(line)?;
+        let call = text.split('#').next().unwrap_or("");
+        let words: Vec<&str> = call.split_whitespace().collect();
+        let (word, fields) = match words.split_first() {
+            Some(words) => words,
+            None => return Ok(vec![]),
+        };
+        // told of one line; those after it are judged by themselves
+        if std::mem::take(&mut self.short) {
+            let fault = "after a line of fewer than 18 bytes, which must be the last";
+            return Err(fault.to_string());
+        }
+        let call = call_of(word, fields)?;
+        self.short = call.len() < CALL;
+        Ok(call)
+    }
+}
+
+// A line as text; where it is none, a fault with the first word that is none.
+fn text_in(line: &[u8]) -> Result<&str, String> {
+    std::str::from_utf8(line).map_err(|_| {
+        let mut words = line.split(u8::is_ascii_whitespace);
+        let bad = words.find(|word| std::str::from_utf8(word).is_err());
+        format!("'{}' is not text (UTF-8)", shown(bad.unwrap_or(line)))
+    })
+}
+
+/// Bytes as a message shows them: control characters, and bytes that are no UTF-8, as escapes; of many bytes the first ones.
+pub fn shown(bytes: &[u8]) -> String {
+    let mut rest = bytes;
+    let mut text = String::new();
+    for _ in 0..MOST_SHOWN {
+        let first = (1..=4).find_map(|length| std::str::from_utf8(rest.get(..length)?).ok());
+        match first {
+            Some(first) => text.extend(first.chars().flat_map(char::escape_debug)),
+            None if rest.is_empty() => return text,
+            None => text += &format!("\\x{:02x}", rest[0]),
+        }
+        rest = &rest[first.map_or(1, str::len)..];
+    }
+    if !rest.is_empty() {
+        text += "..";
+    }
+    text
 }
 
 fn call_of(word: &str, fields: &[&str]) -> Result<Vec<u8>, String> {
     if word == "bytes" {
         return bytes_of(fields);
     }
-    let (_, letter, has_key, has_class) = *KINDS
-        .iter()
-        .find(|kind| kind.0 == word)
-        .ok_or_else(|| format!("'{word}' is none of add, change, remove, search, clear, bytes"))?;
+    let known = KINDS.iter().find(|kind| kind.0 == word);
+    let (_, letter, has_key, has_class) = *known.ok_or_else(|| {
+        let word = shown(word.as_bytes());
+        format!("'{word}' is none of add, change, remove, search, clear, bytes")
+    })?;
     let wanted = 5 * usize::from(has_key) + usize::from(has_class);
     if fields.len() != wanted {
         let given = fields.len();
@@ -100,7 +158,7 @@ fn field<T: FromStr>(text: &str, what: &str) -> Result<T, String> {
     } else {
         text.parse().ok()
     };
-    read.ok_or_else(|| format!("'{text}' is not {what}"))
+    read.ok_or_else(|| format!("'{}' is not {what}", shown(text.as_bytes())))
 }
 
 fn bytes_of(fields: &[&str]) -> Result<Vec<u8>, String> {
@@ -125,7 +183,7 @@ fn line_of(call: &[u8]) -> String {
         .iter()
         .filter(|kind| call.len() == CALL && kind.1 == call[0])
         .map(|kind| spell(call, kind.0, kind.2, kind.3))
-        .find(|line| calls_of(line).as_deref() == Ok(call));
+        .find(|line| Lines::default().next_call(line.as_bytes()).as_deref() == Ok(call));
     spelled.unwrap_or_else(|| {
         let mut line = "bytes ".to_string();
         for byte in call {
@@ -173,11 +231,28 @@ mod tests {
         }
     }
 
+    // The calls of a text, or its bad lines.
+    fn calls_of(text: &[u8]) -> Result<Vec<u8>, Vec<BadLine>> {
+        let mut lines = Lines::default();
+        let (mut calls, mut bad) = (vec![], vec![]);
+        for line in text.split(|&byte| byte == b'\n') {
+            match lines.next_call(line) {
+                Ok(call) => calls.extend(call),
+                Err(fault) => bad.push(fault),
+            }
+        }
+        if bad.is_empty() {
+            Ok(calls)
+        } else {
+            Err(bad)
+        }
+    }
+
     #[test]
     fn a_line_of_each_kind() {
         let text = "add 10.0.0.1 10.0.0.2 1234 80 6 7\nchange 10.0.0.1 10.0.0.2 1234 80 6 4294967295\n\
                     remove 10.0.0.1 10.0.0.2 1234 80 6\nsearch 255.0.0.1 0.0.0.0 65535 0 255\nclear\nbytes 3f00\n";
-        let calls = calls_of(text).unwrap();
+        let calls = calls_of(text.as_bytes()).unwrap();
         let add = [b'I', 10, 0, 0, 1, 10, 0, 0, 2, 4, 210, 0, 80, 6, 0, 0, 0, 7];
         assert_eq!(calls[..18], add);
         let change = [
@@ -209,7 +284,7 @@ mod tests {
                 call[from..].fill(0);
             }
             let text = text_of(&bytes);
-            assert_eq!(calls_of(&text), Ok(bytes));
+            assert_eq!(calls_of(text.as_bytes()), Ok(bytes));
             for line in text.lines() {
                 let word = line.split(' ').next();
                 let kind = KINDS.iter().position(|kind| Some(kind.0) == word);
@@ -221,9 +296,21 @@ mod tests {
 
     #[test]
     fn empty_lines_and_comments() {
-        assert_eq!(calls_of("\n# clear\n   \n"), Ok(vec![]));
-        assert_eq!(calls_of("  clear # all of it"), calls_of("clear\n"));
+        assert_eq!(calls_of(b"\n# clear\n   \n"), Ok(vec![]));
+        assert_eq!(calls_of(b"  clear # all of it"), calls_of(b"clear\n"));
+        assert_eq!(calls_of(b"clear\r\n"), calls_of(b"clear\n"));
         assert_eq!(text_of(&[]), "");
+    }
+
+    #[test]
+    fn byte_order_mark() {
+        assert_eq!(calls_of(b"\xef\xbb\xbfclear"), calls_of(b"clear"));
+        assert_eq!(calls_of(b"\xef\xbb\xbf"), Ok(vec![]));
+        // anywhere else it is part of a word
+        let bad = calls_of(b"clear\n\xef\xbb\xbfclear\n").unwrap_err();
+        assert_eq!(bad.len(), 1);
+        let fault = "line 2: '\\u{feff}clear' is none of add, change, remove, search, clear, bytes";
+        assert_eq!(bad[0].to_string(), fault);
     }
 
     #[test]
@@ -265,9 +352,40 @@ mod tests {
             ("bytes 3f\nclear", "after a line of fewer than 18 bytes"),
         ] {
             let text = format!("clear\n\n{bad}\n");
-            let got = calls_of(&text).unwrap_err();
-            assert!(got.fault.starts_with(fault), "{bad}: {got}");
-            assert_eq!(got.line, 2 + bad.lines().count(), "{bad}");
+            let got = calls_of(text.as_bytes()).unwrap_err();
+            assert_eq!(got.len(), 1, "{bad}: {got:?}");
+            assert!(got[0].fault.starts_with(fault), "{bad}: {}", got[0]);
+            assert_eq!(got[0].line, 2 + bad.lines().count(), "{bad}");
         }
+    }
+
+    // Each bad line is told, also after one that is no UTF-8 and after one that was too short.
+    #[test]
+    fn all_bad_lines() {
+        let bad = calls_of(b"clear\nadd \xff\n\nbytes 3f\nclear\nclear 1\nclear\nx\n").unwrap_err();
+        let told: Vec<String> = bad.iter().map(BadLine::to_string).collect();
+        let expected = [
+            "line 2: '\\xff' is not text (UTF-8)",
+            "line 5: after a line of fewer than 18 bytes, which must be the last",
+            "line 6: clear takes 0 fields, and 1 are given",
+            "line 8: 'x' is none of add, change, remove, search, clear, bytes",
+        ];
+        assert_eq!(told, expected);
+    }
+
+    #[test]
+    fn what_a_message_shows() {
+        for (bytes, text) in [
+            (&b"clear"[..], "clear"),
+            (b"\x1b[2J\x07\0", "\\u{1b}[2J\\u{7}\\0"),
+            (b"a\xffb\xc3\xa9\xc3", "a\\xffb\u{e9}\\xc3"),
+            (b"\xe2\x80\xae", "\\u{202e}"),
+            (b"", ""),
+        ] {
+            assert_eq!(shown(bytes), text);
+        }
+        assert_eq!(shown(&[b'x'; MOST_SHOWN]), "x".repeat(MOST_SHOWN));
+        let longer = [b'x'; MOST_SHOWN + 1];
+        assert_eq!(shown(&longer), "x".repeat(MOST_SHOWN) + "..");
     }
 }
