@@ -570,6 +570,11 @@ impl Trial {
             255 => vec![7; bytes.number(10)],
             _ => vec![7; 7],
         };
+        let (mut told, mut told_by_paper) = (numbers.clone(), numbers.clone());
+        let number = snapshot::file_settings(&file, &mut told_by_paper);
+        let answer = doors::file_settings(&file, &mut told);
+        assert_eq!((answer, told), (number, told_by_paper), "{file:?}");
+        note("file settings", answer);
         let (mut expected, mut by_paper) = (self.areas.clone(), numbers.clone());
         let number = snapshot::load(&file, &mut expected, work.len(), &mut by_paper);
         let answer = doors::load(&file, lend(&mut self.areas), &mut work, &mut numbers);
