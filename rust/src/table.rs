@@ -32,6 +32,7 @@ const SETTINGS_WITHOUT_WIDTH: usize = SETTINGS_COUNT - 1;
 /// ipv6.add(&[1; 37], 7)?;
 /// assert_eq!(ipv6.search(&[1; 37]), Ok(Some(7)));
 /// assert_eq!(ipv6.search(&key), Err(Refusal::KeyLength));
+/// assert_eq!(format!("{ipv6:?}"), "Table { settings: [6, 3, 2, 4, 128, 8, 37], flows: 1 }");
 /// # Ok::<(), Refusal>(())
 /// ```
 ///
