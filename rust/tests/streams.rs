@@ -5,6 +5,8 @@ use model::flowrun::output;
 use std::fs::{self, File, OpenOptions};
 use std::io::{ErrorKind, Read, Write};
 use std::os::unix::fs::OpenOptionsExt;
+use std::os::unix::io::OwnedFd;
+use std::os::unix::net::UnixStream;
 use std::os::unix::process::ExitStatusExt;
 use std::path::PathBuf;
 use std::process::{Command, Stdio};
@@ -227,6 +229,31 @@ fn slow_writer() {
     let ended = child.wait_with_output().unwrap();
     assert_eq!(String::from_utf8(ended.stderr).unwrap(), "");
     assert_eq!(String::from_utf8(ended.stdout).unwrap(), output(&input));
+}
+
+// The read fails once a call and a part of one have come: the part is no line, since the input has not ended.
+#[test]
+fn input_fails_within_a_call() {
+    let (mut reader, mut writer) = UnixStream::pair().unwrap();
+    // a socket that is closed with bytes unread fails the reads of the other
+    reader.write_all(b"x").unwrap();
+    let input = calls(2);
+    writer.write_all(&input[..25]).unwrap();
+    let mut child = Command::new(program("flowrun"))
+        .stdin(OwnedFd::from(reader))
+        .stdout(Stdio::piped())
+        .stderr(Stdio::piped())
+        .spawn()
+        .unwrap();
+    drop(writer);
+    end_of(&mut child);
+    let ended = child.wait_with_output().unwrap();
+    let said = String::from_utf8(ended.stderr).unwrap();
+    assert_eq!(said, "standard input: Connection reset by peer\n");
+    assert_eq!(
+        String::from_utf8(ended.stdout).unwrap(),
+        output(&input[..18])
+    );
 }
 
 // Each line of flowrun is there before more calls are, and none before its call is whole.

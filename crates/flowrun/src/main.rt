@@ -18,7 +18,7 @@ struct Block {
 // Reads behind the bytes that wait. At the end of the input these are a call that is cut short, and after a failed read they are none.
 fn read_block(input: &mut [u8], waiting: usize) -> Block
     requires { ⌜ (waiting < 18) × (length (now input) ≡ 9216) ⌝ }
-    ensures { λ r. ⌜ Split (r .whole) (r .end) × (take waiting (now (input .exit)) ≡ take waiting (now (input .entry))) ⌝ }
+    ensures { λ r. ⌜ Split (r .more) (r .whole) (r .end) × (take waiting (now (input .exit)) ≡ take waiting (now (input .entry))) ⌝ }
 {
     match streams::read_after(input, waiting) {
         Got::Bytes(n) => Block {

@@ -14,7 +14,7 @@ module _ (c : tie.After-read-block) where
   abbrev start : tie.Start
   start = c .before .before .before .before .before .before .before .before .before
 
-  split : Split (c .read-block .result .whole) (c .read-block .result .end)
+  split : Split (c .read-block .result .more) (c .read-block .result .whole) (c .read-block .result .end)
   split = c .read-block .ensures .0
 
   room : length (c .read-block .last .0) ≡ 9216
