@@ -1,0 +1,34 @@
+/* Packets and bytes counted by key, in memory that does not grow with the capture: at most MOST_COUNTED keys, and all others together. */
+#ifndef TALLY_H
+#define TALLY_H
+
+#include "flow.h"
+#include <stdbool.h>
+
+enum { MOST_COUNTED = 65536 };
+
+struct counted {
+    uint64_t packets, bytes;
+    uint8_t width; /* of its key */
+    uint8_t key[FLOW_IPV6_WIDTH];
+};
+
+struct tally {
+    size_t count;
+    struct counted *list; /* in the order in which the keys came */
+    uint32_t *places;     /* by hash: the number of a key in the list, and 1; 0 for none */
+    struct counted others;
+};
+
+/* False: no memory. */
+bool tally_open(struct tally *tally);
+void tally_close(struct tally *tally);
+
+/* Counts a packet of this many bytes for a key of up to 37 bytes. */
+void tally_count(struct tally *tally, const uint8_t *key, size_t width, uint64_t bytes);
+
+/* The list by falling packets, then bytes, then rising keys; or by keys alone. Nothing is counted after it. */
+void tally_sort_by_packets(struct tally *tally);
+void tally_sort_by_keys(struct tally *tally);
+
+#endif
