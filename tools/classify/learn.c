@@ -32,8 +32,8 @@ static bool lists_of(const struct tally *flows, struct flow_list *lists)
     for (int version = 0; version < VERSIONS; version++) {
         list_sort_by_keys(&lists[version]);
         if (counts[version] > MOST_FLOWS) {
-            fprintf(stderr, "the capture has %zu IPv%d flows, and a table holds at most %d: take some of them, or a shorter capture\n", counts[version],
-                    version == IPV6 ? 6 : 4, MOST_FLOWS);
+            fprintf(stderr, "the capture has %zu IPv%d flows, and a table holds at most %d: take some of them, or a shorter capture\n",
+                    counts[version], version == IPV6 ? 6 : 4, MOST_FLOWS);
         }
     }
     return counts[IPV4] <= MOST_FLOWS && counts[IPV6] <= MOST_FLOWS;

@@ -174,7 +174,8 @@ static void print_json_classes(const struct summary *summary)
     printf(",\"classes\":[");
     for (size_t i = 0; i < summary->classes.count; i++) {
         const struct counted *class = &summary->classes.list[i];
-        printf("%s{\"class\":%" PRIu32 ",\"packets\":%" PRIu64 ",\"bytes\":%" PRIu64 "}", i > 0 ? "," : "", class_of(class), class->packets, class->bytes);
+        printf("%s{\"class\":%" PRIu32 ",\"packets\":%" PRIu64 ",\"bytes\":%" PRIu64 "}", i > 0 ? "," : "", class_of(class), class->packets,
+               class->bytes);
     }
     putchar(']');
 }
@@ -186,7 +187,8 @@ static void print_json_reasons(const struct summary *summary)
     for (int reason = 0; reason < REASONS; reason++) {
         struct count count = summary->by_reason[reason];
         if (count.packets > 0) {
-            printf("%s{\"reason\":\"%s\",\"packets\":%" PRIu64 ",\"bytes\":%" PRIu64 "}", comma, reason_words((enum reason)reason), count.packets, count.bytes);
+            printf("%s{\"reason\":\"%s\",\"packets\":%" PRIu64 ",\"bytes\":%" PRIu64 "}", comma, reason_words((enum reason)reason), count.packets,
+                   count.bytes);
             comma = ",";
         }
     }

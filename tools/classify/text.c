@@ -87,8 +87,8 @@ static void read_flow(struct text *text, char **fields, size_t count)
     uint8_t key[FLOW_IPV6_WIDTH];
     uint64_t class_number;
     if (count != FIELDS) {
-        text_fault(text, text->line, "a flow has 6 fields, as 10.0.0.1 10.0.0.2 5060 5060 17 5, and this line has %s%zu", count > FIELDS ? "over " : "",
-                   count > FIELDS ? (size_t)FIELDS : count);
+        text_fault(text, text->line, "a flow has 6 fields, as 10.0.0.1 10.0.0.2 5060 5060 17 5, and this line has %s",
+                   count > FIELDS ? "more" : "fewer");
         return;
     }
     size_t width = read_key(text, fields, key);
@@ -137,6 +137,6 @@ void text_read(struct text *text, FILE *from)
         read_line(text, line + (marked ? strlen(byte_order_mark) : 0));
     }
     if (text->faults > MOST_TOLD) {
-        fprintf(stderr, "%s: the lines after these are not looked at\n", text->name);
+        fprintf(stderr, "%s: the lines after these are not looked at; FLOWS stands before CAPTURE\n", text->name);
     }
 }

@@ -84,14 +84,16 @@ static bool check_forms(const struct words *words)
 
 static bool place_files(struct words *words, const char **files, int count)
 {
-    int wanted = words->learn || words->snapshot ? 1 : 2;
-    if (count != wanted) {
-        return wrong(words->learn ? "--learn takes one file, CAPTURE" : words->snapshot ? "--snapshot takes one file, FLOWS" : "two files are taken, FLOWS and CAPTURE",
-                     "");
+    if (words->learn) {
+        words->capture = files[0];
+        return count == 1 || wrong("--learn takes one file, CAPTURE", "");
     }
-    words->flows = words->learn ? NULL : files[0];
-    words->capture = words->learn ? files[0] : wanted == 2 ? files[1] : NULL;
-    return true;
+    words->flows = files[0];
+    if (words->snapshot) {
+        return count == 1 || wrong("--snapshot takes one file, FLOWS", "");
+    }
+    words->capture = files[1];
+    return count == 2 || wrong("two files are taken, FLOWS and CAPTURE", "");
 }
 
 bool words_read(struct words *words, int count, char **given)
