@@ -7,7 +7,7 @@
 static void count_flow(void *to, const struct packet *packet)
 {
     if (packet->verdict != REFUSED) {
-        tally_count(to, packet->key, packet->width, packet->bytes);
+        tally_count(tally_of(to, packet->key, packet->width), packet->bytes);
     }
 }
 

@@ -24,6 +24,24 @@ static void count(struct count *count, uint64_t bytes)
     count->bytes += bytes;
 }
 
+static uint32_t class_of(const struct counted *counted)
+{
+    const uint8_t *key = counted->key;
+    return (uint32_t)key[0] << 24 | (uint32_t)key[1] << 16 | (uint32_t)key[2] << 8 | key[3];
+}
+
+/* Captures have few classes, and most are found without a search of the tally. */
+static struct counted *class_count(struct summary *summary, uint32_t class_number)
+{
+    struct counted **recent = &summary->recent[class_number % RECENT_CLASSES];
+    if (*recent == NULL || class_of(*recent) != class_number) {
+        const uint8_t key[FLOW_CLASS_BYTES] = {(uint8_t)(class_number >> 24), (uint8_t)(class_number >> 16), (uint8_t)(class_number >> 8),
+                                               (uint8_t)class_number};
+        *recent = tally_of(&summary->classes, key, sizeof key);
+    }
+    return *recent;
+}
+
 void summary_count(void *to, const struct packet *packet)
 {
     struct summary *summary = to;
@@ -41,20 +59,11 @@ void summary_count(void *to, const struct packet *packet)
         count(&summary->later_fragments, packet->bytes);
     }
     if (packet->verdict == CLASSED) {
-        uint32_t class_number = packet->class_number;
-        const uint8_t key[FLOW_CLASS_BYTES] = {(uint8_t)(class_number >> 24), (uint8_t)(class_number >> 16), (uint8_t)(class_number >> 8),
-                                               (uint8_t)class_number};
-        tally_count(&summary->classes, key, sizeof key, packet->bytes);
+        tally_count(class_count(summary, packet->class_number), packet->bytes);
     } else {
         count(&summary->absent, packet->bytes);
-        tally_count(&summary->absent_flows, packet->key, packet->width, packet->bytes);
+        tally_count(tally_of(&summary->absent_flows, packet->key, packet->width), packet->bytes);
     }
-}
-
-static uint32_t class_of(const struct counted *counted)
-{
-    const uint8_t *key = counted->key;
-    return (uint32_t)key[0] << 24 | (uint32_t)key[1] << 16 | (uint32_t)key[2] << 8 | key[3];
 }
 
 /* From the first packet to the last; 0 where time does not rise. */

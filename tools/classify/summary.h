@@ -9,10 +9,13 @@ struct count {
     uint64_t packets, bytes;
 };
 
+enum { RECENT_CLASSES = 256 };
+
 struct summary {
     struct count all, absent, refused, later_fragments, by_reason[REASONS];
     struct timeval first, last;
     struct tally classes, absent_flows;
+    struct counted *recent[RECENT_CLASSES]; /* by its low byte, a class that was counted before */
 };
 
 /* False: no memory. */

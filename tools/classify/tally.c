@@ -40,7 +40,7 @@ static size_t first_place(const uint8_t *key, size_t width)
     return (size_t)(mixed(hash, part) >> 32) % PLACES;
 }
 
-static struct counted *counted_of(struct tally *tally, const uint8_t *key, size_t width)
+struct counted *tally_of(struct tally *tally, const uint8_t *key, size_t width)
 {
     size_t place = first_place(key, width);
     for (; tally->places[place] != 0; place = (place + 1) % PLACES) {
@@ -58,13 +58,6 @@ static struct counted *counted_of(struct tally *tally, const uint8_t *key, size_
     memcpy(fresh->key, key, width);
     tally->places[place] = (uint32_t)tally->count;
     return fresh;
-}
-
-void tally_count(struct tally *tally, const uint8_t *key, size_t width, uint64_t bytes)
-{
-    struct counted *of = counted_of(tally, key, width);
-    of->packets++;
-    of->bytes += bytes;
 }
 
 static int by_keys(const void *one, const void *other)

@@ -24,8 +24,15 @@ struct tally {
 bool tally_open(struct tally *tally);
 void tally_close(struct tally *tally);
 
-/* Counts a packet of this many bytes for a key of up to 37 bytes. */
-void tally_count(struct tally *tally, const uint8_t *key, size_t width, uint64_t bytes);
+/* Where packets of a key of up to 37 bytes are counted, by whoever asks: in the list, as a fresh one where it has room, or with the others. */
+struct counted *tally_of(struct tally *tally, const uint8_t *key, size_t width);
+
+/* Counts a packet of this many bytes. */
+static inline void tally_count(struct counted *counted, uint64_t bytes)
+{
+    counted->packets++;
+    counted->bytes += bytes;
+}
 
 /* The list by falling packets, then bytes, then rising keys; or by keys alone. Nothing is counted after it. */
 void tally_sort_by_packets(struct tally *tally);
