@@ -11,35 +11,38 @@ enum { READ_AHEAD = 1 << 18, PACKETS_A_LOOK = 1 << 14 };
 struct reading {
     const struct capture *capture;
     int link;
-    time_t shown_at;
+    time_t looked_at; /* the clock, for the progress */
+    bool has_shown;
     struct packet packet;
 };
 
-/* For the handler of SIGINT; NULL while standard input is read. */
-static pcap_t *volatile stopped_by_hand;
+/* What SIGINT stops; NULL while standard input is read. */
+static pcap_t *volatile stoppable;
 
 /* A file is read no further. The writer of a pipe has had the same signal, and what it still writes is read to its end. */
 static void on_interrupt(int number)
 {
     (void)number;
-    if (stopped_by_hand != NULL) {
-        pcap_breakloop(stopped_by_hand);
+    if (stoppable != NULL) {
+        pcap_breakloop(stoppable);
     }
 }
 
-/* A second SIGINT ends the program. */
-static void catch_interrupt(pcap_t *pcap)
+/* A second SIGINT ends the program. It returns what was to be done with one before. */
+static struct sigaction catch_interrupt(pcap_t *pcap)
 {
-    struct sigaction action = {.sa_handler = on_interrupt, .sa_flags = SA_RESTART | (int)SA_RESETHAND};
-    stopped_by_hand = pcap;
-    sigaction(SIGINT, &action, NULL);
+    struct sigaction action = {.sa_handler = on_interrupt, .sa_flags = SA_RESTART | (int)SA_RESETHAND}, before;
+    stoppable = pcap;
+    sigaction(SIGINT, &action, &before);
+    return before;
 }
 
 static void show_progress(struct reading *reading)
 {
     time_t now = time(NULL);
-    if (now != reading->shown_at) {
-        reading->shown_at = now;
+    if (now != reading->looked_at) {
+        reading->looked_at = now;
+        reading->has_shown = true;
         fprintf(stderr, "\r%" PRIu64 " packets", reading->packet.number);
     }
 }
@@ -116,9 +119,9 @@ static void on_packet(u_char *to, const struct pcap_pkthdr *head, const u_char *
 
 static int read_packets(pcap_t *pcap, int link, struct capture *capture)
 {
-    struct reading reading = {.capture = capture, .link = link};
+    struct reading reading = {.capture = capture, .link = link, .looked_at = time(NULL)};
     int ended = pcap_loop(pcap, -1, on_packet, (u_char *)&reading);
-    if (reading.shown_at != 0) {
+    if (reading.has_shown) {
         fputs("\r\x1b[K", stderr);
     }
     if (ended == 0) {
@@ -147,9 +150,9 @@ int capture_read_file(struct capture *capture, FILE *file)
         return 1;
     }
     int link = pcap_datalink(pcap);
-    catch_interrupt(file == stdin ? NULL : pcap);
+    struct sigaction before = catch_interrupt(file == stdin ? NULL : pcap);
     int status = link_is_known(link) ? read_packets(pcap, link, capture) : refuse_link(link, capture);
-    signal(SIGINT, SIG_DFL);
+    sigaction(SIGINT, &before, NULL);
     pcap_close(pcap);
     return status;
 }
