@@ -80,25 +80,27 @@ static void search(const struct version_table *table, struct packet *packet)
     }
 }
 
-static void judge(struct packet *packet, const struct frame *frame, const struct tables *tables)
+void packet_judge(struct packet *packet, int link, const uint8_t *bytes, size_t length, const struct tables *tables)
 {
+    struct frame frame = open_frame(link, bytes, length);
+    int version = frame.is_ipv6 ? IPV6 : IPV4;
     packet->verdict = REFUSED;
-    packet->reason = frame->reason;
-    packet->type = frame->type;
-    if (frame->reason != NO_REASON) {
+    packet->reason = frame.reason;
+    packet->type = frame.type;
+    if (frame.reason != NO_REASON) {
         return;
     }
-    packet->width = (uint8_t)WIDTH_OF(frame->is_ipv6 ? IPV6 : IPV4);
-    uint32_t answer = frame->is_ipv6 ? flow_packet6_key(frame->packet, frame->length, packet->key, packet->width)
-                                     : flow_packet_key(frame->packet, frame->length, packet->key, packet->width);
+    packet->width = (uint8_t)WIDTH_OF(version);
+    uint32_t answer = frame.is_ipv6 ? flow_packet6_key(frame.packet, frame.length, packet->key, packet->width)
+                                    : flow_packet_key(frame.packet, frame.length, packet->key, packet->width);
     if (answer != FLOW_DONE) {
         packet->reason = reason_of(answer);
         return;
     }
     packet->verdict = ABSENT;
-    packet->is_later_fragment = is_later_fragment(frame);
-    if (tables != NULL && tables->of[frame->is_ipv6 ? IPV6 : IPV4].is_open) {
-        search(&tables->of[frame->is_ipv6 ? IPV6 : IPV4], packet);
+    packet->is_later_fragment = is_later_fragment(&frame);
+    if (tables != NULL && tables->of[version].is_open) {
+        search(&tables->of[version], packet);
     }
 }
 
@@ -106,11 +108,10 @@ static void on_packet(u_char *to, const struct pcap_pkthdr *head, const u_char *
 {
     struct reading *reading = (struct reading *)(void *)to;
     struct packet *packet = &reading->packet;
-    struct frame frame = open_frame(reading->link, bytes, head->caplen);
     packet->number++;
     packet->time = head->ts;
     packet->bytes = head->len;
-    judge(packet, &frame, reading->capture->tables);
+    packet_judge(packet, reading->link, bytes, head->caplen, reading->capture->tables);
     reading->capture->take(reading->capture->to, packet);
     if (reading->capture->shows_progress && packet->number % PACKETS_A_LOOK == 0) {
         show_progress(reading);

@@ -21,6 +21,10 @@ struct packet {
     uint32_t class_number; /* of a classed one */
 };
 
+/* Fills in the verdict on a packet of a known link type, and what goes with it, from what was captured of it. Without tables (NULL) every flow is
+ * absent. */
+void packet_judge(struct packet *packet, int link, const uint8_t *bytes, size_t length, const struct tables *tables);
+
 typedef void take_packet(void *to, const struct packet *packet);
 
 enum { FAULT_BYTES = 1024 };

@@ -3,11 +3,13 @@
  *
  *     mutated COUNT FLOWS SNAPSHOT CAPTURE..
  *
- * What the program writes goes to /dev/null. A capture must be read to its end, or a fault told; each packet that is handed on is a whole one. */
+ * What the program writes goes to /dev/null. A capture must be read to its end, or a fault told. Each packet is judged once more from a copy of its
+ * own length, so that a read beyond it is seen, which in libpcap's buffer it is not; the verdicts must be the same. */
 #include "../report.h"
 #include "../sample/mutate.h"
 #include "../summary.h"
 #include <inttypes.h>
+#include <pcap/pcap.h>
 #include <stdlib.h>
 #include <string.h>
 #include <unistd.h>
@@ -32,7 +34,21 @@ static void must(bool good, const char *what, uint64_t seed)
 struct taker {
     struct summary summary;
     uint64_t packets, seed;
+    uint64_t verdicts; /* of the capture's packets, as a sum */
 };
+
+static uint64_t added_verdict(uint64_t sum, const struct packet *packet)
+{
+    sum = sum * 31 + (uint64_t)packet->verdict;
+    if (packet->verdict == REFUSED) {
+        return sum * 31 + (uint64_t)packet->reason;
+    }
+    for (size_t i = 0; i < packet->width; i++) {
+        sum = sum * 31 + packet->key[i];
+    }
+    sum = sum * 31 + packet->is_later_fragment;
+    return packet->verdict == CLASSED ? sum * 31 + packet->class_number : sum;
+}
 
 /* Every form of a packet. */
 static void take(void *to, const struct packet *packet)
@@ -42,6 +58,7 @@ static void take(void *to, const struct packet *packet)
     must(packet->number == taker->packets, "packets are numbered from 1", taker->seed);
     must(packet->verdict == REFUSED ? packet->reason < REASONS : packet->width == WIDTH_OF(IPV4) || packet->width == WIDTH_OF(IPV6),
          "a packet has a reason or a key", taker->seed);
+    taker->verdicts = added_verdict(taker->verdicts, packet);
     summary_count(&taker->summary, packet);
     print_packet(NULL, packet);
     print_packet_json(NULL, packet);
@@ -60,26 +77,53 @@ struct ends {
     uint64_t whole, broken, unread, packets;
 };
 
+static FILE *open_bytes(uint8_t *bytes, size_t length, uint64_t seed)
+{
+    FILE *file = length > 0 ? fmemopen(bytes, length, "rb") : fopen("/dev/null", "rb");
+    must(file != NULL, "a capture in memory is opened", seed);
+    return file;
+}
+
+/* The verdicts on a capture's packets, each from a copy of its own length. */
+static uint64_t verdicts_of_copies(uint8_t *bytes, size_t length, const struct tables *tables, uint64_t seed)
+{
+    char error[PCAP_ERRBUF_SIZE];
+    struct pcap_pkthdr *head;
+    const u_char *captured;
+    uint64_t sum = 0;
+    FILE *file = open_bytes(bytes, length, seed);
+    pcap_t *pcap = pcap_fopen_offline(file, error);
+    if (pcap == NULL) {
+        fclose(file);
+        return 0;
+    }
+    while (link_is_known(pcap_datalink(pcap)) && pcap_next_ex(pcap, &head, &captured) == 1) {
+        struct packet packet = {.number = 0};
+        uint8_t *own = malloc(head->caplen + (head->caplen == 0));
+        must(own != NULL, "memory for a packet", seed);
+        memcpy(own, captured, head->caplen);
+        packet_judge(&packet, pcap_datalink(pcap), own, head->caplen, tables);
+        sum = added_verdict(sum, &packet);
+        free(own);
+    }
+    pcap_close(pcap);
+    return sum;
+}
+
 static void read_mutated(struct taker *taker, const struct tables *tables, const struct file *from, struct ends *ends)
 {
     static uint8_t bytes[2 * MOST_BYTES];
     size_t length = mutate(taker->seed, from->bytes, from->length, bytes, sizeof bytes);
-    /* an area of its own, so that a read beyond the capture is seen */
-    uint8_t *own = malloc(length + (length == 0));
-    must(own != NULL, "memory for a capture", taker->seed);
-    memcpy(own, bytes, length);
-    FILE *file = length > 0 ? fmemopen(own, length, "rb") : fopen("/dev/null", "rb");
-    must(file != NULL, "a capture in memory is opened", taker->seed);
     struct capture capture = {.name = "mutated", .tables = tables, .take = take, .to = taker};
-    taker->packets = 0;
-    int status = capture_read_file(&capture, file);
+    taker->packets = taker->verdicts = 0;
+    int status = capture_read_file(&capture, open_bytes(bytes, length, taker->seed));
     must(status == 0 || status == 1, "the status is 0 or 1", taker->seed);
     must((status == 1) == (capture.fault[0] != '\0'), "a fault is told where the status is 1", taker->seed);
     ends->whole += status == 0;
     ends->broken += status == 1 && taker->packets > 0;
     ends->unread += status == 1 && taker->packets == 0;
+    must(taker->verdicts == verdicts_of_copies(bytes, length, tables, taker->seed), "copies of the packets have the same verdicts", taker->seed);
     ends->packets += taker->packets;
-    free(own);
 }
 
 /* A text or a snapshot that is mutated, by a file of this process: read or refused. */
@@ -108,12 +152,25 @@ static struct file *read_file(const char *name)
     return file;
 }
 
+/* A text with its lines joined to one, and that twice: longer than a line may be. */
+static struct file *long_lines(const char *name)
+{
+    struct file *file = read_file(name);
+    must(2 * file->length <= MOST_BYTES, "a text that is short enough to be doubled", 0);
+    for (size_t i = 0; i < file->length; i++) {
+        file->bytes[i] = file->bytes[i] == '\n' ? ' ' : file->bytes[i];
+    }
+    memcpy(file->bytes + file->length, file->bytes, file->length);
+    file->length *= 2;
+    return file;
+}
+
 static void run(uint64_t count, char **names, int captures)
 {
     struct tables tables;
     struct taker taker = {.seed = 0};
     struct ends ends = {0, 0, 0, 0};
-    struct file *flows[2] = {read_file(names[0]), read_file(names[1])}, *from[16];
+    struct file *from[16], *flows[3] = {read_file(names[0]), read_file(names[1]), long_lines(names[0])};
     uint64_t flows_read = 0, flows_tried = 0;
     must(tables_read(&tables, names[0], NULL) == 0 && summary_open(&taker.summary) && captures <= 16, "flows and memory", 0);
     for (int i = 0; i < captures; i++) {
@@ -125,7 +182,7 @@ static void run(uint64_t count, char **names, int captures)
             print_summary(&taker);
         }
         if (taker.seed % CAPTURES_A_FLOWS == 0) {
-            flows_read += read_flows(flows[flows_tried++ % 2], taker.seed);
+            flows_read += read_flows(flows[flows_tried++ % 3], taker.seed);
         }
     }
     fprintf(told, "%" PRIu64 " mutated captures: %" PRIu64 " read to their end, %" PRIu64 " with a fault after packets, %" PRIu64
@@ -134,8 +191,9 @@ static void run(uint64_t count, char **names, int captures)
     for (int i = 0; i < captures; i++) {
         free(from[i]);
     }
-    free(flows[0]);
-    free(flows[1]);
+    for (int i = 0; i < 3; i++) {
+        free(flows[i]);
+    }
     summary_close(&taker.summary);
     tables_close(&tables);
 }
