@@ -111,7 +111,7 @@ static void read_line(struct text *text, char *line)
     if (line[strspn(line, spaces)] == '\0') {
         return;
     }
-    if (!text->has_flows && strchr(line, '=') != NULL) {
+    if (!text->has_begun && strchr(line, '=') != NULL) {
         read_settings(text, line);
     } else {
         for (char *word = strtok_r(line, spaces, &rest); word != NULL && count <= FIELDS; word = strtok_r(NULL, spaces, &rest)) {
@@ -119,7 +119,7 @@ static void read_line(struct text *text, char *line)
         }
         read_flow(text, fields, count);
     }
-    text->has_flows = true;
+    text->has_begun = true;
 }
 
 void text_read(struct text *text, FILE *from)

@@ -8,7 +8,7 @@ struct text {
     const char *name; /* of the file, for messages */
     size_t line;
     unsigned faults;
-    bool has_settings, has_flows;
+    bool has_settings, has_begun; /* begun: a line that is not empty was read, after which no settings stand */
     struct flow_settings settings;
     struct flow_list *lists; /* VERSIONS of them */
 };
