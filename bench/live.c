@@ -251,8 +251,8 @@ static double more_than(const struct column *column, int c, int other)
 
 static void print_searches(void)
 {
-    printf("\n| held keys, %" PRIu64 " flows, p 12%s | ns, no writer | more than without | ns beside a writer | more than without | the writer's updates a second |\n"
-           "|---|---|---|---|---|---|\n",
+    printf("\n| held keys, %" PRIu64 " flows, p 12%s | ns, no writer | more than without | ns beside a writer | more than without | "
+           "the writer's updates a second |\n|---|---|---|---|---|---|\n",
            flows, WIDE ? ", keys of 37 bytes" : "");
     for (int c = 0; c < CONTESTANTS; c++) {
         if (contestants[c].there == NULL) {

@@ -22,7 +22,8 @@
  *
  * What a caller has to keep to.
  *   - One thread a reader: each thread that searches has a struct flow_live_reader of its own.
- *   - Sections of a reader do not nest: the inner flow_live_leave ends the section, and what is searched after it is refused with 2.
+ *   - Sections of a reader do not nest: an inner flow_live_enter goes over to the current table, and the inner flow_live_leave ends the section; what
+ *     is searched after it is refused with 2.
  *   - A reader that stops inside a section (it sleeps, waits, or its thread ends) keeps its copy from being written: with few copies the next publish
  *     or the one after waits for it for ever, and flow_live_settled stays 0. Leave before anything that may take long.
  *   - One writer at a time: where several threads update, they hold a lock of theirs around updates and publish. The writer is in no section

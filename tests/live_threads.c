@@ -228,8 +228,8 @@ static int tell(const struct look *looks, uint32_t publishes)
     }
     printf("%s, width %d: %lu searches, %" PRIu32 " publishes, %lu times a new version seen; wrong: held flows absent %lu, refused %lu, of another class %lu; "
            "toggled flows %lu; pairs apart %lu, sections with two versions %lu, back %lu, late %lu, older than settled %lu\n",
-           form_names[form], WIDTH, c.searches, publishes, c.versions, c.held_absent, c.held_refused, c.held_wrong, c.toggled_wrong, c.pair_apart, c.section_moved, c.back,
-           c.late, c.older_than_settled);
+           form_names[form], WIDTH, c.searches, publishes, c.versions, c.held_absent, c.held_refused, c.held_wrong, c.toggled_wrong, c.pair_apart,
+           c.section_moved, c.back, c.late, c.older_than_settled);
     if (form == WHOLE && c.versions < 20) {
         puts("too few versions were seen for a test");
         return 1;
