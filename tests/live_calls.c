@@ -15,33 +15,13 @@ static void while_waiting(void);
 #define FLOW_LIVE_WAIT() while_waiting()
 #include "live_table.h"
 #undef memcpy
+#include "check.h"
 
 enum { READERS = 2, COPIES = READERS + 2 };
 
 static struct flow_live live;
 static struct flow_live_reader readers[READERS];
 static uint8_t *memory;
-static int checks;
-
-#define CHECK(condition) check(condition, #condition, __LINE__)
-static void check(int good, const char *what, int line)
-{
-    checks++;
-    if (!good) {
-        printf("line %d: not so: %s\n", line, what);
-        exit(1);
-    }
-}
-
-/* 1 where all bytes are this one. */
-static int all_are(const uint8_t *bytes, size_t length, uint8_t byte)
-{
-    size_t at = 0;
-    while (at < length && bytes[at] == byte) {
-        at++;
-    }
-    return at == length;
-}
 
 static size_t lines_of(uint64_t bytes)
 {

@@ -1,8 +1,7 @@
 /* The structs of flow.h: each function of a table beside its door, called by numbers on areas of the same bytes; what an opening and a load do and
  * refuse; and every door with an area that is NULL and of length 0. Its last line is 'width N: M checks, all right'. */
+#include "check.h"
 #include "flow.h"
-#include <stdio.h>
-#include <stdlib.h>
 #include <string.h>
 
 #ifndef WIDTH
@@ -11,18 +10,6 @@
 
 enum { KEY = WIDTH, RECORD = FLOW_RECORD_BYTES(KEY), HEAD = FLOW_FILE_HEAD_BYTES(KEY), HASHES = FLOW_HASH_TABLE_NUMBERS(KEY) };
 enum { KEYS = 24, CALLS = 3000, FILES = 2000, BURST = 5, MANY = 300 };
-
-static int checks;
-
-#define CHECK(condition) check(condition, #condition, __LINE__)
-static void check(int good, const char *what, int line)
-{
-    checks++;
-    if (!good) {
-        printf("line %d: not so: %s\n", line, what);
-        exit(1);
-    }
-}
 
 static uint64_t next(void)
 {
@@ -46,15 +33,6 @@ static void *lend(size_t bytes)
     }
     fill(lent, bytes);
     return lent;
-}
-
-static int all_are(const void *bytes, size_t length, uint8_t byte)
-{
-    size_t at = 0;
-    while (at < length && ((const uint8_t *)bytes)[at] == byte) {
-        at++;
-    }
-    return at == length;
 }
 
 static void names(void)
