@@ -182,6 +182,7 @@ int capture_read(struct capture *capture)
     if (is_input) {
         capture->name = "standard input";
     }
-    setvbuf(file, NULL, _IOFBF, READ_AHEAD);
+    static char ahead[READ_AHEAD]; /* without a buffer of one's own, glibc takes no size */
+    setvbuf(file, ahead, _IOFBF, sizeof ahead);
     return capture_read_file(capture, file);
 }
