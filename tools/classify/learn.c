@@ -19,35 +19,39 @@ static void print_flows(const struct tally *flows)
     }
 }
 
-/* The flows as lists; false where a version has too many. */
-static bool lists_of(const struct tally *flows, struct flow_list *lists)
+static int version_of(const struct counted *flow) { return flow->width == FLOW_IPV6_WIDTH ? IPV6 : IPV4; }
+
+/* Whether a version has more flows than a table holds, which is told. */
+static bool tell_too_many(const struct tally *flows)
 {
     size_t counts[VERSIONS] = {0};
     for (size_t i = 0; i < flows->count; i++) {
-        int version = flows->list[i].width == FLOW_IPV6_WIDTH ? IPV6 : IPV4;
-        lists[version].width = WIDTH_OF(version);
-        list_add(&lists[version], flows->list[i].key, 0, i);
-        counts[version]++;
+        counts[version_of(&flows->list[i])]++;
     }
     for (int version = 0; version < VERSIONS; version++) {
-        list_sort_by_keys(&lists[version]);
         if (counts[version] > MOST_FLOWS) {
             fprintf(stderr, "the capture has %zu IPv%d flows, and a table holds at most %d: take some of them, or a shorter capture\n",
                     counts[version], version == IPV6 ? 6 : 4, MOST_FLOWS);
         }
     }
-    return counts[IPV4] <= MOST_FLOWS && counts[IPV6] <= MOST_FLOWS;
+    return counts[IPV4] > MOST_FLOWS || counts[IPV6] > MOST_FLOWS;
 }
 
-static int tell_sizes(const struct tally *flows)
+/* Of flows that tables hold. */
+static void tell_sizes(const struct tally *flows)
 {
     struct flow_list *lists = memory_of(VERSIONS * sizeof *lists);
-    bool fits = lists_of(flows, lists);
-    if (fits) {
-        print_sizes(lists);
+    for (int version = 0; version < VERSIONS; version++) {
+        lists[version].width = WIDTH_OF(version);
     }
+    for (size_t i = 0; i < flows->count; i++) {
+        list_add(&lists[version_of(&flows->list[i])], flows->list[i].key, 0, i);
+    }
+    for (int version = 0; version < VERSIONS; version++) {
+        list_sort_by_keys(&lists[version]);
+    }
+    print_sizes(lists);
     free(lists);
-    return !fits;
 }
 
 int learn(const char *capture, bool sizes, bool shows_progress)
@@ -66,10 +70,13 @@ int learn(const char *capture, bool sizes, bool shows_progress)
         fprintf(stderr, "the capture has over %d flows; those that came after are left out\n", MOST_COUNTED);
         status = 1;
     }
-    if (sizes) {
-        status |= tell_sizes(&flows);
-    } else {
+    bool too_many = tell_too_many(&flows);
+    if (!sizes) {
         print_flows(&flows);
+    } else if (too_many) {
+        status = 1;
+    } else {
+        tell_sizes(&flows);
     }
     tally_close(&flows);
     return status;

@@ -63,6 +63,10 @@ static int save(struct tables *tables, const char *name)
 static int run(const struct words *words)
 {
     struct tables tables;
+    if (words->help) {
+        words_help();
+        return 0;
+    }
     if (words->learn) {
         return learn(words->capture, words->sizes, shows_progress(words));
     }
@@ -79,10 +83,6 @@ int main(int count, char **given)
     struct words words;
     if (!words_read(&words, count, given)) {
         return 2;
-    }
-    if (words.help) {
-        words_help();
-        return 0;
     }
     int status = run(&words);
     if (fflush(stdout) != 0 || ferror(stdout)) {

@@ -28,13 +28,12 @@ static void on_interrupt(int number)
     }
 }
 
-/* A second SIGINT ends the program. It returns what was to be done with one before. */
-static struct sigaction catch_interrupt(pcap_t *pcap)
+/* A second SIGINT ends the program. */
+static void catch_interrupt(pcap_t *pcap)
 {
-    struct sigaction action = {.sa_handler = on_interrupt, .sa_flags = SA_RESTART | (int)SA_RESETHAND}, before;
+    struct sigaction action = {.sa_handler = on_interrupt, .sa_flags = SA_RESTART | (int)SA_RESETHAND};
     stoppable = pcap;
-    sigaction(SIGINT, &action, &before);
-    return before;
+    sigaction(SIGINT, &action, NULL);
 }
 
 static void show_progress(struct reading *reading)
@@ -141,20 +140,34 @@ static int refuse_link(int link, struct capture *capture)
     return 1;
 }
 
-int capture_read_file(struct capture *capture, FILE *file)
+static int read_file(struct capture *capture, FILE *file)
 {
     char error[PCAP_ERRBUF_SIZE] = "";
+    if (file == stdin) {
+        catch_interrupt(NULL); /* before its head is read, which tcpdump may not write until it is stopped */
+    }
     pcap_t *pcap = pcap_fopen_offline(file, error);
     if (pcap == NULL) {
         snprintf(capture->fault, FAULT_BYTES, "%s: %s", capture->name, error);
         fclose(file);
         return 1;
     }
+    if (file != stdin) {
+        catch_interrupt(pcap);
+    }
     int link = pcap_datalink(pcap);
-    struct sigaction before = catch_interrupt(file == stdin ? NULL : pcap);
     int status = link_is_known(link) ? read_packets(pcap, link, capture) : refuse_link(link, capture);
-    sigaction(SIGINT, &before, NULL);
+    stoppable = NULL;
     pcap_close(pcap);
+    return status;
+}
+
+int capture_read_file(struct capture *capture, FILE *file)
+{
+    struct sigaction before; /* what is to be done with SIGINT, which is put back */
+    sigaction(SIGINT, NULL, &before);
+    int status = read_file(capture, file);
+    sigaction(SIGINT, &before, NULL);
     return status;
 }
 
@@ -169,6 +182,7 @@ int capture_read(struct capture *capture)
     if (is_input) {
         capture->name = "standard input";
     }
-    setvbuf(file, NULL, _IOFBF, READ_AHEAD);
+    static char ahead[READ_AHEAD]; /* without a buffer of one's own, glibc takes no size */
+    setvbuf(file, ahead, _IOFBF, sizeof ahead);
     return capture_read_file(capture, file);
 }

@@ -27,7 +27,7 @@ void packet_judge(struct packet *packet, int link, const uint8_t *bytes, size_t 
 
 typedef void take_packet(void *to, const struct packet *packet);
 
-enum { FAULT_BYTES = 1024 };
+enum { FAULT_BYTES = 4096 + 1024 }; /* the longest name of a file, and a reason */
 
 struct capture {
     const char *name;            /* for messages; where it is opened by it, '-' is standard input */

@@ -71,11 +71,25 @@ static const char *load_refusal(uint32_t answer)
     }
 }
 
+/* Whether a read failed, which is told. */
+static bool tell_unread(const char *name, FILE *from)
+{
+    if (!ferror(from)) {
+        return false;
+    }
+    fprintf(stderr, "%s: %s\n", name, strerror(errno));
+    return true;
+}
+
 static int read_snapshot(struct tables *tables, const char *name, FILE *from)
 {
     uint8_t *file = memory_of(MOST_FILE + 1); /* a byte more than the longest, which then is refused as overlong */
     size_t length = fread(file, 1, MOST_FILE + 1, from);
     struct version_table table = {.is_open = false};
+    if (tell_unread(name, from)) {
+        free(file);
+        return 1;
+    }
     uint32_t answer = table_load(&table, file, length);
     free(file);
     if (answer != FLOW_DONE) {
@@ -145,6 +159,7 @@ static int read_text(struct tables *tables, const char *name, FILE *from, const 
         text.lists[version].width = WIDTH_OF(version);
     }
     text_read(&text, from);
+    text.faults += tell_unread(name, from);
     if (text.faults == 0 && !text.has_settings) {
         fprintf(stderr, "%s: it has no settings; write them in its first line, as %s, or give them with --settings\n", name, SETTINGS_FORM);
         text.faults++;
@@ -161,8 +176,7 @@ static int read_text(struct tables *tables, const char *name, FILE *from, const 
 static int read_from(struct tables *tables, const char *name, FILE *from, const struct flow_settings *given)
 {
     int first = getc(from);
-    if (ferror(from)) {
-        fprintf(stderr, "%s: %s\n", name, strerror(errno));
+    if (tell_unread(name, from)) {
         return 1;
     }
     ungetc(first, from);

@@ -21,8 +21,8 @@ void text_fault(struct text *text, size_t line, const char *format, ...)
     fputc('\n', stderr);
 }
 
-/* The next line, without its end; -1 at the end of the file, 0 for a line that is too long, which is passed over. A byte of zero becomes one of 1,
- * which no field takes. */
+/* The next line, without its end; -1 at the end of the file or where a read fails, 0 for a line that is too long, which is passed over. A byte of
+ * zero becomes one of 1, which no field takes. */
 static int next_line(FILE *from, char *line)
 {
     size_t length = 0;
@@ -37,7 +37,7 @@ static int next_line(FILE *from, char *line)
         length += length < LINE_BYTES;
     }
     line[length < LINE_BYTES ? length : 0] = '\0';
-    return length < LINE_BYTES;
+    return ferror(from) ? -1 : length < LINE_BYTES;
 }
 
 static void read_settings(struct text *text, char *line)

@@ -43,7 +43,10 @@ static bool read_settings(struct words *words, const char *given)
     if (given == NULL) {
         return wrong("--settings: the settings are missing", "");
     }
-    snprintf(copy, sizeof copy, "%s", given);
+    if (strlen(given) >= sizeof copy) {
+        return wrong("--settings: they are too long", "");
+    }
+    memcpy(copy, given, strlen(given) + 1);
     const char *fault = settings_of_words(copy, &words->settings);
     words->has_settings = true;
     return fault == NULL || wrong(fault, "--settings: ");
