@@ -154,8 +154,8 @@ impl Settings {
         ]
     }
 
-    /// Settings by name. They start as those of a table for 4,096 IPv4 flows with the fewest records compared: p 12, k 3, room 4, top 15,
-    /// capacity 4,096, side places 64, width 13.
+    /// Settings by name. They start as those of the largest table for IPv4 flows: p 12, k 3, room 4, top 15, capacity 4,096, side places 64,
+    /// width 13.
     ///
     /// ```
     /// use flow::{Refusal, Settings, IPV6_WIDTH};
