@@ -55,7 +55,7 @@ impl KeyHasher {
         KeyHasher { width, entries }
     }
 
-    /// H of a key. [`Refusal::KeyLength`] where the key is not of the table's width.
+    /// H of a key. [`Refusal::KeyLength`] where the key is not of its width.
     pub fn hash(&self, key: &[u8]) -> Result<u64, Refusal> {
         let mut h = [0];
         accepted(doors::hash_lent(self.width, &self.entries, key, &mut h))?;

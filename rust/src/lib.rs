@@ -1,9 +1,10 @@
 //! The flow card's pruned hash table, over the doors of its proved static library.
 //!
 //! [`doors`] has each door as it stands: numbers and slices in, the answer's number out. The rest of the crate is what a Rust user
-//! takes: [`Settings`] that are in range, a [`FlowKey`] of addresses, ports and protocol, a [`Table`] that owns its areas, a [`KeyHasher`], [`LookupAreas`] to [`search`],
-//! by one key or by a burst of keys ([`search_burst`]), and to [`tally`] where others own them, a [`Window`] over the latest searches, the key
-//! of a packet by [`packet_key`] or [`packet6_key`], the [`Generator`] of a load for the bench, and a [`Refusal`] in place of a number.
+//! takes: [`Settings`] that are in range, a [`FlowKey`] of addresses, ports and protocol, a [`Table`] that owns its areas, a [`KeyHasher`],
+//! [`LookupAreas`] to [`search`], by one key or by a burst of keys ([`search_burst`]), and to [`tally`] where others own them, a [`Window`] over
+//! the latest searches, the key of a packet by [`packet_key`] or [`packet6_key`], the [`Generator`] of a load for the bench, and a [`Refusal`] in
+//! place of a number.
 //! A [`Live`] table is updated by one thread while others search it, each by a [`Reader`] that takes [`View`]s.
 //!
 //! A table's keys are all of one width, the last of its settings: [`IPV4_WIDTH`], 13 bytes, or [`IPV6_WIDTH`], 37. A call takes a key as a slice
@@ -153,8 +154,8 @@ impl Settings {
         ]
     }
 
-    /// Settings by name. They start as those of a table for 4,096 IPv4 flows with the fewest records compared: p 12, k 3, room 4, top 15,
-    /// capacity 4,096, side places 64, width 13.
+    /// Settings by name. They start as those of the largest table for IPv4 flows: p 12, k 3, room 4, top 15, capacity 4,096, side places 64,
+    /// width 13.
     ///
     /// ```
     /// use flow::{Refusal, Settings, IPV6_WIDTH};

@@ -68,7 +68,7 @@ pub fn search(
 }
 
 /// [`search`] with a hasher that is kept from call to call: reads of it, for each byte or half-byte of the key, in place of a computation. Also
-/// [`Refusal::AreaLength`] where the table is for keys of another width.
+/// [`Refusal::AreaLength`] where the hasher is for keys of another width.
 ///
 /// ```
 /// use flow::{search_lent, KeyHasher, LookupAreas, Refusal, Settings};
@@ -85,8 +85,8 @@ pub fn search(
 ///     buckets: &buckets,
 ///     side_store: &[0; 2],
 /// };
-/// let table = KeyHasher::ipv4();
-/// assert_eq!(search_lent(&table, &settings, &areas, &[0; 13]), Ok(Some(7)));
+/// let hasher = KeyHasher::ipv4();
+/// assert_eq!(search_lent(&hasher, &settings, &areas, &[0; 13]), Ok(Some(7)));
 /// # Ok::<(), Refusal>(())
 /// ```
 pub fn search_lent(
@@ -269,8 +269,8 @@ pub fn search_counts(
 ///     buckets: &[0; 16 * 18],
 ///     side_store: &[0; 2],
 /// };
-/// let table = KeyHasher::ipv4();
-/// let answer = search_counts_lent(&table, &settings, &areas, &[1; 13])?;
+/// let hasher = KeyHasher::ipv4();
+/// let answer = search_counts_lent(&hasher, &settings, &areas, &[1; 13])?;
 /// assert_eq!((answer.class, answer.counts.buckets_read), (None, 0));
 /// # Ok::<(), Refusal>(())
 /// ```
@@ -317,7 +317,7 @@ impl ExactSizeIterator for Answers<'_> {}
 /// A number is lent for each answer, with any contents, so that nothing is allocated. The [`Answers`] that come back read these numbers, which
 /// are answer x 2^32 + class, as [`doors::search_burst`] leaves them.
 ///
-/// [`Refusal::AreaLength`] where an area is not of its length or the table for keys of another width, [`Refusal::KeyLength`] where the keys have
+/// [`Refusal::AreaLength`] where an area is not of its length or the hasher for keys of another width, [`Refusal::KeyLength`] where the keys have
 /// not the settings' width for each number that is lent. Then the numbers stay. Damaged areas refuse only the keys whose searches read what is damaged.
 ///
 /// ```
@@ -335,18 +335,18 @@ impl ExactSizeIterator for Answers<'_> {}
 ///     buckets: &buckets,
 ///     side_store: &[0; 2],
 /// };
-/// let table = KeyHasher::ipv4();
+/// let hasher = KeyHasher::ipv4();
 ///
 /// // kept from burst to burst, with room for 32 packets, of which two came
 /// let mut keys = [0; 32 * 13];
 /// let mut numbers = [0; 32];
 /// keys[13..26].copy_from_slice(&[192, 0, 2, 1, 192, 0, 2, 2, 0x04, 0xd2, 0x00, 0x50, 6]);
-/// let mut answers = search_burst(&table, &settings, &areas, &keys[..26], &mut numbers[..2])?;
+/// let mut answers = search_burst(&hasher, &settings, &areas, &keys[..26], &mut numbers[..2])?;
 /// assert_eq!(answers.next(), Some(Ok(Some(7))));
 /// assert_eq!(answers.next(), Some(Ok(None)));
 /// assert_eq!(answers.next(), None);
 ///
-/// let refused = search_burst(&table, &settings, &areas, &keys[..25], &mut numbers[..2]);
+/// let refused = search_burst(&hasher, &settings, &areas, &keys[..25], &mut numbers[..2]);
 /// assert_eq!(refused.err(), Some(Refusal::KeyLength));
 /// # Ok::<(), Refusal>(())
 /// ```

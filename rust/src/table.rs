@@ -135,7 +135,7 @@ impl Table {
         &self.settings
     }
 
-    /// What gives H of its keys.
+    /// What gives H of its keys, for the calls that are lent a hasher.
     pub fn hasher(&self) -> &Arc<KeyHasher> {
         &self.hasher
     }
@@ -279,14 +279,14 @@ impl Table {
     /// stay.
     ///
     /// ```
-    /// use flow::{KeyHasher, Refusal, Settings, Table};
+    /// use flow::{Refusal, Settings, Table};
     ///
     /// let mut table = Table::new(Settings::new(6, 3, 2, 4, 128, 8, 13)?);
     /// table.add(&[1; 13], 7)?;
-    /// let hash_table = KeyHasher::ipv4();
+    /// let hasher = table.hasher();
     /// let keys = [[1; 13], [2; 13], [1; 13]].concat();
     /// let mut numbers = [0; 3];
-    /// for (i, class) in table.search_burst(&hash_table, &keys, &mut numbers)?.enumerate() {
+    /// for (i, class) in table.search_burst(hasher, &keys, &mut numbers)?.enumerate() {
     ///     assert_eq!(class, Ok(if i == 1 { None } else { Some(7) }));
     /// }
     /// # Ok::<(), Refusal>(())

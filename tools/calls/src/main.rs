@@ -60,7 +60,10 @@ fn to_calls() -> Result<ExitCode, String> {
         match lines.next_call(&line) {
             Ok(call) if bad == 0 => calls.extend(call),
             Ok(_) => {}
-            Err(_) if bad == MOST_TOLD => return Err("and more bad lines".to_string()),
+            Err(_) if bad == MOST_TOLD => {
+                say("and more bad lines");
+                break;
+            }
             Err(fault) => {
                 bad += 1;
                 say(&fault.to_string());

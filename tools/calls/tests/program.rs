@@ -81,17 +81,18 @@ fn bad_lines_are_told() {
 #[test]
 fn ten_bad_lines_are_told() {
     for bad in [1, 10, 11, 1000] {
-        let (written, said, status) = run(&[], "x\n".repeat(bad).as_bytes());
+        let input = "clear\n".to_string() + &"x\n".repeat(bad);
+        let (written, said, status) = run(&[], input.as_bytes());
         let told: Vec<&str> = said.lines().collect();
         for (i, line) in told.iter().take(10).enumerate() {
-            assert!(line.starts_with(&format!("line {}: 'x' ", i + 1)), "{line}");
+            assert!(line.starts_with(&format!("line {}: 'x' ", i + 2)), "{line}");
         }
         assert_eq!(told.len(), bad.min(11), "{said}");
         assert_eq!(
             told.get(10).copied(),
             (bad > 10).then_some("and more bad lines")
         );
-        assert_eq!((written, status), (vec![], 1));
+        assert_eq!((written, status), (clear(), 1));
     }
 }
 
