@@ -1,5 +1,5 @@
 // Standard input and standard output of the programs. A read or a write that fails is said on standard error with its reason, here and nowhere else.
-// A call that a signal broke off is made again, and so is one on a pipe that is set to not wait, after a pause.
+// A call that a signal broke off is made again. So is one on a pipe that is set to not wait, over and over: others may run between two tries.
 use memory::parts::copy;
 ghost use mathlib.Core.Path.{_≡_};
 ghost use Prim.Native.Nat.{ℕ, _-_, _≤_};
@@ -24,7 +24,7 @@ enum Tried {
 // No run comes to so many calls that are made again: a proved loop has to end.
 const MOST_TURNS: u64 = 1152921504606846976;
 
-// Whether a call that failed is to be made again; it waits a little where that is of use.
+// Whether a call that failed is to be made again; where a pipe was not ready, others may run first.
 fn to_try_again() -> bool {
     let error = os::errno();
     if error == libc::EAGAIN {
