@@ -332,8 +332,8 @@ static void print_publishes(void)
     for (int i = UPDATE; i <= COMPARE; i++) {
         printf("| %s | %.1f | %.2f |\n", names[i], time_of(&publishing, i) / 1000, ratio_of(&publishing, i, COMPARE));
     }
-    printf("\nA publish after an update wrote %.0f lines of 64 bytes (median), %.0f at most.\n", median(lines_written, PUBLISHES),
-           lines_written[PUBLISHES - 1]);
+    double median_lines = median(lines_written, PUBLISHES); /* which sorts them: the last is the most */
+    printf("\nA publish after an update wrote %.0f lines of 64 bytes (median), %.0f at most.\n", median_lines, lines_written[PUBLISHES - 1]);
 }
 
 /* A row of the table of aims that is no ratio. */
