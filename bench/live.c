@@ -386,6 +386,7 @@ static void fill_own(void)
     own_lookup = flow_lookup_of(&own.areas);
     must(flow_live_open(&live, &set, lent(bytes), bytes, &reader, 1), "flow_live_open");
     publish();
+    publish(); /* now both copies that take turns have the table */
     copies[0] = copy_of_own();
     copies[1] = copy_of_own();
 }
