@@ -34,6 +34,7 @@ static void open_live(unsigned copies)
     free(memory);
     memory = lent(bytes);
     memset(memory, 0xa5, bytes);
+    memset(readers, 0xa5, sizeof readers);
     must("flow_live_open", flow_live_open(&live, &settings, memory, bytes, readers, READERS));
 }
 
@@ -88,7 +89,8 @@ static void lengths_and_refusals(void)
 static void sections(void)
 {
     open_live(COPIES);
-    CHECK(class_now(0, 1) == -1);
+    CHECK(flow_live_search(&readers[0], hashes, HASHES, keys[1]) == UINT64_C(2) << 32);
+    CHECK(flow_live_settled(&live) && class_now(0, 1) == -1);
     add(1, 11);
     CHECK(class_now(0, 1) == -1);
     publish();
@@ -101,6 +103,9 @@ static void sections(void)
     CHECK(!flow_live_settled(&live));
     flow_live_leave(&readers[0]);
     CHECK(flow_live_settled(&live) && class_now(0, 1) == 12);
+    flow_live_enter(&readers[0]); /* a section of the last table is no older one */
+    CHECK(flow_live_settled(&live));
+    flow_live_leave(&readers[0]);
 
     uint64_t answers[2] = {7, 7};
     CHECK(flow_live_search(&readers[0], hashes, HASHES, keys[1]) == UINT64_C(2) << 32);
@@ -181,6 +186,19 @@ static void lines_written(void)
     }
 }
 
+/* An area of two blocks and some lines, with each byte changed alone: its line is written. */
+static void each_byte(void)
+{
+    enum { LENGTH = 2 * FLOW_LIVE_BLOCK + 3 * 64 + 5 };
+    uint8_t to[LENGTH] = {0}, from[LENGTH] = {0};
+    for (size_t at = 0; at < LENGTH; at++) {
+        from[at] = 1;
+        bytes_written = 0;
+        flow_live_take(to, from, LENGTH);
+        CHECK(bytes_written == (at < LENGTH / 64 * 64 ? 64 : LENGTH % 64) && memcmp(to, from, LENGTH) == 0);
+    }
+}
+
 /* A publish that waits lets the reader go that keeps it. */
 static int waits, leaves_at = -1;
 static void while_waiting(void)
@@ -217,6 +235,39 @@ static void waiting(void)
     CHECK(flow_live_settled(&live));
 }
 
+/* The most copies, each but two with a reader in it: each reader has the table of its enter, and no publish waits. */
+static void every_copy(void)
+{
+    enum { MOST = 63, MANY = MOST - 2 };
+    static struct flow_live_reader many[MANY];
+    size_t bytes = flow_live_bytes(&settings, MOST);
+    free(memory);
+    memory = lent(bytes);
+    must("flow_live_open", flow_live_open(&live, &settings, memory, bytes, many, MANY));
+    add(3, 0);
+    for (uint32_t i = 0; i < MANY; i++) {
+        change(3, i);
+        publish();
+        flow_live_enter(&many[i]);
+    }
+    for (uint32_t i = 0; i < 8; i++) {
+        change(3, MANY + i);
+        publish();
+        if (i == 3) { /* over to the last copy, which is current */
+            flow_live_enter(&many[0]);
+            CHECK(many[0].copy == memory + (MOST - 1) * live.copy_bytes);
+        }
+        for (uint32_t j = 0; j < MANY; j++) {
+            CHECK(flow_live_search(&many[j], hashes, HASHES, keys[3]) == (j == 0 && i >= 3 ? MANY + 3 : j));
+        }
+    }
+    for (int i = 0; i < MANY; i++) {
+        CHECK(!flow_live_settled(&live));
+        flow_live_leave(&many[i]);
+    }
+    CHECK(flow_live_settled(&live) && waits == 3);
+}
+
 int main(void)
 {
     make_table();
@@ -225,7 +276,9 @@ int main(void)
     searches();
     wrong_areas();
     lines_written();
+    each_byte();
     waiting();
+    every_copy();
     free(memory);
     free(table_memory);
     printf("width %d: %d checks, all right\n", WIDTH, checks);
