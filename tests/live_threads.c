@@ -258,7 +258,7 @@ int main(int words, char **word)
     must("flow_live_publish", flow_live_publish(&live, &lookup));
     for (int i = 0; i < READERS; i++) {
         looks[i] = (struct look){.reader = &readers[i], .generator = {.s = 7 + (uint64_t)i}};
-        pthread_create(&threads[i], NULL, read_on, &looks[i]);
+        must("pthread_create", (uint32_t)pthread_create(&threads[i], NULL, read_on, &looks[i]));
     }
     uint32_t publishes = update_on(atof(word[2]));
     for (int i = 0; i < READERS; i++) {
