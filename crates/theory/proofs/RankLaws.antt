@@ -1,6 +1,6 @@
 -- A key's counters, ranked: the least of counter and bucket number as one number has the least counter and the lowest bucket with it, and repeated hashes
 -- alter nothing. For any counters; the loops over a key's hashes in placing and in search cite these laws.
-use mathlib.Core.Path.{◌≡◌, refl, sym, ◌∙◌}
+use mathlib.Core.Path.{◌≡◌, refl, sym, subst, ◌∙◌}
 use mathlib.Core.Bool.{Bool, true, false, ◌||◌, or_assoc, or-false, true≢false}
 use mathlib.Core.List.{List, [], ◌∷◌, map}
 use Prim.Native.Nat.{ℕ, suc, ◌+◌, ◌-◌, ◌*◌, ◌/◌, ◌%◌, ◌^◌, ◌≤◌, ◌<◌, min}
@@ -99,6 +99,13 @@ least_rank c t m (x ∷ xs) h a = go (ltb (c x) (least t (map c xs))) refl (eqb 
     above : (b x low f : ℕ) → low < b → f ≤ m → min (b * 65536 + x) (low * 65536 + f) ≡ low * 65536 + f
     above b x low f p q = omega arith
 
+    -- the least with x in it, where it is w
+    by_low : {w : ℕ} → min (c x) (least t (map c xs)) ≡ w
+        → min (rank c x) (least (t * 65536 + m) (map (rank c) xs)) ≡ w * 65536 + least m (filter (λ b. eqb (c b) w) (x ∷ xs))
+        → min (rank c x) (least (t * 65536 + m) (map (rank c) xs))
+        ≡ min (c x) (least t (map c xs)) * 65536 + least m (filter (λ b. eqb (c b) (min (c x) (least t (map c xs)))) (x ∷ xs))
+    by_low q e = subst (λ (w : ℕ). min (rank c x) (least (t * 65536 + m) (map (rank c) xs)) ≡ w * 65536 + least m (filter (λ b. eqb (c b) w) (x ∷ xs))) (sym q) e
+
     go : (u : Bool) → ltb (c x) (least t (map c xs)) ≡ u → (v : Bool) → eqb (c x) (least t (map c xs)) ≡ v
         → least (t * 65536 + m) (map (rank c) xs) ≡ least t (map c xs) * 65536 + least m (filter (λ b. eqb (c b) (least t (map c xs))) xs)
         → min (rank c x) (least (t * 65536 + m) (map (rank c) xs))
@@ -106,16 +113,17 @@ least_rank c t m (x ∷ xs) h a = go (ltb (c x) (least t (map c xs))) refl (eqb 
     go true e v f rest =
         let lt : c x < least t (map c xs) = ltb-true (c x) (least t (map c xs)) e in
         let q : min (c x) (least t (map c xs)) ≡ c x = omega arith in
-        rw (q, eq-eqb (c x) (c x) refl, none_least c t (c x) xs lt, rest) (below (c x) x (least t (map c xs)) _ lt a.0)
+        by_low q (rw (eq-eqb (c x) (c x) refl, none_least c t (c x) xs lt, rest) (below (c x) x (least t (map c xs)) _ lt a.0))
     go false e true f rest =
         let same : c x ≡ least t (map c xs) = eqb-true (c x) (least t (map c xs)) f in
         let q : min (c x) (least t (map c xs)) ≡ least t (map c xs) = omega arith in
-        rw (q, f, rest, same) (equal (least t (map c xs)) x _)
+        by_low q (rw (f, rest, same) (equal (least t (map c xs)) x _))
     go false e false f rest =
         let le : least t (map c xs) ≤ c x = ltb-false (c x) (least t (map c xs)) e in
         let ne : c x ≡ least t (map c xs) → ⊥ = eqb-false (c x) (least t (map c xs)) f in
         let q : min (c x) (least t (map c xs)) ≡ least t (map c xs) = omega arith in
-        rw (q, f, rest) (above (c x) x (least t (map c xs)) _ (omega arith) (least_le m (filter (λ b. eqb (c b) (least t (map c xs))) xs)))
+        by_low q
+        (rw (f, rest) (above (c x) x (least t (map c xs)) _ (omega arith) (least_le m (filter (λ b. eqb (c b) (least t (map c xs))) xs))))
 
 -- ---- H from hash j on
 pub rest_start : (h : ℕ) → h ≡ h / 2 ^ (16 * 0)
