@@ -10,7 +10,7 @@ returns c =
     let first = c.before.before in
     let start = first.before.before.before in
     let e = count_is start.args.area.now start.requires in
-    (omega (arith, first.wide.ensures, c.wide2.ensures), omega (arith, first.wide.ensures, c.wide2.ensures))
+    (omega (arith, first.wide.ensures, c.wide-2.ensures), omega (arith, first.wide.ensures, c.wide-2.ensures))
 
 pub count_at_spec : {M : Type 1} → statement M
 count_at_spec =

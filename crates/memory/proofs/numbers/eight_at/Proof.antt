@@ -12,9 +12,9 @@ returns c =
     let high = first.before in
     let start = high.before.before in
     let e = eight_is start.args.area.now start.args.at start.requires in
-    omega (arith, high.class_at.ensures, first.wide-half.ensures, second.class-at2.ensures, c.wide-half2.ensures)
+    omega (arith, high.class_at.ensures, first.wide_half.ensures, second.class_at-2.ensures, c.wide_half-2.ensures)
 
 pub eight_at_spec : {M : Type 1} → statement M
 eight_at_spec =
-    tie.close (tie.spec (λ c κs. search rules) (λ c κs. search rules) (λ c. omega (arith, c.wide-half.ensures)) (λ c. search rules) (λ c κs. search rules)
-    (λ c κs. search rules) (λ c. omega (arith, c.wide-half2.ensures, c.before.before.wide-half.ensures)) returns)
+    tie.close (tie.spec (λ c κs. search rules) (λ c κs. search rules) (λ c. omega (arith, c.wide_half.ensures)) (λ c. search rules) (λ c κs. search rules)
+    (λ c κs. search rules) (λ c. omega (arith, c.wide_half-2.ensures, c.before.before.wide_half.ensures)) returns)

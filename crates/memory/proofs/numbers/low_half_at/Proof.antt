@@ -12,7 +12,7 @@ returns c =
     let first = second.before.before in
     let start = first.before.before.before in
     let e = low_half_is start.args.area.now start.args.at start.requires in
-    omega (arith, first.wide32.ensures, second.wide322.ensures, third.wide323.ensures, c.wide324.ensures)
+    omega (arith, first.wide32.ensures, second.wide32-2.ensures, third.wide32-3.ensures, c.wide32-4.ensures)
 
 pub low_half_at_spec : {M : Type 1} → statement M
 low_half_at_spec =

@@ -12,7 +12,7 @@ returns c =
     let low = first.before in
     let start = low.before.before in
     let e = low_word_is start.args.area.now start.args.at start.requires in
-    omega (arith, low.low-half-at.ensures, first.wide-half.ensures, high.low-half-at2.ensures, c.wide-half2.ensures)
+    omega (arith, low.low_half_at.ensures, first.wide_half.ensures, high.low_half_at-2.ensures, c.wide_half-2.ensures)
 
 pub low_word_at_spec : {M : Type 1} → statement M
 low_word_at_spec =

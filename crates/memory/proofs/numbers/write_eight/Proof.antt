@@ -17,7 +17,7 @@ returns c =
     let second = c.before.before in
     let first = second.before.before.before.before in
     let start = first.before.before.before in
-    halves_written start.args.to.now start.args.n _ _ start.requires first.write_class.ensures second.write_class2.ensures
+    halves_written start.args.to.now start.args.n _ _ start.requires first.write_class.ensures second.write_class-2.ensures
 
 pub write_eight_spec : {M : Type 1} → statement M
 write_eight_spec =

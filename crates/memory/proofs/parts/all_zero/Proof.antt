@@ -13,16 +13,16 @@ use Rattle.memory.proofs.parts.all_zero.Tie as tie
 abbrev nonzero : ℕ → Bool
 nonzero x = not (eqb x 0)
 
-abbrev invariant-loop : tie.invariant-loop
+abbrev invariant-loop : tie.invariant-loop-i
 invariant-loop part dirty₀ i₀ dirty i = (i ≤ length part) × ((dirty || any nonzero (drop i part)) ≡ any nonzero part)
 
-abbrev decreases-loop : tie.decreases-loop
+abbrev decreases-loop : tie.decreases-loop-i
 decreases-loop part dirty₀ i₀ dirty i = length part - i
 
-loop-again : tie.Need-loop-preserved invariant-loop decreases-loop
+loop-again : tie.Need-loop-i-preserved invariant-loop decreases-loop
 loop-again c =
     let at = c.before.before in
-    let l = at.loop in
+    let l = at.loop-i in
     let part = at.before.args.part.now in (
       omega arith,
       or_assoc l.dirty (nonzero (get_or part l.i 0)) (any nonzero (drop (l.i + 1) part))
@@ -31,7 +31,7 @@ loop-again c =
 
 returns : tie.Need-returns invariant-loop decreases-loop
 returns c =
-    let l = c.before.loop in
+    let l = c.before.loop-i in
     let part = c.before.before.args.part.now in
     ap not (sym (or-false l.dirty) ∙ (rw (any_past_end nonzero part l.i (omega arith)) at l.invariant.1))
 

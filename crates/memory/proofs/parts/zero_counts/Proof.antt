@@ -8,14 +8,14 @@ use Rattle.memory.proofs.CopyLaws.{Copied, copied_more, copied_all}
 use Rattle.memory.proofs.parts.zero_counts.Statement.{statement}
 use Rattle.memory.proofs.parts.zero_counts.Tie as tie
 
-abbrev invariant-loop : tie.invariant-loop
+abbrev invariant-loop : tie.invariant-loop-i
 invariant-loop counts₀ i₀ counts i = Copied (zeros (length counts₀)) counts i
 
-abbrev decreases-loop : tie.decreases-loop
+abbrev decreases-loop : tie.decreases-loop-i
 decreases-loop counts₀ i₀ counts i = length counts₀ - i
 
 -- as many places as there are zeros
-long : (c : tie.At-loop invariant-loop decreases-loop) → length (zeros (length c.before.args.counts.now)) ≡ length c.before.args.counts.now
+long : (c : tie.At-loop-i invariant-loop decreases-loop) → length (zeros (length c.before.args.counts.now)) ≡ length c.before.args.counts.now
 long c = length-replicate (length c.before.args.counts.now) 0
 
 pub zero_counts_spec : {M : Type 1} → statement M
@@ -23,5 +23,5 @@ zero_counts_spec =
     tie.close (tie.spec invariant-loop decreases-loop (λ c. record { inside = omega arith; long = sym (length-replicate (length c.args.counts.now) 0); front = refl })
     (λ c. omega (arith, long c.before)) (λ c. omega (arith, long c.before)) (λ c. omega (arith, long c.before))
     (λ c. omega (arith, long c.before))
-    (λ c. let at = c.before in copied_more at.loop.invariant 0 (sym (zero_at (length at.before.args.counts.now) at.loop.i)) (omega (arith, long at)))
-    (λ c. omega (arith, long c.before)) (λ c. copied_all c.before.loop.invariant (omega (arith, long c.before))))
+    (λ c. let at = c.before in copied_more at.loop-i.invariant 0 (sym (zero_at (length at.before.args.counts.now) at.loop-i.i)) (omega (arith, long at)))
+    (λ c. omega (arith, long c.before)) (λ c. copied_all c.before.loop-i.invariant (omega (arith, long c.before))))

@@ -8,19 +8,19 @@ use Rattle.memory.proofs.CopyLaws.{Copied, copied_more, copied_all}
 use Rattle.memory.proofs.parts.zero_fill.Statement.{statement}
 use Rattle.memory.proofs.parts.zero_fill.Tie as tie
 
-abbrev invariant-loop : tie.invariant-loop
+abbrev invariant-loop : tie.invariant-loop-i
 invariant-loop to₀ i₀ to i = Copied (zeros (length to₀)) to i
 
-abbrev decreases-loop : tie.decreases-loop
+abbrev decreases-loop : tie.decreases-loop-i
 decreases-loop to₀ i₀ to i = length to₀ - i
 
 -- as many places as there are zeros
-long : (c : tie.At-loop invariant-loop decreases-loop) → length (zeros (length c.before.args.to.now)) ≡ length c.before.args.to.now
+long : (c : tie.At-loop-i invariant-loop decreases-loop) → length (zeros (length c.before.args.to.now)) ≡ length c.before.args.to.now
 long c = length-replicate (length c.before.args.to.now) 0
 
 pub zero_fill_spec : {M : Type 1} → statement M
 zero_fill_spec =
     tie.close (tie.spec invariant-loop decreases-loop (λ c. record { inside = omega arith; long = sym (length-replicate (length c.args.to.now) 0); front = refl })
     (λ c. omega (arith, long c.before)) (λ c. omega (arith, long c.before)) (λ c. omega (arith, long c.before))
-    (λ c. let at = c.before in copied_more at.loop.invariant 0 (sym (zero_at (length at.before.args.to.now) at.loop.i)) (omega (arith, long at)))
-    (λ c. omega (arith, long c.before)) (λ c. copied_all c.before.loop.invariant (omega (arith, long c.before))))
+    (λ c. let at = c.before in copied_more at.loop-i.invariant 0 (sym (zero_at (length at.before.args.to.now) at.loop-i.i)) (omega (arith, long at)))
+    (λ c. omega (arith, long c.before)) (λ c. copied_all c.before.loop-i.invariant (omega (arith, long c.before))))
