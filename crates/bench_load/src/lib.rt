@@ -1,4 +1,6 @@
 // Document 02, U1, 'A load for the bench': the generator's step, calls written into a lent buffer, and the reading of the input that asks for a load.
+#![tactic(auto)]
+
 ghost use Rattle.std.specs.Prelude.{◌≡◌, ℕ, ◌/◌, ◌%◌, ◌<◌, min, length};
 ghost use Rattle.theory.specs.Settings.{in_range, ipv4_width};
 ghost use Rattle.theory.specs.BenchLoad.{stepped, next_number, draw, after_call, load_class, call_letter, load_key, load_call, call_bytes};
@@ -11,14 +13,14 @@ use memory::records::write_class;
 
 // "A generator holds a 64-bit s .. and a 64-bit w"
 #[repr(C)]
-#[derive(Drop)]
+#[derive(Clone, Copy)]
 pub struct Generator {
     pub s: u64,
     pub w: u64,
 }
 
 // A generator after its step, and the number that it then gives.
-#[derive(Drop)]
+#[derive(Clone, Copy)]
 pub struct Advanced {
     pub generator: Generator,
     pub number: u64,
@@ -76,7 +78,7 @@ fn write_call(to: &mut [u8], flows: u64, first: u64, second: u64)
 }
 
 // "Each call takes two numbers": these, and the generator after them.
-#[derive(Drop)]
+#[derive(Clone, Copy)]
 pub struct Drawn {
     pub first: u64,
     pub second: u64,
@@ -124,7 +126,7 @@ pub fn fill(to: &mut [u8], flows: u64, generator: Generator) -> Generator
 }
 
 // What an input asks for: "s, w, F and a count of calls".
-#[derive(Drop)]
+#[derive(Clone, Copy)]
 pub struct BenchLoad {
     pub generator: Generator,
     pub flows: u64,
@@ -132,7 +134,7 @@ pub struct BenchLoad {
 }
 
 // An input asks for a load, or is refused with 15.
-#[derive(Drop)]
+#[derive(Clone, Copy)]
 pub enum Asked {
     Load(BenchLoad),
     Refused,
@@ -172,7 +174,7 @@ pub fn read_load(input: &[u8]) -> Asked
 }
 
 // The first calls of a load, at the start of a buffer: how many bytes they are, and the load that is left.
-#[derive(Drop)]
+#[derive(Clone, Copy)]
 pub struct Piece {
     pub bytes: usize,
     pub rest: BenchLoad,

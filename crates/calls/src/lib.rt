@@ -1,4 +1,6 @@
 // A call as data: programs that run lists of calls go through `perform`, those that judge settings and lengths once and lend a table through `call`.
+#![tactic(auto)]
+
 ghost use Rattle.std.specs.Prelude.{◌≡◌, true, List, ℕ, length};
 ghost use Rattle.theory.specs.Lists.{all};
 ghost use Rattle.theory.specs.Settings.{allowed};
@@ -22,7 +24,7 @@ use tally::Totals;
 use update::editing::Edit;
 
 // The kinds of call; the second search call hands back a part of an area, and is lookup::fetching::fetch.
-#[derive(Drop)]
+#[derive(Clone, Copy)]
 pub enum Kind {
     Clear,
     Update(Edit),
@@ -30,7 +32,7 @@ pub enum Kind {
     Tally,
 }
 
-#[derive(Drop)]
+#[derive(Clone, Copy)]
 pub enum Reply {
     Answered(Answer),
     Totalled(Totals),

@@ -1,5 +1,7 @@
 // The doors: every call as a C function, for a driver and control software to link. Each asks nothing of its caller; the definitions of
 // its answer and of each lent area at exit are in specs/Doors.antt.
+#![tactic(auto)]
+
 ghost use Rattle.std.specs.Prelude.{◌≡◌, true, ◌∷◌, ◌^◌, ◌≤◌, length};
 ghost use Rattle.theory.specs.Settings.{settings_of, allowed};
 ghost use Rattle.settings.specs.Checked.{paper, card};

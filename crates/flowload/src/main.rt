@@ -1,5 +1,7 @@
 // Program flowload: reads the 32 bytes that ask for a load from standard input, and writes its calls for flowrun. It only reads and writes, in pieces of
 // 3,640 calls; crate bench_load judges the input and makes the calls, and crate streams reads and writes.
+#![tactic(auto)]
+
 ghost use Rattle.std.specs.Prelude.{◌<◌, ◌≤◌, length};
 
 use bench_load::{Asked, BenchLoad};

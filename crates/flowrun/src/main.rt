@@ -1,5 +1,7 @@
 // Program flowrun: reads calls of 18 bytes from standard input and prints a line for each. It only reads and writes: what a read gives, up to 512 calls,
 // is run at once, and 1 to 17 bytes wait for the rest. Crate lines runs the calls and makes their lines; crate streams reads and writes.
+#![tactic(auto)]
+
 ghost use Rattle.std.specs.Prelude.{◌≡◌, ◌+◌, ◌<◌, length, take};
 ghost use Rattle.flowrun.specs.Blocks.{Split, Waits};
 
@@ -7,7 +9,7 @@ use settings::{Given, Settings};
 use streams::Got;
 
 // What stands in the buffer after a read: where it ends, where the calls end that are to be run now, and whether more may follow.
-#[derive(Drop)]
+#[derive(Clone, Copy)]
 struct Block {
     end: usize,
     whole: usize,
@@ -39,7 +41,7 @@ fn read_block(input: &mut [u8], waiting: usize) -> Block
 }
 
 // What is left of the input: the number of the next call, how many bytes of it wait at the start of the buffer, and whether more is to be read.
-#[derive(Drop)]
+#[derive(Clone, Copy)]
 struct Left {
     first: u64,
     waiting: usize,

@@ -1,5 +1,7 @@
 // Program flowtrial: reads the 32 bytes of a load and then the settings of trials from standard input, and prints a line for each trial as soon as it
 // is run. It only reads and writes; crate trials judges, plays and makes the lines, and crate streams reads and writes.
+#![tactic(auto)]
+
 ghost use Rattle.std.specs.Prelude.{◌≡◌, true, suc, length};
 ghost use Rattle.trials.specs.Playing.{Playable, Lent};
 ghost use Rattle.trials.specs.Telling.{TrialsPlayable};
@@ -16,7 +18,7 @@ fn large_numbers() -> [u16; 32768]
 }
 
 // What is left after a trial, and whether its line was written and more may follow.
-#[derive(Drop)]
+#[derive(Clone, Copy)]
 struct Next {
     left: Trials,
     more: bool,

@@ -1,5 +1,7 @@
 // The hash of document 01, 'Hash': a step of xorshift64, H of a key with a table and without, hash j, repeats, and a key's bucket numbers.
 // The constants are in entries.rt, half_entries.rt and rows.rt, which bin/hash-constants writes.
+#![tactic(auto)]
+
 mod by_rows; // by_rows.rt: H of parts of a key by the rows, and the tables by byte made of them
 pub mod by_table; // by_table.rt: what a lent table gives for a key
 mod entries;
@@ -133,7 +135,7 @@ pub fn repeats(h: u64, j: usize, m: u64, b: u64) -> bool
 }
 
 // A key's bucket numbers: the first `count` of `at`.
-#[derive(Drop)]
+#[derive(Clone, Copy)]
 pub struct Numbers {
     pub at: [u16; 4],
     pub count: usize,

@@ -1,4 +1,6 @@
 // The ledger area: whether it is within the rules, where a key's record stands or belongs, and the three edits.
+#![tactic(auto)]
+
 ghost use Rattle.std.specs.Prelude.{◌≡◌, true, not, length};
 ghost use Rattle.theory.specs.Settings.{allowed, ledger_length};
 ghost use Rattle.theory.specs.Calls.{ledger_invalid};

@@ -8,7 +8,7 @@ use memory::records::key_at;
 use settings::Settings;
 
 // Whether the key is held, and how many records stand before its place.
-#[derive(Drop)]
+#[derive(Clone, Copy)]
 pub struct Spot {
     pub held: bool,
     pub at: usize,

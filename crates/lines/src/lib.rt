@@ -1,4 +1,6 @@
 // Program flowrun's work: calls of 18 bytes in, their lines out. The program itself only reads and writes.
+#![tactic(auto)]
+
 ghost use Rattle.std.specs.Prelude.{◌≡◌, List, ℕ, ◌+◌, ◌-◌, ◌*◌, ◌≤◌, ◌<◌, min, length};
 ghost use Rattle.theory.specs.Flowrun as flowrun;
 ghost use Rattle.theory.specs.Lookup.{bare};
@@ -33,7 +35,7 @@ pub const CAPACITY: u64 = 128;
 pub const SIDE_PLACES: u64 = 8;
 
 // What a letter asks for.
-#[derive(Drop)]
+#[derive(Clone, Copy)]
 pub enum Asked {
     Known(Kind),
     Unknown,
@@ -111,7 +113,7 @@ fn append_line(to: &mut [u8], at: usize, call: u64, letter: u8, x: Answer) -> us
 }
 
 // What a call shows: its letter and its answer.
-#[derive(Drop)]
+#[derive(Clone, Copy)]
 struct Shown {
     letter: u8,
     answer: Answer,

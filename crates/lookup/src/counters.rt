@@ -9,7 +9,7 @@ use settings::Settings;
 use settings::counts::{ClippedCount, lower};
 
 // One counter above T or none; the least; of the bucket numbers with the least, the lowest.
-#[derive(Drop)]
+#[derive(Clone, Copy)]
 pub struct KeyCounters {
     pub above: bool,
     pub least: ClippedCount,

@@ -10,7 +10,7 @@ ghost use Rattle.lookup.specs.Bursts.{judged_burst};
 use settings::lengths::lookup_lengths_right;
 use settings::{Checked, Given, Settings};
 
-#[derive(Drop)]
+#[derive(Clone, Copy)]
 pub enum Judged {
     Ready(Settings),
     Refused(u32),

@@ -1,4 +1,6 @@
 // Document 01, the calls that look for a key and only read: search, the second search call.
+#![tactic(auto)]
+
 pub mod bursts; // bursts.rt: many keys at once
 pub mod counters; // counters.rt: what the counters of a key say
 pub mod counting; // counting.rt: the answer with its counts, for its own door

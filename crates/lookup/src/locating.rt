@@ -16,7 +16,7 @@ use settings::{Given, Settings};
 
 // The answer, and where the record lies: area 1 is the buckets, area 2 the side store, and start the byte of it where the record starts; nowhere is 0
 // and 0.
-#[derive(Drop)]
+#[derive(Clone, Copy)]
 pub struct Located {
     pub answer: Answer,
     pub area: u64,

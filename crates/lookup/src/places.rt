@@ -10,7 +10,7 @@ use settings::Settings;
 
 // What a search comes to: refused with 5; absent by a zero counter; records of a bucket, which start at a byte of the buckets; records of the side store,
 // with so many buckets read.
-#[derive(Drop)]
+#[derive(Clone, Copy)]
 pub enum Place {
     Invalid,
     Nowhere,

@@ -7,7 +7,7 @@ use memory::picks::pick;
 use settings::Settings;
 
 // Where the key's record starts, if it is there, and how many records were compared.
-#[derive(Drop)]
+#[derive(Clone, Copy)]
 pub struct Hit {
     pub found: bool,
     pub at: usize,

@@ -21,7 +21,7 @@ use memory::picks::pick32;
 use settings::{Given, Settings};
 
 // The answer's number (0 held, 100 absent, else the refusal), class, buckets read, records compared, and 1 where the side store was the place compared.
-#[derive(Drop)]
+#[derive(Clone, Copy)]
 pub struct Answer {
     pub number: u32,
     pub class: u32,

@@ -1,4 +1,6 @@
 // What every other crate does with lent memory: numbers in bytes, parts copied, cleared and judged, records in bytes, and a choice with no branch.
+#![tactic(auto)]
+
 pub mod numbers; // numbers.rt: numbers of two, four and eight bytes
 pub mod parts; // parts.rt: copy, clear, judge
 pub mod picks; // picks.rt: one of two numbers, with no branch

@@ -1,5 +1,7 @@
 // Document 01, the key of an IPv4 packet (RFC 791): the packet is judged first, and only then is its key written. Document 02, U2: the header says
 // whether the packet is a later fragment, which has no ports.
+#![tactic(auto)]
+
 ghost use Rattle.std.specs.Prelude.{◌≡◌, length};
 ghost use Rattle.theory.specs.Settings.{ipv4_width};
 ghost use Rattle.theory.specs.Packet.{ports_cut, packet_key, reading, Keyed, read_packet};

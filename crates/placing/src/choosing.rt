@@ -16,7 +16,7 @@ use settings::Settings;
 use settings::counts::{TrueCount, lower};
 
 // Where a key goes: to the side if all its counts are top or more, else to the bucket that it chooses.
-#[derive(Drop)]
+#[derive(Clone, Copy)]
 struct Choice {
     all_top: bool,
     bucket: usize,

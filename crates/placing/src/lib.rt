@@ -1,4 +1,6 @@
 // Document 01, 'Placing': how many keys have a bucket among theirs, which bucket a key chooses, and which keys belong to the side.
+#![tactic(auto)]
+
 ghost use Rattle.std.specs.Prelude.{◌≡◌, true, List, ℕ, ◌+◌, ◌≤◌, length, drop};
 ghost use Rattle.theory.specs.Records.{Record};
 ghost use Rattle.theory.specs.Settings.{allowed};

@@ -6,11 +6,11 @@ use memory::numbers::wide64;
 use memory::picks::pick64;
 
 // The lower of a true count and the top count: four bits. It is held in a wide number, so that searching ranks it with no cut between.
-#[derive(Drop)]
+#[derive(Clone, Copy)]
 pub struct ClippedCount(u64);
 
 // How many held keys name a bucket.
-#[derive(Drop)]
+#[derive(Clone, Copy)]
 pub struct TrueCount(u16);
 
 // The lower of two ranks (below): no branch.

@@ -6,7 +6,7 @@ ghost use Rattle.settings.specs.Lengths.{right_lookup_lengths, right_lengths};
 
 use super::Settings;
 
-#[derive(Drop)]
+#[derive(Clone, Copy)]
 pub struct Lengths {
     pub ledger: usize,
     pub true_counts: usize,

@@ -1,4 +1,6 @@
 // The settings of document 01 as a type by value: their limits, the checking constructor, and the lengths of the areas.
+#![tactic(auto)]
+
 ghost use Rattle.std.specs.Prelude.{◌≡◌, true, ◌+◌, ◌*◌, ◌≤◌};
 ghost use Rattle.theory.specs.Settings.{allowed, record_size, bucket_size, ledger_length, true_length, clipped_length, buckets_length, side_length};
 ghost use Rattle.theory.specs.Settings.{width_allowed, work_length, settings_in};
@@ -8,7 +10,7 @@ pub mod counts; // counts.rt: true counts and clipped counts, each a type of its
 pub mod lengths; // lengths.rt: the lengths of the areas that a call is lent
 
 // In the paper's order and letters: p, k, B, T, N, S, the key width.
-#[derive(Drop)]
+#[derive(Clone, Copy)]
 pub struct Settings {
     pub p: usize,
     pub k: usize,
@@ -20,7 +22,7 @@ pub struct Settings {
 }
 
 // The same as a caller gives them, or as a file says them: 64 bits each, so that no number is cut off before its range is judged.
-#[derive(Drop)]
+#[derive(Clone, Copy)]
 pub struct Given {
     pub p: u64,
     pub k: u64,
@@ -62,7 +64,7 @@ impl Given {
     }
 }
 
-#[derive(Drop)]
+#[derive(Clone, Copy)]
 pub enum Checked {
     Allowed(Settings),
     // "1, a setting out of range"

@@ -1,4 +1,6 @@
 // Document 01, 'Snapshot': save and load. Both judge first, with the side need of the records in work, and then write.
+#![tactic(auto)]
+
 ghost use Rattle.std.specs.Prelude.{◌≡◌, ◌≤◌, take};
 ghost use Rattle.theory.specs.Records.{records};
 ghost use Rattle.theory.specs.Ledger.{side_need_of};

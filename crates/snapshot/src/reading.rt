@@ -11,7 +11,7 @@ use memory::numbers::count_at;
 use settings::{Checked, Given, Settings};
 
 // What the head of a file says beside its settings: how many these are, its bytes, and the second count.
-#[derive(Drop)]
+#[derive(Clone, Copy)]
 pub struct Head {
     pub settings: usize,
     pub size: usize,
@@ -82,7 +82,7 @@ pub fn read_settings(file: &[u8]) -> Checked
 }
 
 // The answer, and the settings handed back: zeros when refused.
-#[derive(Drop)]
+#[derive(Clone, Copy)]
 pub struct HandedBack {
     pub number: u32,
     pub settings: Given,

@@ -1,12 +1,14 @@
 // Standard input and standard output of the programs. A read or a write that fails is said on standard error with its reason, here and nowhere else.
 // A call that a signal broke off is made again. So is one on a pipe that is set to not wait, over and over: others may run between two tries.
+#![tactic(auto)]
+
 ghost use Rattle.std.specs.Prelude.{◌≡◌, ℕ, ◌-◌, ◌≤◌, length, take, drop};
 ghost use Rattle.streams.specs.Streams.{Within, Moves};
 
 use memory::parts::copy;
 
 // What a read gives: 1 or more bytes, the end of the input, or nothing, since it failed, which is said.
-#[derive(Drop)]
+#[derive(Clone, Copy)]
 pub enum Got {
     Bytes(usize),
     End,
@@ -14,7 +16,7 @@ pub enum Got {
 }
 
 // What one call came to: so many bytes moved, none moved, to be made again, failed.
-#[derive(Drop)]
+#[derive(Clone, Copy)]
 enum Tried {
     Moved(usize),
     Nothing,

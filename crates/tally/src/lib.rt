@@ -1,4 +1,6 @@
 // Tally: what the areas hold, counted.
+#![tactic(auto)]
+
 ghost use Rattle.std.specs.Prelude.{◌≡◌, true, false, not, cond, ◌&&◌, List, ℕ, ◌+◌, ◌≤◌, eqb, ltb, length};
 ghost use Rattle.theory.specs.Lists.{any, upto, sum, filter};
 ghost use Rattle.theory.specs.Settings.{allowed, ledger_length, clipped_length, buckets_length};
@@ -17,7 +19,7 @@ use lookup::judging::areas_right;
 use settings::{Checked, Given, Settings};
 
 // The answer's number, records in buckets, records in the side store, buckets marked 255, fill.
-#[derive(Drop)]
+#[derive(Clone, Copy)]
 pub struct Totals {
     pub number: u32,
     pub in_buckets: u32,
@@ -77,7 +79,7 @@ fn marks_valid(s: Settings, buckets: &[u8]) -> bool
 }
 
 // The sum of the marks other than 255, and how many are 255.
-#[derive(Drop)]
+#[derive(Clone, Copy)]
 struct Marks {
     in_buckets: u32,
     marked_255: u32,

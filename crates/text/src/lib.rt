@@ -1,4 +1,6 @@
 // Fields of a line of text, one after another in a lent buffer.
+#![tactic(auto)]
+
 ghost use Rattle.std.specs.Prelude.{[], ◌∷◌, ◌++◌, ◌+◌, ◌≤◌, length};
 ghost use Rattle.theory.specs.Flowrun.{decimal};
 ghost use Rattle.text.specs.Writing.{Writes, Appends};

@@ -8,7 +8,7 @@ ghost use Rattle.trials.specs.Data.{judged_trial};
 use memory::numbers::count_at;
 use settings::{Checked, Given, Settings};
 
-#[derive(Drop)]
+#[derive(Clone, Copy)]
 pub enum Judged {
     Ready(Settings),
     Refused(u32),

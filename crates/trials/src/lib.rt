@@ -1,4 +1,6 @@
 // Document 02, U3, 'Choosing settings for a node': a trial judged, played and told in a line. Program flowtrial only reads and writes.
+#![tactic(auto)]
+
 ghost use Rattle.std.specs.Prelude.{◌≡◌, ◌+◌, ◌≤◌, length};
 ghost use Rattle.theory.specs.Trials.{trial_answer, trial_numbers, trial_line, trial_load};
 ghost use Rattle.bench_load.specs.Loads.{load_of, asked_of};
@@ -35,7 +37,7 @@ pub fn read_load(input: &[u8]) -> Asked
 }
 
 // What a trial tells: its answer, and its numbers.
-#[derive(Drop)]
+#[derive(Clone, Copy)]
 struct Trial {
     answer: u32,
     numbers: Numbers,
@@ -84,7 +86,7 @@ fn append_line(to: &mut [u8], at: usize, number: u64, answer: u32, x: Numbers) -
 }
 
 // The trials of an input that are left: their load, and the number of the next one.
-#[derive(Drop)]
+#[derive(Clone, Copy)]
 pub struct Trials {
     pub load: BenchLoad,
     pub number: u64,
@@ -98,7 +100,7 @@ pub fn all_trials(load: BenchLoad) -> Trials
 }
 
 // How many bytes the line of a trial has, and the trials after it, which play the same load from its own start.
-#[derive(Drop)]
+#[derive(Clone, Copy)]
 pub struct Told {
     pub bytes: usize,
     pub rest: Trials,

@@ -8,7 +8,7 @@ ghost use Rattle.trials.specs.Data.{numbers_of, Growing, Grown};
 use calls::Reply;
 
 // "greatest side need of a list held, refusals 6, 7, 8 and 9, and records compared in all"
-#[derive(Drop)]
+#[derive(Clone, Copy)]
 pub struct Numbers {
     pub greatest_need: u64,
     pub refused_6: u64,

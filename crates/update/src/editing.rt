@@ -6,7 +6,7 @@ ghost use Rattle.update.specs.Editing.{brings, leaves_out, by_list};
 use settings::Settings;
 
 // Add, change or remove.
-#[derive(Drop)]
+#[derive(Clone, Copy)]
 pub enum Edit {
     Insert,
     Replace,

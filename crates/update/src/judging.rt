@@ -11,7 +11,7 @@ use crate::editing::{Edit, brought, left_out, refusal_by_list};
 use settings::Settings;
 
 // What judging found: the refusal or 0, the count of the new list, the place of the edit, the side need.
-#[derive(Drop)]
+#[derive(Clone, Copy)]
 pub struct Plan {
     pub number: u32,
     pub count: usize,

@@ -1,4 +1,6 @@
 // Document 01, the calls that write: clear, add, change, remove. They judge first, on the ledger and work alone, and then write every area.
+#![tactic(auto)]
+
 ghost use Rattle.std.specs.Prelude.{◌≡◌, ◌+◌, ◌≤◌, length, take};
 ghost use Rattle.theory.specs.Records.{class_width, record_bytes};
 ghost use Rattle.theory.specs.Calls as calls;

@@ -1,5 +1,7 @@
 // The window over the latest 1,024 accepted searches (document 02, U5): a ring of entries with running counts, in a lent area of 16-bit words.
 // Entering and removing touch a fixed number of words; reading looks at the counts alone. Theory's Window.antt says what each word is.
+#![tactic(auto)]
+
 ghost use Rattle.std.specs.Prelude.{◌≡◌, cond, ◌+◌, ◌-◌, ◌/◌, ◌^◌, ◌≤◌, ◌<◌, min, length};
 ghost use Rattle.theory.specs.Lookup as lookup;
 ghost use Rattle.theory.specs.Window as plain;
@@ -31,7 +33,7 @@ pub const LENGTH: usize = 1093;
 const SIZE: usize = 1024;
 
 // An accepted search: 1 where it was held, 1 where it compared the side store, records compared.
-#[derive(Drop)]
+#[derive(Clone, Copy)]
 struct Entry {
     held: u32,
     side_compared: u32,

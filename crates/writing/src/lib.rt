@@ -1,4 +1,6 @@
 // Writes the layout of a list: true counts, clipped counts, buckets and the side store; and clears every area.
+#![tactic(auto)]
+
 ghost use Rattle.std.specs.Prelude.{◌≡◌, true, [], map, ◌≤◌, length};
 ghost use Rattle.theory.specs.Lists.{upto};
 ghost use Rattle.theory.specs.Records.{records};

@@ -48,7 +48,7 @@ keep-rest-requires c κs =
     let whole = split (written c) in
     (whole.before, omega (arith, room (written c), whole.inside), omega (arith, whole.short))
 
-add_t43 : tie.Need-overflow-add-t43
+add_t43 : tie.Need-overflow_add-t43
 add_t43 c =
     let block = written c.before.before.before in
     omega (arith, (split block).inside, (split block).before, (start block).pre.0.below)

@@ -27,7 +27,7 @@ module _ (c : tie.After-shared-slice-known2) where
   gives : (r : ℕ) → r ≡ H_by table key → (r ≡ H_by table key) × (TableFor (length key) table → r ≡ H key)
   gives r e = (e, λ right. e ∙ by_right (length key) table right start.pre key refl (λ j. omega (arith, c.shared-slice-known2.given j)))
 
-few : tie.Need-overflow-mul-if1
+few : tie.Need-overflow_mul-if1
 few c = ⊎_elim (λ e. search rules) (λ e. search rules) (lent_length (length (table c)) (length (key c)) (start c).requires)
 
 by-halves-requires : tie.Need-by-halves-requires

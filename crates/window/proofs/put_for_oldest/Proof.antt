@@ -50,7 +50,7 @@ module _ (c : tie.After-raise4) where
   long4 = c.raise4.auto.0 ∙ long3 three
 
 -- two words are below 2^16
-add_place : tie.Need-overflow-add-place
+add_place : tie.Need-overflow_add-place
 add_place c =
     let known = c.before.slice-known3.given in omega (arith, c.wide_count2.ensures, c.before.before.wide_count.ensures, known 0, known 1)
 

@@ -9,7 +9,7 @@ use Rattle.window.proofs.put_in.Statement.{statement}
 use Rattle.window.proofs.put_in.Tie as tie
 
 -- two words are below 2^16
-add_place : tie.Need-overflow-add-place
+add_place : tie.Need-overflow_add-place
 add_place c =
     let known = c.before.slice-known3.given in omega (arith, c.wide_count2.ensures, c.before.before.wide_count.ensures, known 0, known 1)
 

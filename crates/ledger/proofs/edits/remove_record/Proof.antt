@@ -36,7 +36,7 @@ module _ (c : tie.After-close-gap) where
   room_left : end sized ≤ length c.close-gap.new.0
   room_left = omega (arith, remove_room (place sized) (start sized).pre.1, c.close-gap.auto.0)
 
-sub_write_number : tie.Need-overflow-sub-write-number
+sub_write_number : tie.Need-overflow_sub-write-number
 sub_write_number c =
     let sized = sized c.before.before.before.before.before.before.before in
     omega (arith, count_listed (place sized), (start sized).pre.1)

@@ -10,7 +10,7 @@ most : (b : Bool) → cond {A = ℕ} b 4294967296 0 ≤ 4294967296
 most true = omega arith
 most false = omega arith
 
-add_result : tie.Need-overflow-add-result
+add_result : tie.Need-overflow_add-result
 add_result c =
     let start = c.before.before in
     omega (arith, c.before.pick64.ensures, c.rank.ensures, most start.args.choice.above, start.requires)

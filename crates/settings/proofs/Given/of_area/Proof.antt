@@ -6,13 +6,13 @@ use Rattle.theory.specs.Settings.{settings_in}
 use Rattle.settings.proofs.Given.of_area.Statement.{statement}
 use Rattle.settings.proofs.Given.of_area.Tie as tie
 
-returns : tie.Need-returns
+returns : tie.Need-returns-then-area-ne-COUNT
 unfolding settings_in
-returns c = rw (ne_eqb (length c.before.args.area.now) 7 c.if1.true)
+returns c = rw (ne_eqb (length c.before.args.area.now) 7 c.if-area-ne-COUNT.true)
 
-returns-2 : tie.Need-returns-2
+returns-2 : tie.Need-returns
 unfolding settings_in
-returns-2 c = rw c.before.before.before.before.before.before.before.if1.false
+returns-2 c = rw c.before.before.before.before.before.before.before.if-area-ne-COUNT.false
 
 pub of_area_spec : {M : Type 1} → statement M
 of_area_spec =

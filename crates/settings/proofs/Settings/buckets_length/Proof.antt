@@ -7,7 +7,7 @@ use Rattle.settings.proofs.Laws.{bounds}
 use Rattle.settings.proofs.Settings.buckets_length.Statement.{statement}
 use Rattle.settings.proofs.Settings.buckets_length.Tie as tie
 
-mul_result : tie.Need-overflow-mul-result
+mul_result : tie.Need-overflow_mul-result
 unfolding buckets_length
 mul_result c =
     let limits = bounds (paper c.before.before.args.self) c.before.before.requires in rw (c.before.buckets.ensures, c.bucket_size.ensures)

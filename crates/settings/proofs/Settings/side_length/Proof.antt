@@ -8,7 +8,7 @@ use Rattle.settings.proofs.Settings.side_length.Tie as tie
 
 returns : tie.Need-returns
 unfolding side_length card_of
-returns c = c.with-records.ensures
+returns c = c.with_records.ensures
 
 pub side_length_spec : {M : Type 1} → statement M
 side_length_spec = tie.close (tie.spec (λ c κs. let limits = ranges (paper c.args.self) c.requires in (c.requires, omega arith, omega arith)) returns)

@@ -6,5 +6,5 @@ use Rattle.settings.proofs.Settings.width_allowed.Tie as tie
 
 pub width_allowed_spec : {M : Type 1} → statement M
 width_allowed_spec =
-    tie.close (tie.spec (λ c. rw (eq-eqb c.before.args.width ipv4_width c.if1.true))
-    (λ c. rw (ne_eqb c.before.args.width ipv4_width c.if1.false)))
+    tie.close (tie.spec (λ c. rw (eq-eqb c.before.args.width ipv4_width c.if-width.true))
+    (λ c. rw (ne_eqb c.before.args.width ipv4_width c.if-width.false)))

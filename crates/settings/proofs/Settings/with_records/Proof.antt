@@ -9,13 +9,13 @@ use Rattle.settings.proofs.Laws.{bounds}
 use Rattle.settings.proofs.Settings.with_records.Statement.{statement}
 use Rattle.settings.proofs.Settings.with_records.Tie as tie
 
-most : (c : tie.After-record-size) → record_size (card c.before.args.self) * c.before.args.count ≤ 41 * 4096
+most : (c : tie.After-record_size) → record_size (card c.before.args.self) * c.before.args.count ≤ 41 * 4096
 most c = mul-le-mul (bounds (paper c.before.args.self) c.before.requires.0).record_most c.before.requires.2
 
-mul_result : tie.Need-overflow-mul-result
+mul_result : tie.Need-overflow_mul-result
 mul_result c = rw c.record_size.ensures (omega (arith, most c))
 
-add_result : tie.Need-overflow-add-result
+add_result : tie.Need-overflow_add-result
 add_result c = rw c.record_size.ensures (omega (arith, most c))
 
 pub with_records_spec : {M : Type 1} → statement M

@@ -9,9 +9,9 @@ use Rattle.settings.proofs.counts.ClippedCount.of_byte.Tie as tie
 
 returns : tie.Need-returns
 returns c = (
-  rw (c.pick64.ensures, c.before.wide64.ensures.0),
+  rw (c.pick64.ensures, c.before.wide64-wide.ensures.0),
   rw c.pick64.ensures (by_test (eqb (c.before.before.args.b % 2) 0) (λ e. rw e (omega arith))
-      (λ e. rw e (omega (arith, c.before.wide64.ensures.1)))),
+      (λ e. rw e (omega (arith, c.before.wide64-wide.ensures.1)))),
 )
 
 pub of_byte_spec : {M : Type 1} → statement M
