@@ -25,8 +25,8 @@ returns c =
     let filled = c.before.before in
     let number = filled.before.before.before.before in
     let asked = start number in
-    let zeros = filled.zero_fill.ensures ∙ ap (λ n. replicate n 0) (zeros_lent asked.args.to.now (eight number) asked.pre.0 (eight_long number)) in
-    λ first. key_back asked.args.to.now (eight number) asked.pre.0 (eight_long number) filled.zero_fill.new.0
+    let zeros = filled.zero_fill.ensures ∙ ap (λ n. replicate n 0) (zeros_lent asked.args.to.now (eight number) asked.requires.0 (eight_long number)) in
+    λ first. key_back asked.args.to.now (eight number) asked.requires.0 (eight_long number) filled.zero_fill.new.0
     ∙ key_written asked.args.flows first asked.args.second (eight number) filled.zero_fill.new.0 number.write-eight.ensures zeros
 
 pub write_key_spec : {M : Type 1} → statement M

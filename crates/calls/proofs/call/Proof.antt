@@ -12,22 +12,22 @@ module _ (c : tie.After-shared-slice-known2) where
 clear-areas-requires : tie.Need-clear-areas-requires
 clear-areas-requires c κs =
     let told = c.before.before.before.before.before in
-    let pre = (start told.before.before).pre in
+    let pre = (start told.before.before).requires in
     let z = clear_asks pre told.enum_told.given.1 in
     (pre.ok, z.ledger, z.true_counts, z.clipped_counts, z.buckets, z.side_store)
 
 update-checked-requires : tie.Need-update-checked-requires
 update-checked-requires c κs =
     let told = c.before.before.before.before.before.before.before in
-    update_asks (start told.before.before).pre _ told.kind.given.1
+    update_asks (start told.before.before).requires _ told.kind.given.1
 
 search-checked-requires : tie.Need-search-checked-requires
 search-checked-requires c κs =
-    let told = c.before.before.before in search_asks (start told.before.before).pre told.enum_told2.given.1
+    let told = c.before.before.before in search_asks (start told.before.before).requires told.enum_told2.given.1
 
 tally-checked-requires : tie.Need-tally-checked-requires
 tally-checked-requires c κs =
-    let told = c.before.before.before.before in tally_asks (start told.before.before).pre told.enum_told3.given.1
+    let told = c.before.before.before.before in tally_asks (start told.before.before).requires told.enum_told3.given.1
 
 returns : tie.Need-returns
 returns c =

@@ -20,7 +20,7 @@ module _ (c : tie.After-width) where
   updating = start c.before.before.before
 
   width_one : KeyWidth c.width.result
-  width_one = key_width (paper updating.args.s) updating.pre.0 c.width.ensures
+  width_one = key_width (paper updating.args.s) updating.requires.0 c.width.ensures
 
 call-requires : tie.Need-call-requires
 call-requires c κs =
@@ -28,16 +28,16 @@ call-requires c κs =
     let wide = made.before.before in
     let at_entry_lem = updating wide in
     record {
-      ok = at_entry_lem.pre.0;
+      ok = at_entry_lem.requires.0;
       ready = λ edit e.
-          ready at_entry_lem.args.s at_entry_lem.pre.0 wide.width.ensures made.before.made_length.ensures made.make_table.ensures;
-      lengths = at_entry_lem.pre.1;
+          ready at_entry_lem.args.s at_entry_lem.requires.0 wide.width.ensures made.before.made_length.ensures made.make_table.ensures;
+      lengths = at_entry_lem.requires.1;
     }
 
 call-requires-2 : tie.Need-call-requires-2
 call-requires-2 c κs =
     let other = c.before.before.before.before.before.before.before in
-    let pre = (start other.before).pre in
+    let pre = (start other.before).requires in
     record { ok = pre.0; ready = λ edit e. absurd (miss (0 ∷ 2 ∷ 3 ∷ []) 1 tt (rw e at other.match.keys2)); lengths = pre.1 }
 
 pub call_checked_spec : {M : Type 1} → statement M

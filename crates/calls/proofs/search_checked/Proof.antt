@@ -35,4 +35,4 @@ returns-2 c =
 pub search_checked_spec : {M : Type 1} → statement M
 search_checked_spec =
     tie.close (tie.spec (λ c κs. search rules) (λ c κs. search rules) returns
-    (λ c κs. let e = start c.before in key_width (paper e.args.s) e.pre.ok (wide c)) (λ c κs. search rules) returns-2)
+    (λ c κs. let e = start c.before in key_width (paper e.args.s) e.requires.ok (wide c)) (λ c κs. search rules) returns-2)

@@ -20,7 +20,7 @@ returns c =
     rw (← ledger.ledger_length.ensures, ← counts.true_length.ensures, ← clipped.clipped_length.ensures)
     (rw (← buckets.buckets_length.ensures, ← side.side_length.ensures, ← c.work_length.ensures)
     (all_stored (ledger.ledger_length.result ∷ counts.true_length.result ∷ clipped.clipped_length.result ∷ buckets.buckets_length.result
-    ∷ side.side_length.result ∷ c.work_length.result ∷ []) start.args.lengths.now start.pre.1))
+    ∷ side.side_length.result ∷ c.work_length.result ∷ []) start.args.lengths.now start.requires.1))
 
 pub write_lengths_spec : {M : Type 1} → statement M
 write_lengths_spec =

@@ -16,7 +16,7 @@ module _ (c : tie.After-known-told) where
   end = read.before.before.before.args.waiting + c.before.n.given.0.0
 
   inside : end ≤ 9216
-  inside = omega (arith, (came _ _ read.read_after.ensures.0 _ c.before.n.given.1).1, read.before.before.before.pre)
+  inside = omega (arith, (came _ _ read.read_after.ensures.0 _ c.before.n.given.1).1, read.before.before.before.requires)
 
 returns : tie.Need-returns
 returns c = (record { inside = inside c; before = omega arith; short = omega arith; calls = λ e. omega arith }, (read c).read_after.ensures.1)

@@ -18,7 +18,7 @@ module _ (c : tie.After-read-block) where
   split = c.read-block.ensures.0
 
   room : length c.read-block.new.0 ≡ 9216
-  room = let same : length c.read-block.new.0 ≡ length start.args.input.now = search rules in omega (arith, same, start.pre.1)
+  room = let same : length c.read-block.new.0 ≡ length start.args.input.now = search rules in omega (arith, same, start.requires.1)
 
   calls : length (take c.read-block.result.whole c.read-block.new.0) ≡ c.read-block.result.whole
   calls = length-take-le _ _ (omega (arith, room, split.inside, split.before))
@@ -33,7 +33,7 @@ run-calls-requires c κs =
     let block = lined made in
     let whole = split block in (
       omega (arith, made.large-buffer.ensures, calls block, whole.inside, whole.before),
-      omega (arith, calls block, whole.inside, whole.before, (start block).pre.0.below),
+      omega (arith, calls block, whole.inside, whole.before, (start block).requires.0.below),
     )
 
 -- ---- its lines are written, and the rest is kept
@@ -51,7 +51,7 @@ keep-rest-requires c κs =
 add_t43 : tie.Need-overflow_add-t43
 add_t43 c =
     let block = written c.before.before.before in
-    omega (arith, (split block).inside, (split block).before, (start block).pre.0.below)
+    omega (arith, (split block).inside, (split block).before, (start block).requires.0.below)
 
 returns : tie.Need-returns
 returns c =

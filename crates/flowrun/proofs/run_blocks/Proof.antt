@@ -45,10 +45,10 @@ module _ (c : tie.Else1 invariant-loop decreases-loop) where
   ran =
       let same : length after.run-block.last.1.0 ≡ length turn.loop.input = search rules in
       record {
-        room = omega (arith, same, turn.loop.inv.6.room);
+        room = omega (arith, same, turn.loop.invariant.6.room);
         waits =
             record {
-              below = omega (arith, after.run-block.ensures.below, turn.loop.inv.6.waits.below);
+              below = omega (arith, after.run-block.ensures.below, turn.loop.invariant.6.waits.below);
               short = after.run-block.ensures.short;
             };
       }

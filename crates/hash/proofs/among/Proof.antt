@@ -10,30 +10,30 @@ use Rattle.hash.proofs.NumberingLaws.{has_from, has_end}
 use Rattle.hash.proofs.among.Statement.{statement}
 use Rattle.hash.proofs.among.Tie as tie
 
-abbrev invariant-loop : tie.invariant-loop
+abbrev invariant-loop : tie.invariant-loop-i
 invariant-loop l x i₀ i = (i ≤ length l) × (has x (drop i l) ≡ has x l)
 
-abbrev decreases-loop : tie.decreases-loop
+abbrev decreases-loop : tie.decreases-loop-i
 decreases-loop l x i₀ i = length l - i
 
-returns : tie.Need-returns invariant-loop decreases-loop
+returns : tie.Need-returns-then-l-i invariant-loop decreases-loop
 returns c =
     let l = c.before.before.before in
     let a = l.before.args in
-    sym (sym l.loop.invariant.1 ∙ has_from a.x a.l.now l.loop.i (omega arith) ∙ rw (eq-eqb a.x _ (sym c.if1.true)))
+    sym (sym l.loop-i.invariant.1 ∙ has_from a.x a.l.now l.loop-i.i (omega arith) ∙ rw (eq-eqb a.x _ (sym c.if-l-i.true)))
 
-loop-again : tie.Need-loop-preserved invariant-loop decreases-loop
+loop-again : tie.Need-loop-i-preserved invariant-loop decreases-loop
 loop-again c =
     let l = c.before.before.before in
     let a = l.before.args in (
       omega arith,
-      sym (rw (ne_eqb a.x _ (λ q. c.if1.false (sym q))) at (has_from a.x a.l.now l.loop.i (omega arith))) ∙ l.loop.invariant.1,
+      sym (rw (ne_eqb a.x _ (λ q. c.if-l-i.false (sym q))) at (has_from a.x a.l.now l.loop-i.i (omega arith))) ∙ l.loop-i.invariant.1,
     )
 
-returns-2 : tie.Need-returns-2 invariant-loop decreases-loop
+returns-2 : tie.Need-returns invariant-loop decreases-loop
 returns-2 c =
     let l = c.before in
-    let a = l.before.args in sym (sym l.loop.invariant.1 ∙ has_end a.x a.l.now l.loop.i (omega arith))
+    let a = l.before.args in sym (sym l.loop-i.invariant.1 ∙ has_end a.x a.l.now l.loop-i.i (omega arith))
 
 pub among_spec : {M : Type 1} → statement M
 among_spec =

@@ -26,25 +26,25 @@ module _ (c : tie.Start) where
   halves : (length out ≡ table_length 8 width → ⊥) → (width ≡ ipv6_width) × (length out ≡ table_length 4 (2 * width))
   halves = half_length (length out) width c.requires.1
 
-fill-by-half-requires : tie.Need-fill-by-half-requires
+fill-by-half-requires : tie.Need-fill_by_half-requires
 fill-by-half-requires c κs =
-    let is = halves c.before.before.before c.before.if1.false in omega arith
+    let is = halves c.before.before.before c.before.if-out-width.false in omega arith
 
-returns : tie.Need-returns
+returns : tie.Need-returns-then-out-width
 returns c =
     let filled = c.before.before in
     let start = filled.before.before.before.before in
-    filled.fill_by_byte.ensures ∙ sym (lent_by_byte (width start) (length (out start)) filled.before.before.if1.true)
+    filled.fill_by_byte.ensures ∙ sym (lent_by_byte (width start) (length (out start)) filled.before.before.if-out-width.true)
 
-returns-2 : tie.Need-returns-2
+returns-2 : tie.Need-returns-else-out-width
 returns-2 c =
     let filled = c.before.before in
     let start = filled.before.before.before.before in
-    let other = filled.before.before.if1.false in
+    let other = filled.before.before.if-out-width.false in
     filled.fill_by_half.ensures
     ∙ sym (lent_by_half (width start) (length (out start)) other ∙ ap (λ (w : ℕ). table_entries 4 (2 * w)) (halves start other).0)
 
 pub fill_table_spec : {M : Type 1} → statement M
 fill_table_spec =
-    tie.close (tie.spec (λ c. let h = few c.before in search rules) (λ c κs. (few c.before.before.before, c.before.if1.true)) fill-by-half-requires
+    tie.close (tie.spec (λ c. let h = few c.before in search rules) (λ c κs. (few c.before.before.before, c.before.if-out-width.true)) fill-by-half-requires
     (λ c. search rules) returns (λ c. search rules) returns-2)

@@ -15,27 +15,27 @@ record Passed (h j m b rest : ℕ) (seen : Bool) (i : ℕ) : Type 0 where
   rest_is : rest ≡ h / 2 ^ (16 * i)
   so_far : (seen || has b (hashes m h i j)) ≡ has b (hashes m h 0 j)
 
-abbrev invariant-loop : tie.invariant-loop
+abbrev invariant-loop : tie.invariant-loop-i
 invariant-loop h j m b rest₀ seen₀ i₀ rest seen i = Passed h j m b rest seen i
 
-abbrev decreases-loop : tie.decreases-loop
+abbrev decreases-loop : tie.decreases-loop-i
 decreases-loop h j m b rest₀ seen₀ i₀ rest seen i = j - i
 
-loop-again : tie.Need-loop-preserved invariant-loop decreases-loop
+loop-again : tie.Need-loop-i-preserved invariant-loop decreases-loop
 loop-again c =
     let args = c.before.before.args in
-    let loop = c.before.loop in
+    let loop = c.before.loop-i in
     let is_hash = rest_hash args.m _ _ _ loop.invariant.rest_is in
     record {
       within = omega arith;
       rest_is = rest_next _ _ _ loop.invariant.rest_is;
-      so_far = any_again _ _ _ _ (eqb args.b) loop.seen loop.invariant.so_far _ is_hash c.loop-test.true;
+      so_far = any_again _ _ _ _ (eqb args.b) loop.seen loop.invariant.so_far _ is_hash c.loop-i-test.true;
     }
 
 returns : tie.Need-returns invariant-loop decreases-loop
 returns c =
-    let loop = c.before.loop in
-    any_end _ _ _ _ (eqb c.before.before.args.b) loop.seen loop.invariant.so_far c.loop-test.false
+    let loop = c.before.loop-i in
+    any_end _ _ _ _ (eqb c.before.before.args.b) loop.seen loop.invariant.so_far c.loop-i-test.false
 
 pub repeats_spec : {M : Type 1} → statement M
 repeats_spec =

@@ -11,14 +11,14 @@ use Rattle.hash.proofs.LentTableLaws.{length_allowed, length_allowed_13}
 use Rattle.hash.proofs.table_length_right.Statement.{statement}
 use Rattle.hash.proofs.table_length_right.Tie as tie
 
-returns : tie.Need-returns
-returns c = length_allowed_13 c.before.args.length c.before.args.width c.if1.true
+returns : tie.Need-returns-then-width-eq-IPV4_WIDTH
+returns c = length_allowed_13 c.before.args.length c.before.args.width c.if-width-eq-IPV4_WIDTH.true
 
-returns-2 : tie.Need-returns-2
+returns-2 : tie.Need-returns
 returns-2 c =
     let n = c.before.args.length in
     let w = c.before.args.width in
-    let wide : w ≡ ipv6_width = ⊎_elim (λ e. absurd (c.if1.false e)) (λ e. e) c.before.requires in
+    let wide : w ≡ ipv6_width = ⊎_elim (λ e. absurd (c.if-width-eq-IPV4_WIDTH.false e)) (λ e. e) c.before.requires in
     let half : w * 32 ≡ table_length 4 (2 * w) = omega arith in
     sym (length_allowed n w ∙ rw (eq-eqb w ipv6_width wide, ← half))
 

@@ -59,7 +59,7 @@ module _ (c : tie.After-record-size) where
       let counted = counted ordered in
       let start = start counted in
       subst (λ (z : ℕ). 2 + z * n counted ≤ length (area start)) (sym c.record_size.ensures)
-      (room_for (the_card start) (area start) start.pre.1 (n counted) (few counted))
+      (room_for (the_card start) (area start) start.requires.1 (n counted) (few counted))
 
 returns : tie.Need-returns
 returns c =
@@ -71,7 +71,7 @@ keys-rise-requires : tie.Need-keys-rise-requires
 keys-rise-requires c κs =
     let counted = c.before.before in
     let start = start counted in
-    rw (tail_is 2 (area start) (has_two start), c.width.ensures) (records_room (the_card start) (area start) start.pre.1 (n counted) (few counted))
+    rw (tail_is 2 (area start) (has_two start), c.width.ensures) (records_room (the_card start) (area start) start.requires.1 (n counted) (few counted))
 
 returns-2 : tie.Need-returns-2
 returns-2 c =

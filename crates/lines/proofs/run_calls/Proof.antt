@@ -53,7 +53,7 @@ module _ (c : tie.After-call-end invariant-loop decreases-loop) where
   piece : lists.take (c.call-end.result - loop.loop.from) (lists.drop loop.loop.from input) ≡ lists.take 18 (lists.drop (18 * loop.loop.i) input)
   piece =
       ap (λ (m : ℕ). lists.take (m - loop.loop.from) (lists.drop loop.loop.from input)) c.call-end.ensures
-      ∙ call_bytes loop.loop.from loop.loop.i input loop.loop.inv.from_is (omega (arith, loop.loop.inv.from_is))
+      ∙ call_bytes loop.loop.from loop.loop.i input loop.loop.invariant.from_is (omega (arith, loop.loop.invariant.from_is))
 
 loop-holds : tie.Need-loop-init invariant-loop decreases-loop
 loop-holds c =

@@ -33,13 +33,13 @@ module _ (c : tie.After-has-ports) where
   destination_is = destination.copy2.ensures
 
   source_long : length source.copy.last.0 ≡ 4
-  source_long = ap length source_is ∙ simp (length-take, length-drop) (omega (arith, start.pre.0.header.fixed))
+  source_long = ap length source_is ∙ simp (length-take, length-drop) (omega (arith, start.requires.0.header.fixed))
 
   abbrev end : ℕ
   end = c.before.before.header_length.result
 
   lent : take (length packet - end) (drop end packet) ≡ after_header packet
-  lent = after_lent packet end c.before.before.header_length.ensures start.pre.0.header.within
+  lent = after_lent packet end c.before.before.header_length.ensures start.requires.0.header.within
 
 returns : tie.Need-returns
 unfolding packet_key ports
@@ -59,5 +59,5 @@ write_key_spec =
     (λ c. search rules) (λ c. search rules) (λ c κs. simp (length-take, length-drop) (omega arith)) (λ c. search rules) (λ c. search rules)
     (λ c. search rules) (λ c. search rules) (λ c. search rules) (λ c. search rules) (λ c κs. search rules) (λ c κs. search rules) (λ c. search rules)
     (λ c. search rules) (λ c. search rules) (λ c κs. search rules) (λ c. search rules) (λ c. search rules) (λ c. search rules)
-    (λ c κs. (rw (c.before.has_ports.ensures, lent c.before) (start c.before).pre.0.ports, search rules))
+    (λ c κs. (rw (c.before.has_ports.ensures, lent c.before) (start c.before).requires.0.ports, search rules))
     (λ c κs. search rules) (λ c. search rules) (λ c. simp length-set (omega arith)) returns)

@@ -24,7 +24,7 @@ module _ (c : tie.After-zero-counts) where
   zeros = c.zero-counts.new.0
 
   long : m ≤ length zeros
-  long = omega (arith, c.zero-counts.auto.0, start.pre.halves)
+  long = omega (arith, c.zero-counts.auto.0, start.requires.halves)
 
   half : length (take m zeros) ≡ m
   half = length-take-le m zeros long
@@ -66,7 +66,7 @@ choose-parts-requires : tie.Need-choose-parts-requires
 choose-parts-requires c κs =
     let counted = c.before.before.before.before in
     let whole = zeroed counted in
-    let p = (start whole).pre in (
+    let p = (start whole).requires in (
       record {
         ready = p.ready;
         buckets = p.buckets;

@@ -30,7 +30,7 @@ module _ (c : tie.After-place-parts-arg) where
   s = card start.args.s
 
   lent_long : length (take start.args.count start.args.kept.now) ≡ start.args.count
-  lent_long = length-take-le start.args.count start.args.kept.now start.pre.choices
+  lent_long = length-take-le start.args.count start.args.kept.now start.requires.choices
 
 -- ---- the records are placed
 module _ (c : tie.After-place-parts) where
@@ -44,7 +44,7 @@ module _ (c : tie.After-place-parts) where
   choices = c.place_parts.new.1.1.1.1.1.1.1.1.1.1.0
 
   kept_back : FrontBack e.args.count e.args.kept.now choices
-  kept_back = front_back e.pre.choices c.place_parts.auto.1.1.1.1.1.1.1.1.1.1.0
+  kept_back = front_back e.requires.choices c.place_parts.auto.1.1.1.1.1.1.1.1.1.1.0
 
   placed : Placed (s at) e.args.m (records (s at).width e.args.count e.args.area.now) c.place_parts.new.1.1.1.0
       (take e.args.count (choices ++ drop e.args.count e.args.kept.now))
@@ -72,7 +72,7 @@ place-parts-requires c κs =
 side-need-requires : tie.Need-side-need-requires
 side-need-requires c κs =
     let place = placing c.before in
-    let pre = (e place).pre in
+    let pre = (e place).requires in
     let right = sound (paper (e place).args.s) pre.ready.ok in
     (pre.ready.ok, pre.buckets, place.place_parts.kept.1.1.1.0 ∙ pre.halves, kept_within right pre.buckets (placed place))
 

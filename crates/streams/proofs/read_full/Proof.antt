@@ -25,7 +25,7 @@ module _ (c : tie.After-known-told invariant-loop decreases-loop) where
   more : (0 < c.before.n.given.0.0) × (read.before.before.before.loop.done + c.before.n.given.0.0 ≤ length read.read_after.last.0)
   more =
       let n = came _ _ read.read_after.ensures.0 _ c.before.n.given.1 in
-      (n.0, omega (arith, n.1, kept, read.before.before.before.loop.inv.1))
+      (n.0, omega (arith, n.1, kept, read.before.before.before.loop.invariant.1))
 
 -- ---- the input has ended
 returns-2 : tie.Need-returns-2 invariant-loop decreases-loop

@@ -13,7 +13,7 @@ module _ (c : tie.After-sum-marks) where
   start = c.before.before.before.before
 
   bound : Bounds (paper start.args.s)
-  bound = bounds (paper start.args.s) start.pre.0.ok
+  bound = bounds (paper start.args.s) start.requires.0.ok
 
 returns : tie.Need-returns
 unfolding counted_totals
@@ -27,7 +27,7 @@ pub count_all_spec : {M : Type 1} → statement M
 count_all_spec =
     tie.close (tie.spec (λ c κs. let pre = c.before.before.before.requires in (pre.0.ok, pre.0.buckets_size))
     (λ c κs. omega (arith, (start c).requires.0.side_size, (bound c).side_least)) (λ c. search rules)
-    (λ c κs. omega (arith, (start c.before).pre.1, (bound c.before).ledger_least)) (λ c κs. (start c.before.before).pre.0.ok)
+    (λ c κs. omega (arith, (start c.before).requires.1, (bound c.before).ledger_least)) (λ c κs. (start c.before.before).requires.0.ok)
     (λ c κs. let b = bound c.before.before.before in record {
       few = omega (arith, c.before.count-at2.ensures.1);
       least = omega (arith, c.buckets.ensures);

@@ -35,10 +35,10 @@ counter-requires c κs =
 returns : tie.Need-returns invariant-loop decreases-loop
 returns c =
     let at = turn c.before in
-    rw (← at.before.before.buckets.ensures, any_hit at.before.loop.inv at.loop-test.taken (passes c.before ∙ c.if1.true))
+    rw (← at.before.before.buckets.ensures, any_hit at.before.loop.invariant at.loop-test.taken (passes c.before ∙ c.if1.true))
 
 pub counters_valid_spec : {M : Type 1} → statement M
 counters_valid_spec =
     tie.close (tie.spec invariant-loop decreases-loop (λ c κs. c.before.requires.0) (λ c. any_start) counter-requires (λ c κs. search rules) returns (λ c. omega arith)
-    (λ c. omega arith) (λ c. let at = turn c.before in any_on at.before.loop.inv at.loop-test.taken (passes c.before ∙ c.if1.false))
+    (λ c. omega arith) (λ c. let at = turn c.before in any_on at.before.loop.invariant at.loop-test.taken (passes c.before ∙ c.if1.false))
     (λ c. rw (← c.before.before.buckets.ensures, any_over c.before.loop.invariant c.loop-test.false)))

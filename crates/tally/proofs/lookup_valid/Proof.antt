@@ -39,4 +39,4 @@ returns-3 c =
 pub lookup_valid_spec : {M : Type 1} → statement M
 lookup_valid_spec =
     tie.close (tie.spec (λ c κs. search rules) returns (λ c κs. search rules) returns-2
-    (λ c κs. let pre = (start c.before).pre in omega (arith, pre.side_size, (bounds _ pre.ok).side_least)) returns-3)
+    (λ c κs. let pre = (start c.before).requires in omega (arith, pre.side_size, (bounds _ pre.ok).side_least)) returns-3)

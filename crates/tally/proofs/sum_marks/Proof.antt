@@ -40,7 +40,7 @@ module _ (c : tie.After-bucket-size invariant-loop decreases-loop) where
   start = c.before.before.before
 
   rows : Rows (paper start.args.s) start.args.buckets.now c.before.buckets.result c.bucket_size.result
-  rows = record { ok = start.pre.0; long = start.pre.1; m_is = c.before.buckets.ensures; size_is = c.bucket_size.ensures }
+  rows = record { ok = start.requires.0; long = start.requires.1; m_is = c.before.buckets.ensures; size_is = c.bucket_size.ensures }
 
 with-mark-requires : tie.Need-with-mark-requires invariant-loop decreases-loop
 with-mark-requires c κs =

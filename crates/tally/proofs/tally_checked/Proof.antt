@@ -55,4 +55,4 @@ returns-3 c = let judged = c.before.before in rw (c.count-all.ensures, rules jud
 pub tally_checked_spec : {M : Type 1} → statement M
 tally_checked_spec =
     tie.close (tie.spec (λ c κs. search rules) (λ c κs. search rules) returns (λ c κs. search rules) (λ c κs. search rules) returns-2
-    (λ c κs. let pre = (start (at c.before)).pre in (places_of pre.0, pre.1)) returns-3)
+    (λ c κs. let pre = (start (at c.before)).requires in (places_of pre.0, pre.1)) returns-3)

@@ -22,10 +22,10 @@ returns c =
     let trial = trial line in
     let told = trial.run-trial.ensures in
     tells (start trial).args.left _ (start trial).args.settings.now told.0 told.1 line.append-line.ensures.0
-    (omega (arith, line.append-line.ensures.1, line.append-line.auto.0, (start trial).pre.2)) refl refl
+    (omega (arith, line.append-line.ensures.1, line.append-line.auto.0, (start trial).requires.2)) refl refl
 
 pub tell_next_spec : {M : Type 1} → statement M
 tell_next_spec =
     tie.close (tie.spec (λ c κs. search rules) (λ c κs. search rules)
-    (λ c. omega (arith, (start (trial c.before.before.before)).pre.0.number)) (λ c. search rules) (λ c. search rules)
+    (λ c. omega (arith, (start (trial c.before.before.before)).requires.0.number)) (λ c. search rules) (λ c. search rules)
     (λ c. search rules) (λ c. search rules) (λ c. search rules) (λ c. search rules) (λ c. search rules) returns)

@@ -15,7 +15,7 @@ module _ (c : tie.After-new-buffer) where
   start = c.before.before
 
   lent : length (take start.args.size c.new_buffer.result) ≡ start.args.size
-  lent = length-take-le start.args.size c.new_buffer.result (omega (arith, c.new_buffer.ensures, start.pre.1))
+  lent = length-take-le start.args.size c.new_buffer.result (omega (arith, c.new_buffer.ensures, start.requires.1))
 
 returns : tie.Need-returns
 returns c =
@@ -31,5 +31,5 @@ returns c =
 
 pub record_of_spec : {M : Type 1} → statement M
 record_of_spec =
-    tie.close (tie.spec (λ c κs. search rules) (λ c. search rules) (λ c. sym (lent c.before)) (λ c κs. lent c.before ∙ (start c.before).pre.0)
+    tie.close (tie.spec (λ c κs. search rules) (λ c. search rules) (λ c. sym (lent c.before)) (λ c κs. lent c.before ∙ (start c.before).requires.0)
     returns)

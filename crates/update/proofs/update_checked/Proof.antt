@@ -38,10 +38,10 @@ module _ (c : tie.After-record-size) where
   wide = c.before.before.if1.false ∙ asked.width.ensures
 
   small : c.record_size.result ≤ 64
-  small = omega (arith, c.record_size.ensures, (bounds (t asked) (start asked).pre.ready.ok).record_most)
+  small = omega (arith, c.record_size.ensures, (bounds (t asked) (start asked).requires.ready.ok).record_most)
 
   halves : length e.args.work.now ≡ m + m
-  halves = omega (arith, e.pre.words, c.before.buckets.ensures, work_length_is (t asked))
+  halves = omega (arith, e.requires.words, c.before.buckets.ensures, work_length_is (t asked))
 
 -- ---- its record is written at the start of a buffer
 module _ (c : tie.After-record-of) where
@@ -78,7 +78,7 @@ good c = c.before.before.before.before.before.before.before
 judge-requires : tie.Need-judge-requires
 judge-requires c κs =
     let opened = c.before.before.before.before in
-    let pre = (e opened.before).pre in
+    let pre = (e opened.before).requires in
     let t = t (asked opened.before) in
     record {
       ready = pre.ready;
@@ -100,12 +100,12 @@ write-new-requires c κs =
     let good = good c.before in
     let judge = judged good in
     record {
-      ok = (here good).pre.ready.ok;
+      ok = (here good).requires.ready.ok;
       buckets = (sized judge).before.buckets.ensures;
       halves = judge.judge.kept.1.1.1.0 ∙ halves (sized judge);
       wide = wide (sized judge);
       written = (opened judge).record_of.ensures.0;
-      sized = (here good).pre.sized;
+      sized = (here good).requires.sized;
       planned = planned good;
     }
 

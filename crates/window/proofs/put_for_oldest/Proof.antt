@@ -26,7 +26,7 @@ module _ (c : tie.After-raise) where
   placed = c.before.before.before.before
 
   long : length c.raise.new.0 ≡ window_length
-  long = c.raise.auto.0 ∙ simp length-set (start placed).pre.0
+  long = c.raise.auto.0 ∙ simp length-set (start placed).requires.0
 
 module _ (c : tie.After-raise2) where
   abbrev one : tie.After-raise
@@ -63,7 +63,7 @@ raise-requires c κs =
 raise-requires-2 : tie.Need-raise-requires-2
 raise-requires-2 c κs =
     let one = c.before.before.before.before.before in
-    let fits = (start (placed one)).pre.1 in
+    let fits = (start (placed one)).requires.1 in
     (omega (arith, long one), omega (arith, fits.side))
 
 raise-requires-3 : tie.Need-raise-requires-3
@@ -73,7 +73,7 @@ raise-requires-3 c κs =
 raise-requires-4 : tie.Need-raise-requires-4
 raise-requires-4 c κs =
     let three = c.before.before.before.before in
-    let fits = (start (placed (one (two three)))).pre.1 in
+    let fits = (start (placed (one (two three)))).requires.1 in
     (omega (arith, long3 three, fits.compared), omega arith)
 
 returns : tie.Need-returns
@@ -94,4 +94,4 @@ put_for_oldest_spec =
     (λ c. search rules) (λ c. search rules) (λ c κs. search rules) (λ c κs. search rules) (λ c. search rules) (λ c. search rules) (λ c. search rules)
     (λ c. search rules) (λ c. search rules) (λ c. search rules) (λ c. search rules) (λ c. search rules) raise-requires (λ c. search rules)
     (λ c. search rules) raise-requires-2 (λ c. search rules) (λ c. search rules) raise-requires-3 (λ c. search rules) (λ c. search rules) raise-requires-4
-    (λ c. omega (arith, long4 c.before.before, (start (placed (one (two (three c.before.before))))).pre.0)) returns)
+    (λ c. omega (arith, long4 c.before.before, (start (placed (one (two (three c.before.before))))).requires.0)) returns)

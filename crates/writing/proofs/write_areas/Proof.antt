@@ -43,12 +43,12 @@ at_clipped c = at_counts c.before.before.before.before.before
 
 copy-counts-requires : tie.Need-copy-counts-requires
 copy-counts-requires c κs =
-    let e = at_counts c in e.pre.3 ∙ true_length_is (t e) ∙ sym (laying e).buckets ∙ sym (half_length e)
+    let e = at_counts c in e.requires.3 ∙ true_length_is (t e) ∙ sym (laying e).buckets ∙ sym (half_length e)
 
 write-clipped-requires : tie.Need-write-clipped-requires
 write-clipped-requires c κs =
     let e = at_clipped c in
-    ((ranges (t e) (laying e).ok).top_high, omega (arith, half_length e, e.pre.4, (laying e).buckets, clipped_length_is (t e)))
+    ((ranges (t e) (laying e).ok).top_high, omega (arith, half_length e, e.requires.4, (laying e).buckets, clipped_length_is (t e)))
 
 returns : tie.Need-returns
 returns c =
@@ -59,7 +59,7 @@ returns c =
     let worked = (laying e).placed.worked in
     let all = clipped_all (card_of (t e)) (nth (take e.args.m (work e))) e.args.s.top (length e.args.clipped.now) (sym (top_is (t e))) in (
       counts.copy_counts.ensures ∙ true_counts_are _ _ _ _ worked (laying e).buckets (half e),
-      clipped.write_clipped.ensures ∙ all (e.pre.4 ∙ clipped_length_is (t e))
+      clipped.write_clipped.ensures ∙ all (e.requires.4 ∙ clipped_length_is (t e))
           ∙ ap (counter_bytes (card_of (t e))) (counts_are _ _ _ _ worked),
       buckets.write_buckets.ensures,
       c.before.before.write_side.ensures,

@@ -14,8 +14,8 @@ returns c =
     let c3 = c4.before in
     let c2 = c3.before in
     let c1 = c2.before in
-    rw (c1.if_set.ensures, c2.if-set2.ensures, c3.if-set3.ensures, c4.if-set4.ensures)
-    (rw (c5.if-set5.ensures, c6.if-set6.ensures, c7.if-set7.ensures, c.if-set8.ensures, xor_zero_r))
+    rw (c1.if_set.ensures, c2.if_set-2.ensures, c3.if_set-3.ensures, c4.if_set-4.ensures)
+    (rw (c5.if_set-5.ensures, c6.if_set-6.ensures, c7.if_set-7.ensures, c.if_set-8.ensures, xor_zero_r))
 
 pub byte_rows_spec : {M : Type 1} → statement M
 byte_rows_spec = tie.close (tie.spec (λ c κs. tt) (λ c κs. tt) (λ c κs. tt) (λ c κs. tt) (λ c κs. tt) (λ c κs. tt) (λ c κs. tt) (λ c κs. tt) returns)

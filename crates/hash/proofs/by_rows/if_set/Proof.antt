@@ -14,5 +14,5 @@ unfolding if_set
 set zero r n = absurd (n refl)
 set (suc b) r n = refl
 
-pub if-set-spec : {M : Type 1} → statement M
-if-set-spec = tie.close (tie.spec (λ c. unset _ _ c.if1.true) (λ c. set _ _ c.if1.false))
+pub if_set_spec : {M : Type 1} → statement M
+if_set_spec = tie.close (tie.spec (λ c. unset _ _ c.if-bits-eq0.true) (λ c. set _ _ c.if-bits-eq0.false))

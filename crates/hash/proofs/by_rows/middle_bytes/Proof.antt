@@ -10,7 +10,7 @@ use Rattle.hash.proofs.by_rows.middle_bytes.Statement.{statement}
 use Rattle.hash.proofs.by_rows.middle_bytes.Tie as tie
 
 -- ---- eight bytes are done
-abbrev start : tie.After-shared-slice-known10 → tie.Start
+abbrev start : tie.After-shared_slice_known-10-1 → tie.Start
 start c =
     let half = c.before.before.before.before.before.before.before.before.before in
     half.before.before.before.before.before.before.before.before.before
@@ -20,24 +20,24 @@ unfolding rows
 returns c =
     let s = start c.before.before.before.before.before.before.before in
     let key = s.args.key.now in
-    byte_more ipv4_width 12 key s.pre (lit≤ tt) 0 (lit< tt) c.byte-rows12.ensures (let c = c.before.before in
-    byte_more ipv4_width 12 key s.pre (lit≤ tt) 1 (lit< tt) c.byte-rows11.ensures (let c = c.before.before in
-    byte_more ipv4_width 12 key s.pre (lit≤ tt) 2 (lit< tt) c.byte-rows10.ensures (let c = c.before.before in
-    byte_more ipv4_width 12 key s.pre (lit≤ tt) 3 (lit< tt) c.byte-rows9.ensures (let c = c.before.before in
-    byte_more ipv4_width 12 key s.pre (lit≤ tt) 4 (lit< tt) c.byte-rows8.ensures (let c = c.before.before in
-    byte_more ipv4_width 12 key s.pre (lit≤ tt) 5 (lit< tt) c.byte-rows7.ensures (let c = c.before.before in
-    byte_more ipv4_width 12 key s.pre (lit≤ tt) 6 (lit< tt) c.byte-rows6.ensures (let c = c.before.before in
-    byte_more ipv4_width 12 key s.pre (lit≤ tt) 7 (lit< tt) c.byte-rows5.ensures (let c = c.before.before in
-    byte_more ipv4_width 12 key s.pre (lit≤ tt) 8 (lit< tt) c.byte-rows4.ensures (let c = c.before.before in
-    byte_more ipv4_width 12 key s.pre (lit≤ tt) 9 (lit< tt) c.byte-rows3.ensures (let c = c.before.before in
-    byte_more ipv4_width 12 key s.pre (lit≤ tt) 10 (lit< tt) c.byte-rows2.ensures (let c = c.before.before in
-    byte_last ipv4_width 12 key s.pre (lit≤ tt) 11 refl c.byte_rows.ensures)))))))))))
+    byte_more ipv4_width 12 key s.requires (lit≤ tt) 0 (lit< tt) c.byte_rows-11.ensures (let c = c.before.before in
+    byte_more ipv4_width 12 key s.requires (lit≤ tt) 1 (lit< tt) c.byte_rows-10.ensures (let c = c.before.before in
+    byte_more ipv4_width 12 key s.requires (lit≤ tt) 2 (lit< tt) c.byte_rows-9.ensures (let c = c.before.before in
+    byte_more ipv4_width 12 key s.requires (lit≤ tt) 3 (lit< tt) c.byte_rows-8.ensures (let c = c.before.before in
+    byte_more ipv4_width 12 key s.requires (lit≤ tt) 4 (lit< tt) c.byte_rows-7.ensures (let c = c.before.before in
+    byte_more ipv4_width 12 key s.requires (lit≤ tt) 5 (lit< tt) c.byte_rows-6.ensures (let c = c.before.before in
+    byte_more ipv4_width 12 key s.requires (lit≤ tt) 6 (lit< tt) c.byte_rows-5.ensures (let c = c.before.before in
+    byte_more ipv4_width 12 key s.requires (lit≤ tt) 7 (lit< tt) c.byte_rows-4.ensures (let c = c.before.before in
+    byte_more ipv4_width 12 key s.requires (lit≤ tt) 8 (lit< tt) c.byte_rows-3.ensures (let c = c.before.before in
+    byte_more ipv4_width 12 key s.requires (lit≤ tt) 9 (lit< tt) c.byte_rows-2.ensures (let c = c.before.before in
+    byte_more ipv4_width 12 key s.requires (lit≤ tt) 10 (lit< tt) c.byte_rows.ensures (let c = c.before.before in
+    byte_last ipv4_width 12 key s.requires (lit≤ tt) 11 refl c.byte_rows-h.ensures)))))))))))
 
 pub middle_bytes_spec : {M : Type 1} → statement M
 middle_bytes_spec =
     tie.close (tie.spec (λ c. search rules) (λ c κs. tt) (λ c. search rules) (λ c κs. tt) (λ c. search rules) (λ c κs. tt) (λ c. search rules) (λ c κs. tt)
     (λ c. search rules) (λ c κs. tt) (λ c. search rules) (λ c κs. tt) (λ c. search rules) (λ c κs. tt) (λ c. search rules) (λ c κs. tt)
-    (λ c. omega (arith, (start c).requires)) (λ c κs. tt)
-    (λ c. omega (arith, (start c.before.before).requires)) (λ c κs. tt)
-    (λ c. omega (arith, (start c.before.before.before.before).requires)) (λ c κs. tt)
-    (λ c. omega (arith, (start c.before.before.before.before.before.before).requires)) (λ c κs. tt) returns)
+    (λ c. omega arith) (λ c κs. tt)
+    (λ c. omega arith) (λ c κs. tt)
+    (λ c. omega arith) (λ c κs. tt)
+    (λ c. omega arith) (λ c κs. tt) returns)

@@ -10,26 +10,26 @@ use Rattle.hash.proofs.KeyHashLaws.{halves_more, halves_end}
 use Rattle.hash.proofs.by_table.by_halves.Statement.{statement}
 use Rattle.hash.proofs.by_table.by_halves.Tie as tie
 
-abbrev invariant-loop : tie.invariant-loop
+abbrev invariant-loop : tie.invariant-loop-i
 invariant-loop t key h₀ i₀ h i = (i ≤ length key) × (bit_xor h (H_by_from 4 t (2 * i) (halves (drop i key))) ≡ H_by_from 4 t 0 (halves key))
 
-abbrev decreases-loop : tie.decreases-loop
+abbrev decreases-loop : tie.decreases-loop-i
 decreases-loop t key h₀ i₀ h i = length key - i
 
-loop-again : tie.Need-loop-preserved invariant-loop decreases-loop
+loop-again : tie.Need-loop-i-preserved invariant-loop decreases-loop
 loop-again c =
     let test = c.before.before.before.before in
-    let l = test.before.loop in
+    let l = test.before.loop-i in
     let a = test.before.before.before.before.args in (
       omega arith,
-      rw c.before.before.wide.ensures.0 (halves_more a.table.now a.key.now l.i l.h _ test.loop-test.true l.invariant.1),
+      rw c.before.before.wide-v.ensures.0 (halves_more a.table.now a.key.now l.i l.h _ test.loop-i-test.true l.invariant.1),
     )
 
 returns : tie.Need-returns invariant-loop decreases-loop
 returns c =
     let a = c.before.before.before.before.args in
-    let l = c.before.loop in
-    halves_end a.table.now a.key.now l.i l.h _ c.loop-test.false l.invariant.1
+    let l = c.before.loop-i in
+    halves_end a.table.now a.key.now l.i l.h _ c.loop-i-test.false l.invariant.1
 
 pub by_halves_spec : {M : Type 1} → statement M
 by_halves_spec =

@@ -7,5 +7,5 @@ use Rattle.hash.proofs.made.made_length.Tie as tie
 
 pub made_length_spec : {M : Type 1} → statement M
 made_length_spec =
-    tie.close (tie.spec (λ c. sym (length_by_byte c.if1.true))
-    (λ c. sym (length_by_half (⊎_elim (λ e. absurd (c.if1.false e)) (λ e. e) c.before.requires))))
+    tie.close (tie.spec (λ c. sym (length_by_byte c.if-width-eq-IPV4_WIDTH.true))
+    (λ c. sym (length_by_half (⊎_elim (λ e. absurd (c.if-width-eq-IPV4_WIDTH.false e)) (λ e. e) c.before.requires))))

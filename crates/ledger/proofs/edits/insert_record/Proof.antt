@@ -22,11 +22,11 @@ module _ (c : tie.After-record-size) where
 
   place : Place start.args.s start.args.ledger.now c.record_size.result c.before.count_at.result start.args.at
   place = record {
-    ledger = start.pre.0;
+    ledger = start.requires.0;
     bytes = bytes_of start.args.ledger.now c.before.before.before.before.slice-known.given;
     size_is = c.record_size.ensures;
     count = c.before.count_at.ensures.0;
-    within = start.pre.2;
+    within = start.requires.2;
   }
 
 -- ---- the gap is open
@@ -35,7 +35,7 @@ module _ (c : tie.After-open-gap) where
   sized = c.before.before
 
   room_left : from sized + sized.record_size.result ≤ length c.open-gap.new.0
-  room_left = omega (arith, insert_room (place sized) (start sized).pre.1, c.open-gap.auto.0)
+  room_left = omega (arith, insert_room (place sized) (start sized).requires.1, c.open-gap.auto.0)
 
 write-number-requires : tie.Need-write-number-requires
 write-number-requires c κs =
@@ -45,7 +45,7 @@ write-number-requires c κs =
     let start = start sized in (
       two_kept (from sized) (from sized + sized.record_size.result - from sized) opened.open-gap.new.0 copied.copy.new.0 (omega arith)
           (omega (arith, room_left opened)),
-      omega (arith, count_listed (place sized), start.pre.1, (sound (paper start.args.s) start.pre.0.permitted).capacity_small),
+      omega (arith, count_listed (place sized), start.requires.1, (sound (paper start.args.s) start.requires.0.permitted).capacity_small),
     )
 
 returns : tie.Need-returns
@@ -54,7 +54,7 @@ returns c = λ x q.
     let opened = copied.before.before.before.before in
     let sized = sized opened in
     c.before.before.write_number.ensures
-    ∙ insert_written (place sized) (start sized).pre.1 _ _ opened.open-gap.ensures x (q ∙ sym copied.copy.ensures)
+    ∙ insert_written (place sized) (start sized).requires.1 _ _ opened.open-gap.ensures x (q ∙ sym copied.copy.ensures)
 
 pub insert_record_spec : {M : Type 1} → statement M
 insert_record_spec =
@@ -62,5 +62,5 @@ insert_record_spec =
     (λ c κs. search rules) (λ c. omega (arith, insert_room (place c) (start c).requires.1)) (λ c. omega (arith, insert_room (place c) (start c).requires.1))
     (λ c. omega (arith, insert_room (place c) (start c).requires.1)) (λ c. omega (arith, insert_room (place c) (start c).requires.1))
     (λ c. omega (arith, insert_room (place c) (start c).requires.1))
-    (λ c κs. let room = insert_room (place c.before) (start c.before).pre.1 in (omega arith, room.1)) (λ c. search rules) (λ c. search rules)
+    (λ c κs. let room = insert_room (place c.before) (start c.before).requires.1 in (omega arith, room.1)) (λ c. search rules) (λ c. search rules)
     (λ c. omega (arith, room_left c.before.before)) (λ c κs. search rules) (λ c. search rules) write-number-requires (λ c. search rules) returns)

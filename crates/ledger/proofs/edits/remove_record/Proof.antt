@@ -21,11 +21,11 @@ module _ (c : tie.After-record-size) where
 
   place : Place start.args.s start.args.ledger.now c.record_size.result c.before.count_at.result start.args.at
   place = record {
-    ledger = start.pre.0;
+    ledger = start.requires.0;
     bytes = bytes_of start.args.ledger.now c.before.before.before.slice-known.given;
     size_is = c.record_size.ensures;
     count = c.before.count_at.ensures.0;
-    within = omega (arith, start.pre.1);
+    within = omega (arith, start.requires.1);
   }
 
 -- ---- the gap is closed
@@ -34,12 +34,12 @@ module _ (c : tie.After-close-gap) where
   sized = c.before.before
 
   room_left : end sized ≤ length c.close-gap.new.0
-  room_left = omega (arith, remove_room (place sized) (start sized).pre.1, c.close-gap.auto.0)
+  room_left = omega (arith, remove_room (place sized) (start sized).requires.1, c.close-gap.auto.0)
 
 sub_write_number : tie.Need-overflow_sub-write-number
 sub_write_number c =
     let sized = sized c.before.before.before.before.before.before.before in
-    omega (arith, count_listed (place sized), (start sized).pre.1)
+    omega (arith, count_listed (place sized), (start sized).requires.1)
 
 write-number-requires : tie.Need-write-number-requires
 write-number-requires c κs =
@@ -48,7 +48,7 @@ write-number-requires c κs =
     let sized = sized closed in
     let size : ℕ = sized.record_size.result in (
       two_kept (end sized - size) (end sized - (end sized - size)) closed.close-gap.new.0 cleared.zero_fill.new.0
-          (omega (arith, remove_room (place sized) (start sized).pre.1)) (omega (arith, room_left closed)),
+          (omega (arith, remove_room (place sized) (start sized).requires.1)) (omega (arith, room_left closed)),
       omega (arith, sized.before.count_at.ensures.1),
     )
 
@@ -58,7 +58,7 @@ returns c =
     let closed = cleared.before.before.before.before in
     let sized = sized closed in
     c.before.before.write_number.ensures
-    ∙ remove_written (place sized) (start sized).pre.1 _ _ closed.close-gap.auto.0 closed.close-gap.ensures cleared.zero_fill.ensures
+    ∙ remove_written (place sized) (start sized).requires.1 _ _ closed.close-gap.auto.0 closed.close-gap.ensures cleared.zero_fill.ensures
 
 pub remove_record_spec : {M : Type 1} → statement M
 remove_record_spec =
@@ -66,5 +66,5 @@ remove_record_spec =
     (λ c κs. search rules) (λ c. omega (arith, remove_room (place c) (start c).requires.1)) (λ c. omega (arith, remove_room (place c) (start c).requires.1))
     (λ c. omega (arith, remove_room (place c) (start c).requires.1)) (λ c. omega (arith, remove_room (place c) (start c).requires.1))
     (λ c. omega (arith, remove_room (place c) (start c).requires.1))
-    (λ c κs. let room = remove_room (place c.before) (start c.before).pre.1 in (omega arith, room.1)) (λ c. search rules) (λ c. search rules)
+    (λ c κs. let room = remove_room (place c.before) (start c.before).requires.1 in (omega arith, room.1)) (λ c. search rules) (λ c. search rules)
     (λ c. omega (arith, room_left c.before.before)) (λ c κs. search rules) sub_write_number write-number-requires (λ c. search rules) returns)

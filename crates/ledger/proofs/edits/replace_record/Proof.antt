@@ -17,16 +17,16 @@ module _ (c : tie.After-record-size) where
 
   place : Place start.args.s start.args.ledger.now c.record_size.result (count_of start.args.ledger.now) start.args.at
   place = record {
-    ledger = start.pre.0;
+    ledger = start.requires.0;
     bytes = bytes_of start.args.ledger.now c.before.before.slice-known.given;
     size_is = c.record_size.ensures;
     count = refl;
-    within = omega (arith, start.pre.1);
+    within = omega (arith, start.requires.1);
   }
 
   -- the record lies in the area
   room : 2 + c.record_size.result * start.args.at + c.record_size.result ≤ length start.args.ledger.now
-  room = omega (arith, remove_room place start.pre.1)
+  room = omega (arith, remove_room place start.requires.1)
 
 returns : tie.Need-returns
 returns c = λ x q.

@@ -64,7 +64,7 @@ returns-2 : tie.Need-returns-2 invariant-loop decreases-loop
 returns-2 c =
     let met = met c.before in
     let loop = met.before.loop in
-    sym (sym loop.inv.same ∙ rising_next (width met) loop.left (at met) (places met) (omega arith)
+    sym (sym loop.invariant.same ∙ rising_next (width met) loop.left (at met) (places met) (omega arith)
     ∙ rw (sym (compared c.before) ∙ not-true c.before.Below_key.result c.if2.true))
 
 loop-again : tie.Need-loop-preserved invariant-loop decreases-loop
@@ -73,8 +73,8 @@ loop-again c =
     let loop = met.before.loop in
     let next = rising_next (width met) loop.left (at met) (places met) (omega arith) in record {
       some = omega arith;
-      room = (room_next (at met) loop.left (width met + 4) (length (places met)) loop.inv.room (omega arith)).1;
-      same = sym (rw (sym (compared c.before) ∙ not-false c.before.Below_key.result c.if2.false) at next) ∙ loop.inv.same;
+      room = (room_next (at met) loop.left (width met + 4) (length (places met)) loop.invariant.room (omega arith)).1;
+      same = sym (rw (sym (compared c.before) ∙ not-false c.before.Below_key.result c.if2.false) at next) ∙ loop.invariant.same;
     }
 
 returns-3 : tie.Need-returns-3 invariant-loop decreases-loop

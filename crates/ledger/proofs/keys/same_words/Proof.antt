@@ -28,8 +28,8 @@ loop-again c =
     let b = start.args.b.now in (
       omega (arith, c.before.loop-test.true),
       rw (c.same-word2.ensures, at.loop.invariant.1)
-          (same_word_more a b start.pre.0 at.loop.i (same_key (word a (length a - 8)) (word b (length a - 8)))
-          (omega (arith, start.pre.1, c.before.loop-test.true))),
+          (same_word_more a b start.requires.0 at.loop.i (same_key (word a (length a - 8)) (word b (length a - 8)))
+          (omega (arith, start.requires.1, c.before.loop-test.true))),
     )
 
 returns : tie.Need-returns invariant-loop decreases-loop
@@ -38,11 +38,11 @@ returns c =
     let start = start at in
     let a = start.args.a.now in
     at.loop.invariant.1
-    ∙ same_all a start.args.b.now start.pre.0 (length a - 8) at.loop.i (omega (arith, start.pre.1)) (omega (arith, c.loop-test.false))
+    ∙ same_all a start.args.b.now start.requires.0 (length a - 8) at.loop.i (omega (arith, start.requires.1)) (omega (arith, c.loop-test.false))
 
 pub same_words_spec : {M : Type 1} → statement M
 same_words_spec =
     tie.close (tie.spec invariant-loop decreases-loop (λ c. omega (arith, c.before.before.requires.1))
     (λ c κs. let pre = c.before.before.requires in (omega arith, omega arith)) (λ c. (omega arith, c.same_word.ensures))
-    (λ c κs. let pre = (start c.before).pre in (omega arith, omega arith)) (λ c. omega (arith, c.before.loop-test.true))
+    (λ c κs. let pre = (start c.before).requires in (omega arith, omega arith)) (λ c. omega (arith, c.before.loop-test.true))
     (λ c. omega (arith, c.before.loop-test.true)) loop-again returns)

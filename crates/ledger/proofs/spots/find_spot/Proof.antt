@@ -43,7 +43,7 @@ module _ (c : tie.In-loop invariant-loop decreases-loop) where
   middle = c.before.loop.low + (c.before.loop.high - c.before.loop.low) / 2
 
   middle_row : Row (length (key start)) start.args.n (places start) middle
-  middle_row = record { all = start.pre.0; listed = omega (arith, halves.order, halves.within, long start) }
+  middle_row = record { all = start.requires.0; listed = omega (arith, halves.order, halves.within, long start) }
 
 -- ---- its key is compared
 module _ (c : tie.After-below-key invariant-loop decreases-loop) where
@@ -61,7 +61,7 @@ module _ (c : tie.Else2 invariant-loop decreases-loop) where
   low_row : Row (length (key first)) first.args.n (places first) c.before.before.loop.low
   low_row =
       let inv = c.before.before.loop.invariant in
-      record { all = first.pre.0; listed = omega (arith, inv.order, inv.within, c.if2.false, long first) }
+      record { all = first.requires.0; listed = omega (arith, inv.order, inv.within, c.if2.false, long first) }
 
 loop-again : tie.Need-loop-preserved invariant-loop decreases-loop
 loop-again c =

@@ -35,7 +35,7 @@ module _ (c : tie.In-loop invariant-loop decreases-loop) where
 
   inside : c.before.loop.i * width + width ≤ length start.args.keys.now
   inside =
-      key_within start.args.keys.now (length start.args.answers.now) _ width _ start.pre.keys_size measured.width.ensures
+      key_within start.args.keys.now (length start.args.answers.now) _ width _ start.requires.keys_size measured.width.ensures
       (omega (arith, more))
 
 -- ---- its choice is read
@@ -44,16 +44,16 @@ module _ (c : tie.After-unpacked invariant-loop decreases-loop) where
   hand = c.before.before
 
   is_choice : c.unpacked.result ≡ unpacked_of (get_or (start hand).args.answers.now hand.before.loop.i 0)
-  is_choice = c.unpacked.ensures ∙ ap unpacked_of (hand.before.loop.inv.left hand.before.loop.i (omega arith))
+  is_choice = c.unpacked.ensures ∙ ap unpacked_of (hand.before.loop.invariant.left hand.before.loop.i (omega arith))
 
   fits : KeyCountersFit (paper (start hand).args.s) c.unpacked.result
-  fits = subst (KeyCountersFit _) (sym is_choice) ((start hand).pre.fits hand.before.loop.i (omega (arith, more hand)))
+  fits = subst (KeyCountersFit _) (sym is_choice) ((start hand).requires.fits hand.before.loop.i (omega (arith, more hand)))
 
 search-chosen-requires : tie.Need-search-chosen-requires invariant-loop decreases-loop
 search-chosen-requires c κs =
     let h = hand c.before in
     let size = ap length c.key_at.ensures ∙ length_part _ (width h) (start h).args.keys.now (inside h) in
-    record { checked = (start h).pre.checked; fits = fits c.before; wide = size ∙ (measured h).width.ensures }
+    record { checked = (start h).requires.checked; fits = fits c.before; wide = size ∙ (measured h).width.ensures }
 
 loop-again : tie.Need-loop-preserved invariant-loop decreases-loop
 loop-again c =

@@ -36,7 +36,7 @@ module _ (c : tie.In-loop invariant-loop decreases-loop) where
 
   inside : c.before.loop.i * width + width ≤ length start.args.keys.now
   inside =
-      key_within start.args.keys.now (length start.args.answers.now) _ width _ start.pre.1 measured.width.ensures
+      key_within start.args.keys.now (length start.args.answers.now) _ width _ start.requires.1 measured.width.ensures
       (omega (arith, c.loop-test.true, c.before.loop.invariant.long))
 
 -- ---- it is part i of the keys
@@ -55,7 +55,7 @@ module _ (c : tie.After-key-at invariant-loop decreases-loop) where
 
   long : has (length table) (table_lengths (length key)) ≡ true
   long =
-      ap (λ (n : ℕ). has (length table) (table_lengths n)) (size ∙ (measured in_loop).width.ensures) ∙ (start in_loop).pre.0
+      ap (λ (n : ℕ). has (length table) (table_lengths n)) (size ∙ (measured in_loop).width.ensures) ∙ (start in_loop).requires.0
 
   narrow : width in_loop ≡ ipv4_width → length key ≡ ipv4_width
   narrow e = size ∙ e
@@ -68,7 +68,7 @@ hashed c =
 loop-again : tie.Need-loop-preserved invariant-loop decreases-loop
 loop-again c =
     let at = in_loop c.before in
-    passed_more at.before.loop.inv _ at.loop-test.taken (hashed c ∙ ap (H_by (table c.before)) c.before.key_at.ensures)
+    passed_more at.before.loop.invariant _ at.loop-test.taken (hashed c ∙ ap (H_by (table c.before)) c.before.key_at.ensures)
 
 pub hash_all_spec : {M : Type 1} → statement M
 hash_all_spec =

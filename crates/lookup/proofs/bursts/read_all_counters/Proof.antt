@@ -31,16 +31,16 @@ module _ (c : tie.After-read-counters invariant-loop decreases-loop) where
 
   is_choice : c.read_counters.result ≡ choice
   is_choice =
-      choice_is _ start.pre.0 _ _ _ c.read_counters.ensures
-      ∙ ap (key_counters_at (paper start.args.s) start.args.clipped.now) (at.loop.inv.left at.loop.i (omega arith))
+      choice_is _ start.requires.0 _ _ _ c.read_counters.ensures
+      ∙ ap (key_counters_at (paper start.args.s) start.args.clipped.now) (at.loop.invariant.left at.loop.i (omega arith))
 
   small : (c.read_counters.result.least.0 < 65536) × (c.read_counters.result.bucket < 65536)
-  small = rw is_choice (at_small _ start.pre.0 _ _)
+  small = rw is_choice (at_small _ start.requires.0 _ _)
 
 loop-again : tie.Need-loop-preserved invariant-loop decreases-loop
 loop-again c =
     let l = (at c.before).loop in
-    passed_more l.inv _ (omega (arith, l.inv.long)) (c.packed.ensures ∙ ap packed_of (is_choice c.before))
+    passed_more l.invariant _ (omega (arith, l.invariant.long)) (c.packed.ensures ∙ ap packed_of (is_choice c.before))
 
 pub read_all_counters_spec : {M : Type 1} → statement M
 read_all_counters_spec =

@@ -16,7 +16,7 @@ module _ (c : tie.After-place-by) where
   looking : Looking (paper start.args.s) start.args.buckets.now start.args.side.now start.args.key.now c.place_by.result
       (answer_at (card start.args.s) start.args.key.now
       (place_by (card start.args.s) start.args.choice start.args.buckets.now start.args.side.now))
-  looking = looking_by start.pre.checked start.pre.wide c.place_by.ensures.looks
+  looking = looking_by start.requires.checked start.requires.wide c.place_by.ensures.looks
 
 pub search_chosen_spec : {M : Type 1} → statement M
 search_chosen_spec =

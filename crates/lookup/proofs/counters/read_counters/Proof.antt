@@ -26,13 +26,13 @@ module _ (c : tie.After-buckets invariant-loop decreases-loop) where
   t = paper start.args.s
 
   m_small : (c.buckets.result ≤ 4096) × (16 ≤ c.buckets.result)
-  m_small = let b = bounds t start.pre.0 in (omega (arith, c.buckets.ensures), omega (arith, c.buckets.ensures))
+  m_small = let b = bounds t start.requires.0 in (omega (arith, c.buckets.ensures), omega (arith, c.buckets.ensures))
 
   all : Counters t start.args.clipped.now c.buckets.result
-  all = record { ok = start.pre.0; size = start.pre.1; m_is = c.buckets.ensures ∙ buckets_are t }
+  all = record { ok = start.requires.0; size = start.requires.1; m_is = c.buckets.ensures ∙ buckets_are t }
 
   top_small : t.top ≤ 15
-  top_small = let r = ranges t start.pre.0 in omega arith
+  top_small = let r = ranges t start.requires.0 in omega arith
 
 -- ---- hash j
 module _ (c : tie.In-loop invariant-loop decreases-loop) where

@@ -15,8 +15,8 @@ module _ (c : tie.After-place-by) where
   at : LookingAt (paper start.args.s) start.args.h start.args.clipped.now start.args.buckets.now start.args.side.now
       start.args.key.now c.place_by.result
   at =
-      looking_at start.args.h start.pre.0 start.pre.1
-      (looks_by start.pre.0.ok c.before.read_counters.ensures _ _ start.args.key.now c.place_by.ensures).looks
+      looking_at start.args.h start.requires.0 start.requires.1
+      (looks_by start.requires.0.ok c.before.read_counters.ensures _ _ start.args.key.now c.place_by.ensures).looks
 
 place-by-requires : tie.Need-place-by-requires
 place-by-requires c κs =

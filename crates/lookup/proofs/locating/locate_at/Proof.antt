@@ -46,16 +46,16 @@ module _ (c : tie.After-place-by) where
 
   looks : LooksAt t buckets side (place own clipped buckets side key) (chosen own (counter clipped) key) (goes_to_bucket own clipped buckets key)
       c.place_by.result
-  looks = looks_by start.pre.0.ok c.before.read_counters.ensures buckets side key c.place_by.ensures
+  looks = looks_by start.requires.0.ok c.before.read_counters.ensures buckets side key c.place_by.ensures
 
   found : LookingAt t start.args.h clipped buckets side key c.place_by.result
-  found = looking_at start.args.h start.pre.0 start.pre.1 looks.looks
+  found = looking_at start.args.h start.requires.0 start.requires.1 looks.looks
 
   goes : (x : Place) → c.place_by.result ≡ x → Goes (card_of t) (chosen own (counter clipped) key) (goes_to_bucket own clipped buckets key) x
   goes x e = subst (Goes (card_of t) (chosen own (counter clipped) key) (goes_to_bucket own clipped buckets key)) e looks.goes
 
   size_most : c.before.before.record_size.result ≤ 41
-  size_most = omega (arith, c.before.before.record_size.ensures, (bounds t start.pre.0.ok).record_most)
+  size_most = omega (arith, c.before.before.record_size.ensures, (bounds t start.requires.0.ok).record_most)
 
 place-by-requires : tie.Need-place-by-requires
 place-by-requires c κs =

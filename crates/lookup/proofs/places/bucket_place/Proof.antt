@@ -37,16 +37,16 @@ module _ (c : tie.After-bucket-size) where
   from = ap (λ (z : ℕ). bucket * z) c.bucket_size.ensures
 
   inside : at + bucket_size (card_of t) ≤ length buckets
-  inside = omega (arith, from, bucket_within t bucket start.pre.1, start.pre.0.buckets_size)
+  inside = omega (arith, from, bucket_within t bucket start.requires.1, start.requires.0.buckets_size)
 
   some : 18 ≤ bucket_size (card_of t)
-  some = (bounds t start.pre.0.ok).bucket_size_least
+  some = (bounds t start.requires.0.ok).bucket_size_least
 
   few : length buckets ≤ 675840
-  few = omega (arith, (bounds t start.pre.0.ok).buckets_length_most, start.pre.0.buckets_size)
+  few = omega (arith, (bounds t start.requires.0.ok).buckets_length_most, start.requires.0.buckets_size)
 
   mark : MarkAt t buckets bucket at
-  mark = record { ok = start.pre.0.ok; start = from }
+  mark = record { ok = start.requires.0.ok; start = from }
 
 returns-3 : tie.Need-returns-3
 returns-3 c =

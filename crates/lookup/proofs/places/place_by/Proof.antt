@@ -46,7 +46,7 @@ returns-3 c =
 
 bucket-place-requires : tie.Need-bucket-place-requires
 bucket-place-requires c κs =
-    let pre = (start c.before).pre in
+    let pre = (start c.before).requires in
     (pre.0, pre.1.there (eqb-false _ _ (sym c.before.is2.ensures ∙ c.if3.false)))
 
 returns-4 : tie.Need-returns-4

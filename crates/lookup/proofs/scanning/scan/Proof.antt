@@ -45,12 +45,12 @@ loop-again : tie.Need-loop-preserved invariant-loop decreases-loop
 loop-again c =
     let at = turn c.before in
     rw (add_assoc at.before.loop.at (length (key at)) 4)
-    (scanning_on at.before.loop.inv at.loop-test.taken (sym (equal c.before) ∙ c.if1.false))
+    (scanning_on at.before.loop.invariant at.loop-test.taken (sym (equal c.before) ∙ c.if1.false))
 
 pub scan_spec : {M : Type 1} → statement M
 scan_spec =
     tie.close (tie.spec invariant-loop decreases-loop (λ c. scanning_start c.before.before.requires) (λ c. omega (arith, inside c)) (λ c. omega arith)
-    (λ c. omega (arith, inside c)) (λ c. omega (arith, inside c)) same-key-requires (λ c. omega (arith, (turn c.before).before.loop.inv.count))
-    (λ c. let at = turn c.before in scanning_hit at.before.loop.inv at.loop-test.taken (sym (equal c.before) ∙ c.if1.true))
-    (λ c. omega arith) (λ c. omega (arith, (turn c.before).before.loop.inv.count)) (λ c. omega (arith, inside (turn c.before))) (λ c. omega arith)
+    (λ c. omega (arith, inside c)) (λ c. omega (arith, inside c)) same-key-requires (λ c. omega (arith, (turn c.before).before.loop.invariant.count))
+    (λ c. let at = turn c.before in scanning_hit at.before.loop.invariant at.loop-test.taken (sym (equal c.before) ∙ c.if1.true))
+    (λ c. omega arith) (λ c. omega (arith, (turn c.before).before.loop.invariant.count)) (λ c. omega (arith, inside (turn c.before))) (λ c. omega arith)
     loop-again (λ c. scanning_end c.before.loop.invariant (omega arith)))

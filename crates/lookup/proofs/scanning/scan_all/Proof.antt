@@ -33,7 +33,7 @@ module _ (c : tie.In-loop invariant-loop decreases-loop) where
   one_before = c.before.loop.invariant.here ∙ one_back c.before.loop.left size c.loop-test.true
 
   inside : c.before.loop.at ≤ length start.args.place.now
-  inside = omega (arith, one_before, place_inside start.pre (c.before.loop.left - 1) (omega (arith, c.before.loop.invariant.few)))
+  inside = omega (arith, one_before, place_inside start.requires (c.before.loop.left - 1) (omega (arith, c.before.loop.invariant.few)))
 
 -- ---- all places are compared
 module _ (c : tie.After-loop invariant-loop decreases-loop) where
@@ -77,5 +77,5 @@ scan_all_spec =
     (λ c. omega (arith, one_before c)) (λ c. omega (arith, one_before c, inside c)) (λ c. omega (arith, one_before c, inside c))
     (λ c. omega (arith, one_before c, inside c)) (λ c. omega (arith, one_before c, inside c)) same-words-requires (λ c κs. tt)
     (λ c. omega (arith, c.before.before.before.loop-test.true)) loop-again (λ c κs. tt)
-    (λ c. rw c.pick2.ensures (omega (arith, first_offset (begin c.before).pre c.before.before.loop.first)))
-    (λ c. omega (arith, (all c.before).high, (begin c.before).pre.most)) (λ c κs. tt) returns)
+    (λ c. rw c.pick2.ensures (omega (arith, first_offset (begin c.before).requires c.before.before.loop.first)))
+    (λ c. omega (arith, (all c.before).high, (begin c.before).requires.most)) (λ c κs. tt) returns)

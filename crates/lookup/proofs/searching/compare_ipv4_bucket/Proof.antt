@@ -24,7 +24,7 @@ module _ (c : tie.After-bucket-size) where
   key = start.args.key.now
 
   narrow : length key ≡ ipv4_width
-  narrow = start.pre.0.wide ∙ width_is (paper start.args.s) ∙ start.pre.1
+  narrow = start.requires.0.wide ∙ width_is (paper start.args.s) ∙ start.requires.1
 
   whole : take ipv4_width key ≡ key
   whole = take_all ipv4_width key (omega (arith, narrow))

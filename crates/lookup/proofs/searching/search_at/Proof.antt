@@ -13,7 +13,7 @@ module _ (c : tie.After-find-place) where
 
   at : LookingAt (paper start.args.s) start.args.h start.args.clipped.now start.args.buckets.now start.args.side.now
       start.args.key.now c.find_place.result
-  at = looking_at start.args.h start.pre.0 start.pre.1 (c.find_place.ensures start.args.key.now)
+  at = looking_at start.args.h start.requires.0 start.requires.1 (c.find_place.ensures start.args.key.now)
 
 pub search_at_spec : {M : Type 1} → statement M
 search_at_spec =

@@ -33,10 +33,10 @@ module _ (c : tie.After-has-ports6) where
   destination_is = destination.copy2.ensures
 
   source_long : length source.copy.last.0 ≡ 16
-  source_long = ap length source_is ∙ simp (length-take, length-drop) (omega (arith, start.pre.0.header))
+  source_long = ap length source_is ∙ simp (length-take, length-drop) (omega (arith, start.requires.0.header))
 
   lent : take (length packet - 40) (drop 40 packet) ≡ drop 40 packet
-  lent = tail_is 40 packet start.pre.0.header
+  lent = tail_is 40 packet start.requires.0.header
 
 returns : tie.Need-returns
 unfolding packet6_key ports6
@@ -56,5 +56,5 @@ write_key6_spec =
     (λ c. search rules) (λ c. search rules) (λ c κs. simp (length-take, length-drop) (omega arith)) (λ c. search rules) (λ c. search rules)
     (λ c. search rules) (λ c. search rules) (λ c. search rules) (λ c. search rules) (λ c κs. search rules) (λ c. search rules) (λ c. search rules)
     (λ c. search rules) (λ c κs. search rules) (λ c. search rules) (λ c. search rules) (λ c. search rules)
-    (λ c κs. (rw (c.before.has_ports6.ensures, lent c.before) (start c.before).pre.0.ports, search rules))
+    (λ c κs. (rw (c.before.has_ports6.ensures, lent c.before) (start c.before).requires.0.ports, search rules))
     (λ c κs. search rules) (λ c. search rules) (λ c. simp length-set (omega arith)) returns)

@@ -24,10 +24,10 @@ module _ (c : tie.Else1) where
 
   -- the first four bytes are four
   four : length (take 4 start.args.after.now) ≡ 4
-  four = length-take-le 4 start.args.after.now (start.pre.0 has)
+  four = length-take-le 4 start.args.after.now (start.requires.0 has)
 
 pub read_ports_spec : {M : Type 1} → statement M
 read_ports_spec =
     tie.close (tie.spec (λ c κs. search rules) (λ c. search rules) returns (λ c. sym (four c.before.before))
-    (λ c κs. (start c.before.before).pre.1 ∙ sym (four c.before.before)) (λ c. search rules)
+    (λ c κs. (start c.before.before).requires.1 ∙ sym (four c.before.before)) (λ c. search rules)
     (λ c. rw (has c.before.before.before.before.before) (search rules)))

@@ -29,10 +29,10 @@ module _ (c : tie.After-struct-known) where
   key = start.args.key.now
 
   long : has (length table) (table_lengths (length key)) ≡ true
-  long = long_for _ _ start.pre.0 key start.pre.2
+  long = long_for _ _ start.requires.0 key start.requires.2
 
   narrow : start.args.s.width ≡ ipv4_width → length key ≡ ipv4_width
-  narrow e = start.pre.2 ∙ width_is (paper start.args.s) ∙ e
+  narrow e = start.requires.2 ∙ width_is (paper start.args.s) ∙ e
 
 hashed : (c : tie.Joined1) → c.if1.h ≡ H (key c.before)
 hashed c =

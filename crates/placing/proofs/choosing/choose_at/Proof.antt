@@ -41,13 +41,13 @@ module _ (c : tie.After-buckets invariant-loop decreases-loop) where
   counts = start.args.counts.now
 
   some : 16 ≤ c.buckets.result
-  some = omega (arith, c.buckets.ensures, (bounds t start.pre.0).buckets_least)
+  some = omega (arith, c.buckets.ensures, (bounds t start.requires.0).buckets_least)
 
   few : c.buckets.result ≤ 4096
-  few = omega (arith, c.buckets.ensures, (bounds t start.pre.0).buckets_most)
+  few = omega (arith, c.buckets.ensures, (bounds t start.requires.0).buckets_most)
 
   top_few : t.top ≤ 15
-  top_few = (ranges t start.pre.0).top_high
+  top_few = (ranges t start.requires.0).top_high
 
 -- ---- in the loop: the bucket of hash j
 module _ (c : tie.In-loop invariant-loop decreases-loop) where

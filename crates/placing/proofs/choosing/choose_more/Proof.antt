@@ -55,7 +55,7 @@ module _ (c : tie.After-record-size invariant-loop decreases-loop) where
   sizes = record { size_is = c.record_size.ensures; width_is = c.before.width.ensures }
 
   few : m ≤ 4096
-  few = omega (arith, start.pre.buckets, (bounds (paper start.args.s) start.pre.ready.ok).buckets_most)
+  few = omega (arith, start.requires.buckets, (bounds (paper start.args.s) start.requires.ready.ok).buckets_most)
 
 -- ---- in the loop
 module _ (c : tie.In-loop invariant-loop decreases-loop) where
@@ -92,11 +92,11 @@ module _ (c : tie.After-pick invariant-loop decreases-loop) where
   bucket_is = c.before.choose.ensures.1 ∙ ap (chosen (s (sized at)) counts) key_here
 
   kept_is : c.pick.result ≡ cond choice.all_top (s (sized at)).buckets choice.bucket
-  kept_is = c.pick.ensures ∙ ap (λ (x : ℕ). cond choice.all_top x choice.bucket) (start (sized at)).pre.buckets
+  kept_is = c.pick.ensures ∙ ap (λ (x : ℕ). cond choice.all_top x choice.bucket) (start (sized at)).requires.buckets
 
   small : c.pick.result ≤ m (sized at)
   small =
-      let pre = (start (sized at)).pre in
+      let pre = (start (sized at)).requires in
       picked_within (s (sized at)) (sound_card _ _ pre.ready) _ pre.buckets counts (key at) _ _ _ top_is bucket_is kept_is
 
 -- ---- it is added to the choosers
@@ -128,7 +128,7 @@ loop-holds c =
 choose-requires : tie.Need-choose-requires invariant-loop decreases-loop
 choose-requires c κs =
     let at = c.before.before in
-    let pre = (start (sized at)).pre in (
+    let pre = (start (sized at)).requires in (
       pre.ready,
       length-take-le (m (sized at)) (work at) (halved at) ∙ pre.buckets,
       ap length c.key_at.ensures ∙ key_length (sizes (sized at)) _ at.before.loop.i (area (sized at)) pre.there at.loop-test.true,
@@ -138,14 +138,14 @@ add-choice-requires : tie.Need-add-choice-requires invariant-loop decreases-loop
 add-choice-requires c κs =
     let made = c.before in
     let loop = (at made).before.loop in
-    let pre = (start (sized (at made))).pre in
+    let pre = (start (sized (at made))).requires in
     let within = chosen_within _ _ pre.ready (counts made) (key (at made)) in
     let the_card = s (sized (at made)) in
     let old = nth (take (m (sized (at made))) (start (sized (at made))).args.work.now) in
     let bound = choosers_bound the_card old the_card.width loop.i (area (sized (at made))) in
     rw (tail_is (m (sized (at made))) (work (at made)) (halved (at made))) (
-      λ f. rw length-drop (omega (arith, bucket_is made, pre.buckets, loop.inv.halves, within (sym (top_is made) ∙ f))),
-      λ b. omega (arith, loop.inv.chose.more b, pre.few b, loop.inv.within, bound b),
+      λ f. rw length-drop (omega (arith, bucket_is made, pre.buckets, loop.invariant.halves, within (sym (top_is made) ∙ f))),
+      λ b. omega (arith, loop.invariant.chose.more b, pre.few b, loop.invariant.within, bound b),
     )
 
 loop-again : tie.Need-loop-preserved invariant-loop decreases-loop
@@ -158,11 +158,11 @@ loop-again c =
     let long = c.before.before.add-choice.auto.0 ∙ length_tail (m whole) (work in_loop) (halved in_loop) in
     record {
       within = omega (arith, in_loop.loop-test.taken);
-      halves = tail_length (m whole) (work in_loop) (halved in_loop) ys long ∙ loop.inv.halves;
-      places = simp length-set loop.inv.places;
+      halves = tail_length (m whole) (work in_loop) (halved in_loop) ys long ∙ loop.invariant.halves;
+      places = simp length-set loop.invariant.places;
       chose =
-          chose_more (s whole) _ _ _ _ _ _ loop.kept loop.inv.chose _ _ (top_is made) (bucket_is made) _
-          (tail_take (m whole) (work in_loop) (halved in_loop) ys) (added c) _ (kept_is made) (omega (arith, loop.inv.places, in_loop.loop-test.taken));
+          chose_more (s whole) _ _ _ _ _ _ loop.kept loop.invariant.chose _ _ (top_is made) (bucket_is made) _
+          (tail_take (m whole) (work in_loop) (halved in_loop) ys) (added c) _ (kept_is made) (omega (arith, loop.invariant.places, in_loop.loop-test.taken));
     }
 
 returns : tie.Need-returns invariant-loop decreases-loop
@@ -172,7 +172,7 @@ pub choose_more_spec : {M : Type 1} → statement M
 choose_more_spec =
     tie.close (tie.spec invariant-loop decreases-loop (λ c κs. search rules) (λ c κs. search rules) loop-holds halved
     (λ c. sym (length-take-le (m (sized c.before)) (work c.before) (halved c.before)))
-    (λ c κs. key_inside (sizes (sized c.before)) _ _ (area (sized c.before)) (start (sized c.before)).pre.there c.before.loop-test.true)
+    (λ c κs. key_inside (sizes (sized c.before)) _ _ (area (sized c.before)) (start (sized c.before)).requires.there c.before.loop-test.true)
     choose-requires (λ c κs. tt) (λ c. omega (arith, small c, few (sized (at c)))) (λ c. search rules)
     (λ c. omega (arith, (at c).before.loop.invariant.places, (at c).loop-test.true)) (λ c. search rules) (λ c. omega arith) (λ c. omega arith) (λ c. omega arith)
     add-choice-requires (λ c. omega arith) (λ c. omega arith) loop-again (λ c. omega arith) (λ c. omega arith) returns)

@@ -41,7 +41,7 @@ module _ (c : tie.After-choose-more) where
   ys = c.choose-more.new.1.1.1.1.1.1.0
 
   ys_long : length ys ≡ (start first).args.before_count
-  ys_long = c.choose-more.auto.1.1.1.1.1.1.0 ∙ first_lent _ _ _ _ (start first).pre.0.places
+  ys_long = c.choose-more.auto.1.1.1.1.1.1.0 ∙ first_lent _ _ _ _ (start first).requires.0.places
 
 -- ---- and the second
 module _ (c : tie.After-choose-more2) where
@@ -52,7 +52,7 @@ module _ (c : tie.After-choose-more2) where
   zs = c.choose_more2.new.1.1.1.1.1.1.0
 
   zs_long : length zs ≡ (start (first once)).args.between_count
-  zs_long = c.choose_more2.auto.1.1.1.1.1.1.0 ∙ second_lent _ _ _ _ (start (first once)).pre.0.places (ys once) (ys_long once)
+  zs_long = c.choose_more2.auto.1.1.1.1.1.1.0 ∙ second_lent _ _ _ _ (start (first once)).requires.0.places (ys once) (ys_long once)
 
   two : Chose (s (first once)) (start (first once)).args.m (before (first once) ++ between (first once)) (start (first once)).args.work.now
       c.choose_more2.new.1.1.1.0 (ys once ++ zs)
@@ -74,8 +74,8 @@ choose-more-requires-2 : tie.Need-choose-more-requires-2
 choose-more-requires-2 c κs =
     let once = c.before.before.before.before.before.before in
     let at = first once in
-    let p = (start at).pre.0 in
-    let few = chose_few _ _ _ _ _ _ once.choose-more.ensures (start at).pre.1 in
+    let p = (start at).requires.0 in
+    let few = chose_few _ _ _ _ _ _ once.choose-more.ensures (start at).requires.1 in
     record {
       ready = p.ready;
       buckets = p.buckets;
@@ -90,8 +90,8 @@ choose-more-requires-3 c κs =
     let twice = c.before.before.before.before.before.before in
     let at = first (once twice) in
     let args = (start at).args in
-    let p = (start at).pre.0 in
-    let few = chose_few _ _ _ _ _ _ (two twice) (start at).pre.1 in
+    let p = (start at).requires.0 in
+    let few = chose_few _ _ _ _ _ _ (two twice) (start at).requires.1 in
     let before_long = length_records (s at).width args.before_count args.before.now in
     let between_long = length_records (s at).width args.between_count args.between.now in
     let long = length-append (before at) (between at) in
@@ -112,7 +112,7 @@ returns c =
     let at = first (once twice) in
     let vs = thrice.choose-more3.new.1.1.1.1.1.1.0 in
     let last_two = chose_append _ _ _ _ _ _ _ (zs twice) vs twice.choose_more2.ensures thrice.choose-more3.ensures in
-    rw (three_back _ _ _ _ (start at).pre.0.places (ys (once twice)) (ys_long (once twice)) (zs twice) (zs_long twice) vs)
+    rw (three_back _ _ _ _ (start at).requires.0.places (ys (once twice)) (ys_long (once twice)) (zs twice) (zs_long twice) vs)
     (chose_append _ _ _ _ _ _ _ (ys (once twice)) (zs twice ++ vs) (once twice).choose-more.ensures last_two)
 
 pub choose_parts_spec : {M : Type 1} → statement M

@@ -62,13 +62,13 @@ module _ (c : tie.After-key-at invariant-loop decreases-loop) where
   key = c.key_at.result.now
 
   key_long : length key ≡ (s sized).width
-  key_long = ap length c.key_at.ensures ∙ key_length (sizes sized) _ loop.loop.i (area sized) (start sized).pre.there c.before.loop-test.true
+  key_long = ap length c.key_at.ensures ∙ key_length (sizes sized) _ loop.loop.i (area sized) (start sized).requires.there c.before.loop-test.true
 
   key_here : key ≡ take (s sized).width (drop (loop.loop.i * ((s sized).width + 4)) (area sized))
   key_here = c.key_at.ensures ∙ key_is (sizes sized) loop.loop.i (area sized)
 
   long : has (length (start sized).args.table.now) (table_lengths (length key)) ≡ true
-  long = long_for _ _ (start sized).pre.ready key key_long
+  long = long_for _ _ (start sized).requires.ready key key_long
 
   narrow : sized.before.width.result ≡ ipv4_width → length key ≡ ipv4_width
   narrow e = key_long ∙ sym sized.before.width.ensures ∙ e
@@ -77,7 +77,7 @@ module _ (c : tie.After-key-at invariant-loop decreases-loop) where
 hashed : (c : tie.Joined1 invariant-loop decreases-loop) → c.if1.h ≡ H (key c.before)
 hashed c =
     let at = c.before in
-    let right = right_for _ _ (start (sized at)).pre.ready (key at) (key_long at) in
+    let right = right_for _ _ (start (sized at)).requires.ready (key at) (key_long at) in
     ⊎_elim (λ w. w.3 ∙ ipv4_hash (start (sized at)).args.table.now (key at) (long at) (narrow at w.0.taken) right w.2.ensures.1)
     (λ w. w.2 ∙ w.1.ensures.1 right) c.if1.branch
 
@@ -89,7 +89,7 @@ raise-at-requires c κs =
     let read = c.before.before in
     let whole = sized read in
     let so_far = (loop read).loop.invariant in
-    let pre = (start whole).pre in (
+    let pre = (start whole).requires in (
       pre.ready.ok,
       so_far.same ∙ pre.buckets,
       λ b. omega (arith, so_far.counted b, so_far.within, pre.few b, count_bound (s whole) (s whole).width (loop read).loop.i (area whole) b),
@@ -120,7 +120,7 @@ returns c =
 pub count_more_spec : {M : Type 1} → statement M
 count_more_spec =
     tie.close (tie.spec invariant-loop decreases-loop (λ c κs. search rules) (λ c κs. search rules) loop-holds
-    (λ c κs. key_inside (sizes c.before.before) _ _ (area c.before.before) (start c.before.before).pre.there c.loop-test.true)
+    (λ c κs. key_inside (sizes c.before.before) _ _ (area c.before.before) (start c.before.before).requires.there c.loop-test.true)
     (λ c. let then = c.before in let at = then.before in let e = narrow at then.if1.true in
     sym (ap length (ipv4_key (start (sized at)).args.table.now (key at) (long at) e) ∙ e))
     (λ c κs. let then = c.before in let at = then.before in

@@ -37,10 +37,10 @@ module _ (c : tie.After-count-more) where
   first = c.before
 
   same : length c.count_more.new.1.1.0 ≡ (s first).buckets
-  same = c.count_more.auto.1.1.0 ∙ (start first).pre.buckets
+  same = c.count_more.auto.1.1.0 ∙ (start first).requires.buckets
 
   counted : (b : ℕ) → nth c.count_more.new.1.1.0 b ≡ true_count (s first) (before first) b
-  counted b = omega (arith, c.count_more.ensures b, (start first).pre.zeros b)
+  counted b = omega (arith, c.count_more.ensures b, (start first).requires.zeros b)
 
   counted_few : (b : ℕ) → true_count (s first) (before first) b ≤ (start first).args.before_count
   counted_few b = count_bound (s first) (s first).width (start first).args.before_count (start first).args.before.now b
@@ -65,13 +65,13 @@ count-more-requires c κs =
 count-more-requires-2 : tie.Need-count-more-requires-2
 count-more-requires-2 c κs =
     let once = c.before.before.before in
-    let p = (start (first once)).pre in
+    let p = (start (first once)).requires in
     record { ready = p.ready; buckets = same once; there = p.second; few = λ b. omega (arith, counted once b, counted_few once b, p.few) }
 
 count-more-requires-3 : tie.Need-count-more-requires-3
 count-more-requires-3 c κs =
     let twice = c.before.before.before in
-    let p = (start (first (once twice))).pre in
+    let p = (start (first (once twice))).requires in
     record {
       ready = p.ready;
       buckets = same_2 twice;

@@ -42,10 +42,10 @@ module _ (c : tie.After-buckets invariant-loop decreases-loop) where
   m = c.buckets.result
 
   some : 16 ≤ m
-  some = omega (arith, c.buckets.ensures, (bounds t start.pre.0).buckets_least)
+  some = omega (arith, c.buckets.ensures, (bounds t start.requires.0).buckets_least)
 
   few : m ≤ 4096
-  few = omega (arith, c.buckets.ensures, (bounds t start.pre.0).buckets_most)
+  few = omega (arith, c.buckets.ensures, (bounds t start.requires.0).buckets_most)
 
 -- ---- in the loop: the bucket of hash j
 module _ (c : tie.In-loop invariant-loop decreases-loop) where
@@ -59,7 +59,7 @@ module _ (c : tie.In-loop invariant-loop decreases-loop) where
   below = mod-lt c.before.loop.rest (omega (arith, some made))
 
   there : bucket < length c.before.loop.counts
-  there = omega (arith, below, c.before.loop.invariant.same, (start made).pre.1, made.buckets.ensures)
+  there = omega (arith, below, c.before.loop.invariant.same, (start made).requires.1, made.buckets.ensures)
 
   is_hash : bucket ≡ hash (m made) (start made).args.h c.before.loop.j
   is_hash = rest_hash _ _ _ _ c.before.loop.invariant.rest_is
@@ -80,8 +80,8 @@ raised-requires c κs =
     let picked = c.before.before in
     let loop = (at picked).before.loop in
     let old = start (made (at picked)) in
-    let count = raised_few loop.inv.so_far (bucket (at picked)) in
-    omega (arith, c.of_number.ensures, count, old.pre.2 (bucket (at picked)), small picked)
+    let count = raised_few loop.invariant.so_far (bucket (at picked)) in
+    omega (arith, c.of_number.ensures, count, old.requires.2 (bucket (at picked)), small picked)
 
 loop-again : tie.Need-loop-preserved invariant-loop decreases-loop
 loop-again c =
@@ -91,9 +91,9 @@ loop-again c =
     let stored = c.number.ensures ∙ c.before.raised.ensures ∙ ap (λ (n : ℕ). n + picked.pick.result) read.of_number.ensures in
     record {
       within = omega arith;
-      rest_is = rest_next _ _ _ loop.inv.rest_is;
-      same = simp length-set loop.inv.same;
-      so_far = raise_next loop.inv.so_far _ _ _ (is_hash (at picked)) (more_is picked) stored (there (at picked));
+      rest_is = rest_next _ _ _ loop.invariant.rest_is;
+      same = simp length-set loop.invariant.same;
+      so_far = raise_next loop.invariant.so_far _ _ _ (is_hash (at picked)) (more_is picked) stored (there (at picked));
     }
 
 returns : tie.Need-returns invariant-loop decreases-loop

@@ -48,11 +48,11 @@ module _ (c : tie.Else1) where
   full = full_file (t judged) (read judged).read_head.ensures none
 
   most : head.count ≤ 4096
-  most = omega (arith, full.few, (ranges (t judged) (start judged).pre.ready.ok).capacity_high)
+  most = omega (arith, full.few, (ranges (t judged) (start judged).requires.ready.ok).capacity_high)
 
 -- ---- with the number of buckets
 halves : (c : tie.After-buckets) → length (start (judged c.before)).args.work.now ≡ c.buckets.result + c.buckets.result
-halves c = let judged = judged c.before in omega (arith, (start judged).pre.words, c.buckets.ensures, work_length_is (t judged))
+halves c = let judged = judged c.before in omega (arith, (start judged).requires.words, c.buckets.ensures, work_length_is (t judged))
 
 -- ---- they are placed, and their side need counted
 module _ (c : tie.After-place-area) where
@@ -92,7 +92,7 @@ place-area-requires c κs =
     let buckets = c.before.before.before in
     let counted = buckets.before in
     record {
-      ready = (start (judged counted)).pre.ready;
+      ready = (start (judged counted)).requires.ready;
       buckets = buckets.buckets.ensures;
       halves = halves buckets;
       choices = omega (arith, most counted);
@@ -105,13 +105,13 @@ returns-2 c =
     let place = c.before.before.before.before.before.before in
     let counted = counted place in
     refused_as c.refused2.ensures _
-    ∙ loads_9 (start (e place)).pre (none counted) (need_is place) (omega (arith, c.before.if2.true, side_places_are (t (e place))))
+    ∙ loads_9 (start (e place)).requires (none counted) (need_is place) (omega (arith, c.before.if2.true, side_places_are (t (e place))))
 
 write-list-requires : tie.Need-write-list-requires
 write-list-requires c κs =
     let good = c.before.before.before.before.before.before.before in
     let place = placed good in
-    let pre = (start (e place)).pre in
+    let pre = (start (e place)).requires in
     record {
       laying = record {
         ok = pre.ready.ok;
@@ -133,7 +133,7 @@ returns-3 c =
     let good = write.before.before.before.before.before.before.before.before in
     let place = placed good in
     let laid = write.write-list.ensures ∙ ap (layout (card_of (t (e place)))) (lent_listed (full (counted place))) in
-    loads_0 (start (e place)).pre (none (counted place)) (need_is place) (enough good) c.given.ensures laid
+    loads_0 (start (e place)).requires (none (counted place)) (need_is place) (enough good) c.given.ensures laid
 
 pub load_checked_spec : {M : Type 1} → statement M
 load_checked_spec =

@@ -42,7 +42,7 @@ module _ (c : tie.After-record-size) where
   e = start counted
 
   small : c.record_size.result * (head e).count ≤ 167936
-  small = few_bytes (t e) e.pre.0 _ _ c.record_size.ensures (few counted).if1.left
+  small = few_bytes (t e) e.requires.0 _ _ c.record_size.ensures (few counted).if1.left
 
 -- ---- the file has the length of its records
 module _ (c : tie.Else3) where
@@ -52,7 +52,7 @@ module _ (c : tie.Else3) where
   full : FullFile (t (e sized)) (file (e sized)) (head (e sized)) sized.record_size.result
   full =
       record {
-        head = (e sized).pre.1;
+        head = (e sized).requires.1;
         few = (few (counted sized)).if1.left;
         first = sized.before.if2.left ∙ (counted sized).first_count.ensures;
         sized = sized.record_size.ensures;
@@ -70,17 +70,17 @@ module _ (c : tie.After-keys-rise) where
 returns-2 : tie.Need-returns-2
 returns-2 c =
     let counted = c.before.before in
-    let e = start counted in file_12_first (t e) e.pre.1 (few counted).if1.false counted.first_count.ensures c.if2.true
+    let e = start counted in file_12_first (t e) e.requires.1 (few counted).if1.false counted.first_count.ensures c.if2.true
 
 returns-3 : tie.Need-returns-3
 returns-3 c =
     let sized = c.before in
-    let e = e sized in file_12 (t e) e.pre.1 (few (counted sized)).if1.left sized.record_size.ensures c.if3.true
+    let e = e sized in file_12 (t e) e.requires.1 (few (counted sized)).if1.left sized.record_size.ensures c.if3.true
 
 pub refusal_by_file_spec : {M : Type 1} → statement M
 refusal_by_file_spec =
     tie.close (tie.spec (λ c. let e = c.before.before.before in file_8 (t e) e.requires.1 c.if1.true) (λ c κs. search rules) returns-2
     (λ c κs. search rules) (λ c. omega (arith, small c)) (λ c. let head = (e c).requires.1 in omega (arith, small c, head.size, head.few)) returns-3
-    (λ c. (e (sized c)).pre.1.there) (λ c. (e (sized c)).pre.1.there) (λ c. search rules) (λ c κs. search rules)
+    (λ c. (e (sized c)).requires.1.there) (λ c. (e (sized c)).requires.1.there) (λ c. search rules) (λ c κs. search rules)
     (λ c κs. rw c.width.ensures (lent_fits (full c.before.before))) (λ c. judged c.before false (not-true _ c.if4.true))
     (λ c. judged c.before true (not-false _ c.if4.false)))

@@ -31,7 +31,7 @@ module _ (c : tie.After-valid) where
   area = start.args.ledger.now
 
   has_two : 2 ≤ length area
-  has_two = has_count (card_of t) area start.pre.whole
+  has_two = has_count (card_of t) area start.requires.whole
 
 -- ---- it is within its rules, and its records are counted
 module _ (c : tie.After-count-at) where
@@ -45,12 +45,12 @@ module _ (c : tie.After-count-at) where
   known =
       let rules = not-true _ (sym judged.valid.ensures ∙ not-false _ c.before.if1.false) in
       record {
-        valid = record { permitted = (start judged).pre.ready.ok; size = (start judged).pre.whole; rules = rules };
+        valid = record { permitted = (start judged).requires.ready.ok; size = (start judged).requires.whole; rules = rules };
         count = c.count_at.ensures.0;
       }
 
   most : n ≤ 4096
-  most = omega (arith, many known, capacity_is (t judged), (ranges (t judged) (start judged).pre.ready.ok).capacity_high)
+  most = omega (arith, many known, capacity_is (t judged), (ranges (t judged) (start judged).requires.ready.ok).capacity_high)
 
 -- ---- they are placed, and their side need counted
 module _ (c : tie.After-place-area) where
@@ -84,7 +84,7 @@ place-area-requires : tie.Need-place-area-requires
 place-area-requires c κs =
     let buckets = c.before.before.before in
     let counted = buckets.before in
-    let pre = (start (judged counted)).pre in
+    let pre = (start (judged counted)).requires in
     record {
       ready = pre.ready;
       buckets = buckets.buckets.ensures;
@@ -97,13 +97,13 @@ place-area-requires c κs =
 returns-2 : tie.Need-returns-2
 returns-2 c =
     let place = c.before.before.before.before.before in
-    saves_9 (start (at place)).pre _ (known (counted place)) (need_is place) (omega (arith, c.if2.true, side_places_are (t (at place))))
+    saves_9 (start (at place)).requires _ (known (counted place)) (need_is place) (omega (arith, c.if2.true, side_places_are (t (at place))))
 
 returns-3 : tie.Need-returns-3
 returns-3 c =
     let sized = c.before in
     let known = known (counted (placed sized)) in
-    saves_12 (start (e sized)).pre _ known (need_is (placed sized)) (enough sized) (headed sized).saved-head-size.ensures
+    saves_12 (start (e sized)).requires _ known (need_is (placed sized)) (enough sized) (headed sized).saved-head-size.ensures
     sized.record_size.ensures c.if3.true
 
 write-snapshot-requires : tie.Need-write-snapshot-requires
@@ -118,21 +118,21 @@ returns-4 c =
     let right = write.before.before in
     let sized = right.before in
     let known = known (counted (placed sized)) in
-    saves_0 (start (e sized)).pre _ known (need_is (placed sized)) (enough sized) (headed sized).saved-head-size.ensures
+    saves_0 (start (e sized)).requires _ known (need_is (placed sized)) (enough sized) (headed sized).saved-head-size.ensures
     sized.record_size.ensures right.if3.false
     write.write_snapshot.ensures
 
 pub save_checked_spec : {M : Type 1} → statement M
 save_checked_spec =
     tie.close (tie.spec (λ c κs. search rules)
-    (λ c. saves_4 (start c.before).pre _ (not-false _ (sym c.before.valid.ensures ∙ not-true _ c.if1.true))) (λ c κs. has_two c.before)
+    (λ c. saves_4 (start c.before).requires _ (not-false _ (sym c.before.valid.ensures ∙ not-true _ c.if1.true))) (λ c κs. has_two c.before)
     (λ c κs. search rules) (λ c. search rules) (λ c. has_two (judged c.before.before.before)) (λ c. has_two (judged c.before.before.before))
     (λ c. search rules) place-area-requires (λ c. search rules) returns-2 (λ c κs. search rules) (λ c κs. search rules) (λ c. omega (arith, end c))
     (λ c. omega (
       arith,
       end c,
-      (start (e c)).pre.whole,
-      (bounds (t (e c)) (start (e c)).pre.ready.ok).ledger_most,
+      (start (e c)).requires.whole,
+      (bounds (t (e c)) (start (e c)).requires.ready.ok).ledger_most,
       (headed c).saved-head-size.ensures,
       first_count_most (t (e c)),
     )) (λ c. search rules) returns-3

@@ -70,7 +70,7 @@ returns c =
     let p4 = to_4 p5 in
     let p3 = to_3 p4 in
     let p2 = to_2 p3 in
-    head_of_six (paper e.args.s) e.args.count e.args.to.now e.pre.long (first p7).first_count.ensures (p1 p7).put_number.ensures
+    head_of_six (paper e.args.s) e.args.count e.args.to.now e.requires.long (first p7).first_count.ensures (p1 p7).put_number.ensures
     p2.put_number2.ensures p3.put_number3.ensures p4.put_number4.ensures p5.put_number5.ensures p6.put_number6.ensures
     p7.put_number7.ensures six.if1.true c.before.before.put_number8.ensures
 
@@ -87,7 +87,7 @@ returns-2 c =
     let p2 = to_2 p3 in
     let t = paper e.args.s in
     let seven = (first p7).first_count.ensures ∙ not_six t (λ six. other.if1.false ((first p7).first_count.ensures ∙ six)) in
-    head_of_seven t e.args.count e.args.to.now e.pre.long (first p7).first_count.ensures (p1 p7).put_number.ensures
+    head_of_seven t e.args.count e.args.to.now e.requires.long (first p7).first_count.ensures (p1 p7).put_number.ensures
     p2.put_number2.ensures p3.put_number3.ensures p4.put_number4.ensures p5.put_number5.ensures p6.put_number6.ensures
     p7.put_number7.ensures seven (rw (p9.before.width.ensures ∙ width_is t) at p9.put-number9.ensures) c.before.before.put-number10.ensures
 
@@ -98,8 +98,8 @@ put-number-requires-10 c κs =
     let p7 = other.before.before.before in
     let e = start p7 in
     let seven = not_six (paper e.args.s) (λ six. other.if1.false ((first p7).first_count.ensures ∙ six)) in
-    let room : 18 ≤ length e.args.to.now = omega (arith, e.pre.long, seven) in
-    let p9 = c.before.before.before in (omega (arith, room, same_seven p7, p9.put-number9.auto.0), e.pre.small)
+    let room : 18 ≤ length e.args.to.now = omega (arith, e.requires.long, seven) in
+    let p9 = c.before.before.before in (omega (arith, room, same_seven p7, p9.put-number9.auto.0), e.requires.small)
 
 pub write_head_spec : {M : Type 1} → statement M
 write_head_spec =

@@ -21,7 +21,7 @@ module _ (c : tie.After-saved-head-size) where
   z = c.saved-head-size.result
 
   within : z ≤ length entry.args.target.now
-  within = omega (arith, c.saved-head-size.ensures, entry.pre.1)
+  within = omega (arith, c.saved-head-size.ensures, entry.requires.1)
 
   head_lent : length (take z entry.args.target.now) ≡ z
   head_lent = length-take-le z entry.args.target.now within
@@ -38,13 +38,13 @@ module _ (c : tie.After-record-size) where
   start = entry known
 
   end : 2 + c.record_size.result * start.args.count ≤ length start.args.ledger.now
-  end = end_within start.pre.0 c.record_size.ensures
+  end = end_within start.requires.0 c.record_size.ensures
 
 write-head-requires : tie.Need-write-head-requires
 write-head-requires c κs =
     let sized = c.before in
     let start = entry sized in
-    let known = start.pre.0 in
+    let known = start.requires.0 in
     record {
       ok = known.valid.permitted;
       long = head_lent sized ∙ sized.saved-head-size.ensures;
@@ -55,7 +55,7 @@ copy-requires : tie.Need-copy-requires
 copy-requires c κs =
     let sized = c.before.before in
     let e = start sized in
-    same_room e.pre.0 sized.record_size.ensures e.args.target.now (known sized).saved-head-size.ensures e.pre.1
+    same_room e.requires.0 sized.record_size.ensures e.args.target.now (known sized).saved-head-size.ensures e.requires.1
     (headed sized).write-head.ensures
 
 returns : tie.Need-returns
@@ -64,7 +64,7 @@ returns c =
     let sized = copied.before.before.before in
     let e = start sized in
     let bytes = bytes_of e.args.ledger.now (known sized).before.shared-slice-known.given in
-    snapshot_written e.pre.0 sized.record_size.ensures e.args.target.now (known sized).saved-head-size.ensures e.pre.1
+    snapshot_written e.requires.0 sized.record_size.ensures e.args.target.now (known sized).saved-head-size.ensures e.requires.1
     (headed sized).write-head.ensures bytes copied.copy.ensures
 
 pub write_snapshot_spec : {M : Type 1} → statement M

@@ -13,12 +13,12 @@ use Rattle.trials.proofs.judging.area_above.Tie as tie
 mul_above : tie.Need-mul-above
 mul_above c =
     let start = c.before.before.before in
-    omega (arith, c.true_length.ensures, (bounds (paper start.args.s) start.pre).true_most)
+    omega (arith, c.true_length.ensures, (bounds (paper start.args.s) start.requires).true_most)
 
 mul_above_2 : tie.Need-mul-above-2
 mul_above_2 c =
     let start = c.before.before.before.before.before.before.before.before.before.before.before in
-    omega (arith, c.work_length.ensures, (bounds (paper start.args.s) start.pre).work_most)
+    omega (arith, c.work_length.ensures, (bounds (paper start.args.s) start.requires).work_most)
 
 returns : tie.Need-returns
 returns c =

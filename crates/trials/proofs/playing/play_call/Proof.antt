@@ -29,8 +29,8 @@ count-at-requires c κs =
     omega (
       arith,
       made.call.auto.1.1.1.1.1.1.1.0,
-      asked.pre.0.sized.side_store,
-      (bounds (paper asked.args.s) asked.pre.0.ready.ok).side_least,
+      asked.requires.0.sized.side_store,
+      (bounds (paper asked.args.s) asked.requires.0.ready.ok).side_least,
     )
 
 returns : tie.Need-returns

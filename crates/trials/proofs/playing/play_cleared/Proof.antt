@@ -19,27 +19,27 @@ module _ (c : tie.After-width) where
   cleared = c.before.before.before.before.before.before.before.before.before.before.before
 
   width_one : KeyWidth c.width.result
-  width_one = key_width (paper (start cleared).args.s) (start cleared).pre.0.ok c.width.ensures
+  width_one = key_width (paper (start cleared).args.s) (start cleared).requires.0.ok c.width.ensures
 
 play-requires : tie.Need-play-requires
 play-requires c κs =
     let made = c.before.before.before.before.before.before.before in
     let wide = made.before.before in
-    let parts = (start (cleared wide)).pre.0 in
+    let parts = (start (cleared wide)).requires.0 in
     let kept = (cleared wide).clear-areas.auto.1 in (
       record {
         ready = ready _ parts.ok wide.width.ensures made.before.made_length.ensures made.make_table.ensures;
         words = parts.words;
         sized = sized_kept parts.sized _ kept.0 kept.1.0 kept.1.1.0 kept.1.1.1.0 kept.1.1.1.1.0;
       },
-      (start (cleared wide)).pre.1,
+      (start (cleared wide)).requires.1,
     )
 
 returns : tie.Need-returns
 returns c =
     let played = c.before.before.before.before.before.before.before.before.before.before.before.before in
     let wide = played.before.before.before.before.before.before.before.before.before.before in
-    tried_by (start (cleared wide)).pre.0 (cleared wide).clear-areas.ensures _ _ _ played.play.ensures
+    tried_by (start (cleared wide)).requires.0 (cleared wide).clear-areas.ensures _ _ _ played.play.ensures
 
 pub play_cleared_spec : {M : Type 1} → statement M
 play_cleared_spec =

@@ -31,25 +31,25 @@ module _ (c : tie.After-work-length) where
   ledger = true_counts.before
 
   small : Within64K (card start.args.s)
-  small = within_64k _ start.pre.1
+  small = within_64k _ start.requires.1
 
   ledger_fits : ledger.ledger_length.result ≤ length start.args.ledger.now
-  ledger_fits = omega (arith, small.ledger, ledger.ledger_length.ensures, start.pre.3.ledger_long)
+  ledger_fits = omega (arith, small.ledger, ledger.ledger_length.ensures, start.requires.3.ledger_long)
 
   true_fits : true_counts.true_length.result ≤ length start.args.true_counts.now
-  true_fits = omega (arith, small.true_counts, true_counts.true_length.ensures, start.pre.3.true_long)
+  true_fits = omega (arith, small.true_counts, true_counts.true_length.ensures, start.requires.3.true_long)
 
   clipped_fits : clipped.clipped_length.result ≤ length start.args.clipped.now
-  clipped_fits = omega (arith, small.clipped_counts, clipped.clipped_length.ensures, start.pre.3.clipped_long)
+  clipped_fits = omega (arith, small.clipped_counts, clipped.clipped_length.ensures, start.requires.3.clipped_long)
 
   buckets_fits : buckets.buckets_length.result ≤ length start.args.buckets.now
-  buckets_fits = omega (arith, small.buckets, buckets.buckets_length.ensures, start.pre.3.buckets_long)
+  buckets_fits = omega (arith, small.buckets, buckets.buckets_length.ensures, start.requires.3.buckets_long)
 
   side_fits : side.side_length.result ≤ length start.args.side.now
-  side_fits = omega (arith, small.side_store, side.side_length.ensures, start.pre.3.side_long)
+  side_fits = omega (arith, small.side_store, side.side_length.ensures, start.requires.3.side_long)
 
   work_fits : c.work_length.result ≤ length start.args.work.now
-  work_fits = omega (arith, small.work, c.work_length.ensures, start.pre.3.work_long)
+  work_fits = omega (arith, small.work, c.work_length.ensures, start.requires.3.work_long)
 
   -- each part has the length that was asked
   ledger_long : length (take ledger.ledger_length.result start.args.ledger.now) ≡ ledger.ledger_length.result
@@ -73,7 +73,7 @@ module _ (c : tie.After-work-length) where
 play-cleared-requires : tie.Need-play-cleared-requires
 play-cleared-requires c κs =
     let known = c.before.before.before.before.before.before in
-    let pre = (start known).pre in (
+    let pre = (start known).requires in (
       record {
         ok = pre.0;
         words = work_long known ∙ known.work_length.ensures;

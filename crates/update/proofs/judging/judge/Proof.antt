@@ -42,17 +42,17 @@ module _ (c : tie.After-valid) where
   new = record { key = start.args.key.now; class = start.args.class }
 
   new_fits : Fit (card_of t).width new
-  new_fits = record { wide = start.pre.wide; small = start.fits.class.fits }
+  new_fits = record { wide = start.requires.wide; small = start.fits.class.fits }
 
   has_two : 2 ≤ length area
-  has_two = has_count (card_of t) area start.pre.whole
+  has_two = has_count (card_of t) area start.requires.whole
 
 -- ---- it is within its rules, and its records are counted
 rules : (c : tie.Else1) → ledger_invalid (card_of (t c.before)) (area c.before) ≡ false
 rules c = negated_true c.before.valid.result _ c.before.valid.ensures (not-false _ c.if1.false)
 
 n_few : (c : tie.After-count-at) → c.count_at.result ≤ (card_of (t c.before.before)).capacity
-n_few c = omega (arith, c.count_at.ensures.0, few _ _ (start c.before.before).pre.whole (rules c.before))
+n_few c = omega (arith, c.count_at.ensures.0, few _ _ (start c.before.before).requires.whole (rules c.before))
 
 -- ---- the spot of the key is found
 module _ (c : tie.After-find-spot) where
@@ -65,7 +65,7 @@ module _ (c : tie.After-find-spot) where
   found : Found (t judged) (start judged).args.edit (new judged).key (new judged).class (area judged) c.find-spot.result
       counted.count_at.result
   found =
-      let asked = (start judged).pre in
+      let asked = (start judged).requires in
       let valid = rules counted.before in
       let count = counted.count_at.ensures.0 in
       record {
@@ -102,7 +102,7 @@ module _ (c : tie.After-place-new) where
       × Placed (card_of (t (entry at))) (start (entry at)).args.m (made at) c.place-new.new.1.1.1.0 (take total c.place-new.new.1.1.1.1.0)
   placed =
       rw (records_are _ _ _ (counted (spot at)).count_at.ensures.0) at
-      (c.place-new.ensures (new (entry at)) (sym (start (entry at)).pre.written) (new_fits (entry at)))
+      (c.place-new.ensures (new (entry at)) (sym (start (entry at)).requires.written) (new_fits (entry at)))
 
 abbrev placing : tie.After-struct-known → tie.After-place-new
 placing c = c.before.before.before.before.before
@@ -135,7 +135,7 @@ place-new-requires : tie.Need-place-new-requires
 place-new-requires c κs =
     let else2 = c.before.before in
     let judged = entry else2 in
-    let asked = (start judged).pre in
+    let asked = (start judged).requires in
     let few = n_few (counted (spot else2)) in
     let most = made_few (accepted else2) (omega (arith, few, capacity_is (t judged))) in
     let high = (ranges (t judged) asked.ready.ok).capacity_high in

@@ -31,7 +31,7 @@ module _ (c : tie.After-left-out) where
 around : (c : tie.After-record-size) → Around (s c.before).width (start c.before).args.edit (start c.before).args.at
     (start c.before).args.count (start c.before).args.ledger.now c.before.left_out.result c.record_size.result
 around c =
-    let pre = (start c.before).pre in
+    let pre = (start c.before).requires in
     let size = c.record_size.ensures ∙ size_is (s c.before) in
     record { fits = pre.place; room = pre.room; left = c.before.left_out.ensures.0; size = size }
 
@@ -50,7 +50,7 @@ module _ (c : tie.After-brought) where
   counted = total_is (around c.before) c.brought.result c.brought.ensures.0
 
   in_kept : total ≤ length e.args.kept.now
-  in_kept = omega (arith, counted, e.pre.choices)
+  in_kept = omega (arith, counted, e.requires.choices)
 
 -- ---- it is placed
 module _ (c : tie.After-place-parts) where
@@ -95,7 +95,7 @@ place-parts-requires c κs =
 side-need-requires : tie.Need-side-need-requires
 side-need-requires c κs =
     let place = placing c.before in
-    let pre = (at place).pre in
+    let pre = (at place).requires in
     let right = sound (paper (at place).args.s) pre.ready.ok in (
       pre.ready.ok,
       pre.buckets,

@@ -36,7 +36,7 @@ module _ (c : tie.After-edit-ledger-arg) where
   made = edited_list start.args.s start.args.edit start.args.key.now start.args.class start.args.ledger.now
 
   new_fits : Fit s.width new
-  new_fits = record { wide = start.pre.wide; small = start.fits.class.fits }
+  new_fits = record { wide = start.requires.wide; small = start.fits.class.fits }
 
 -- ---- the ledger has the new list
 module _ (c : tie.After-edit-ledger) where
@@ -51,14 +51,14 @@ module _ (c : tie.After-edit-ledger) where
 
   written : Written (s at) (made at) edited
   written =
-      let p = e.pre.planned in
+      let p = e.requires.planned in
       let ledger = e.args.ledger.now in
       let known = at.before.before.before.before.before.before.before.before.before.slice-known in
-      let flows = records_fit_width _ ledger e.pre.sized.ledger p.valid (bytes_of ledger known.given) in
+      let flows = records_fit_width _ ledger e.requires.sized.ledger p.valid (bytes_of ledger known.given) in
       record {
         fit = plan_fit p (new_fits at) flows;
         few = p.room;
-        is = c.edit-ledger.ensures (new at) (sym e.pre.written) ∙ ap (counted_places (s at) (s at).capacity) (sym p.list);
+        is = c.edit-ledger.ensures (new at) (sym e.requires.written) ∙ ap (counted_places (s at) (s at).capacity) (sym p.list);
       }
 
   -- as it is lent
@@ -66,14 +66,14 @@ module _ (c : tie.After-edit-ledger) where
   has_two = has_count (s at) edited (long written)
 
   all : records (s at).width e.args.plan.count (take (length edited - 2) (drop 2 edited)) ≡ made at
-  all = lent_list written e.args.plan.count e.pre.planned.count
+  all = lent_list written e.args.plan.count e.requires.planned.count
 
 abbrev listed : tie.After-write-areas-arg5 → tie.After-edit-ledger
 listed c = c.before.before.before.before.before.before.before
 
 edit-ledger-requires : tie.Need-edit-ledger-requires
 edit-ledger-requires c κs =
-    let pre = (start c).pre in
+    let pre = (start c).requires in
     let p = pre.planned in
     record {
       valid = record { permitted = pre.ok; size = pre.sized.ledger; rules = p.valid };
@@ -85,7 +85,7 @@ edit-ledger-requires c κs =
 write-areas-requires : tie.Need-write-areas-requires
 write-areas-requires c κs =
     let ledger = listed c.before.before in
-    let pre = (e ledger).pre in
+    let pre = (e ledger).requires in
     let p = pre.planned in (
       record {
         ok = pre.ok;
@@ -112,6 +112,6 @@ returns c =
 pub write_new_spec : {M : Type 1} → statement M
 write_new_spec =
     tie.close (tie.spec edit-ledger-requires
-    (λ c. let e = e c.before.before.before in sym (length-take-le e.args.plan.count e.args.kept.now (plan_kept e.pre.planned)))
+    (λ c. let e = e c.before.before.before in sym (length-take-le e.args.plan.count e.args.kept.now (plan_kept e.requires.planned)))
     (λ c. has_two (listed c)) (λ c. has_two (listed c.before)) (λ c. search rules) write-areas-requires (λ c. search rules) (λ c. search rules)
     (λ c. search rules) (λ c. search rules) (λ c. search rules) returns)

@@ -22,7 +22,7 @@ module _ (c : tie.After-wide) where
 
   -- the place lies within the part
   place : 1 + length bytes * c.wide.result + length bytes ≤ length part
-  place = subst (λ (k : ℕ). 1 + length bytes * k + length bytes ≤ length part) (sym c.wide.ensures.0) start.pre.1
+  place = subst (λ (k : ℕ). 1 + length bytes * k + length bytes ≤ length part) (sym c.wide.ensures.0) start.requires.1
 
 returns : tie.Need-returns
 returns c =

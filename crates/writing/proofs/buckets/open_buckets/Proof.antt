@@ -55,7 +55,7 @@ module _ (c : tie.After-bucket-size invariant-loop decreases-loop) where
   size = c.bucket_size.result
 
   area_length : length start.args.buckets.now ≡ m * size
-  area_length = parts_long t m size _ start.pre.1 start.pre.3 c.bucket_size.ensures
+  area_length = parts_long t m size _ start.requires.1 start.requires.3 c.bucket_size.ensures
 
 -- ---- in the loop: the part of bucket b lies within the area
 module _ (c : tie.In-loop invariant-loop decreases-loop) where
@@ -75,7 +75,7 @@ open-bucket-requires c κs =
     let at = c.before.before.before in
     let whole = sized at in
     rw (length_lent at.before.loop.at (size whole) at.before.loop.buckets (within at))
-    (omega (arith, whole.bucket_size.ensures, (bounds (t whole) (start whole).pre.0).bucket_size_least))
+    (omega (arith, whole.bucket_size.ensures, (bounds (t whole) (start whole).requires.0).bucket_size_least))
 
 loop-again : tie.Need-loop-preserved invariant-loop decreases-loop
 loop-again c =

@@ -51,8 +51,8 @@ module _ (c : tie.After-shared-slice-known3) where
 
   turn : Turn (s entry).width entry.args.n entry.args.i (area entry)
   turn =
-      let laying = entry.pre.0 in
-      record { wide = laying.records_fit; below = entry.pre.1; octets = bytes_of (area entry) c.shared-slice-known3.given }
+      let laying = entry.requires.0 in
+      record { wide = laying.records_fit; below = entry.requires.1; octets = bytes_of (area entry) c.shared-slice-known3.given }
 
 -- ---- whether it belongs to the side
 module _ (c : tie.After-aside) where
@@ -63,7 +63,7 @@ module _ (c : tie.After-aside) where
   start = entry known
 
   side_is : c.aside.result ≡ on_side start
-  side_is = c.aside.ensures ∙ kept_side start.pre.0 start.args.i start.pre.1
+  side_is = c.aside.ensures ∙ kept_side start.requires.0 start.args.i start.requires.1
 
 -- ---- it does not: its bytes lie in the area
 module _ (c : tie.After-record-size) where
@@ -96,9 +96,9 @@ module _ (c : tie.After-bucket-size) where
 
   part : ChosenPart (s at) at.args.m at.args.i (work at) (area at) (size sized) part_size (choice at) at.args.buckets.now
   part =
-      let laying = at.pre.0 in
+      let laying = at.requires.0 in
       chosen_part (ok at) (turn (known (asked sized))) laying.placed.worked (size sized) part_size (choice at) at.args.buckets.now (size_is sized)
-      c.bucket_size.ensures at.pre.2 (kept_is laying at.args.i at.pre.1) (sym (side_is (asked sized)) ∙ sized.before.if1.left)
+      c.bucket_size.ensures at.requires.2 (kept_is laying at.args.i at.requires.1) (sym (side_is (asked sized)) ∙ sized.before.if1.left)
 
 -- a low mark leaves room for one record more
 room_for : (s : Card) (size part_size mark record_length part_length : ℕ) → size ≡ record_size s → part_size ≡ bucket_size s
@@ -110,7 +110,7 @@ room_for s size part_size mark record_length part_length e f g h low =
 returns : tie.Need-returns
 returns c =
     let e = start c.before in
-    e.pre.2 ∙ skip_side (ok e) (turn (known c.before)) e.pre.0.placed.worked (sym (side_is c.before) ∙ c.if1.true)
+    e.requires.2 ∙ skip_side (ok e) (turn (known c.before)) e.requires.0.placed.worked (sym (side_is c.before) ∙ c.if1.true)
 
 append-requires : tie.Need-append-requires
 append-requires c κs =
@@ -127,7 +127,7 @@ pub place_record_spec : {M : Type 1} → statement M
 place_record_spec =
     tie.close (tie.spec (λ c. search rules) (λ c. is_kept (entry c.before))
     (λ c. omega (arith, choice_most (entry c.before), (entry c.before).fits.m))
-    (λ c κs. let laying = (entry c.before).pre.0 in (laying.buckets, laying.work_length, choice_most (entry c.before))) returns (λ c κs. search rules)
+    (λ c κs. let laying = (entry c.before).requires.0 in (laying.buckets, laying.work_length, choice_most (entry c.before))) returns (λ c κs. search rules)
     (λ c. omega (arith, inside c)) (λ c. omega (arith, inside c)) (λ c κs. search rules) (λ c. omega (arith, (part c).within))
     (λ c. omega (arith, (part c).within)) (λ c. search rules) (λ c. search rules) (λ c. (part c).within) (λ c. search rules) (λ c. search rules)
     (λ c. inside (sized c.before)) append-requires (λ c. search rules)

@@ -37,10 +37,10 @@ loop-again c =
     let args = (start pair).args in
     let loop = (at pair).before.loop in (
       omega arith,
-      simp length-set loop.inv.1,
+      simp length-set loop.invariant.1,
       subst (λ (x : ℕ). take (loop.i + 1) (set loop.clipped loop.i x) ≡ clipped_bytes args.top (nth args.counts.now) (loop.i + 1))
           (sym c.byte_of.ensures)
-          (clipped_more args.top (nth args.counts.now) loop.i _ _ loop.clipped (omega arith) loop.inv.2 (even pair) (odd pair)),
+          (clipped_more args.top (nth args.counts.now) loop.i _ _ loop.clipped (omega arith) loop.invariant.2 (even pair) (odd pair)),
     )
 
 returns : tie.Need-returns invariant-loop decreases-loop

@@ -44,8 +44,8 @@ module _ (c : tie.After-shared-slice-known3) where
 
   turn : Turn (s entry).width entry.args.n entry.args.i (area entry)
   turn =
-      let laying = entry.pre.0 in
-      record { wide = laying.records_fit; below = entry.pre.1; octets = bytes_of (area entry) c.shared-slice-known3.given }
+      let laying = entry.requires.0 in
+      record { wide = laying.records_fit; below = entry.requires.1; octets = bytes_of (area entry) c.shared-slice-known3.given }
 
 -- ---- whether it belongs to the side
 module _ (c : tie.After-aside) where
@@ -56,7 +56,7 @@ module _ (c : tie.After-aside) where
   start = entry known
 
   side_is : c.aside.result ≡ on_side start
-  side_is = c.aside.ensures ∙ kept_side start.pre.0 start.args.i start.pre.1
+  side_is = c.aside.ensures ∙ kept_side start.requires.0 start.args.i start.requires.1
 
 -- ---- it does: its bytes lie in the area, and the free place in the store
 module _ (c : tie.After-record-size) where
@@ -81,8 +81,8 @@ module _ (c : tie.After-record-size) where
 
   place : e.args.free + size ≤ length e.args.store.now
   place =
-      let room = place_within (turn (known asked)) (worked e) e.pre.2 yes in
-      omega (arith, room, e.pre.3, ap length e.pre.4, c.record_size.ensures)
+      let room = place_within (turn (known asked)) (worked e) e.requires.2 yes in
+      omega (arith, room, e.requires.3, ap length e.requires.4, c.record_size.ensures)
 
 next_free : (z size free j k : ℕ) → size ≡ z → free ≡ z * j → k ≡ j + 1 → free + size ≡ z * k
 next_free z size free j k e f g = rw (e, f, g, mul-add, mul-one)
@@ -90,14 +90,14 @@ next_free z size free j k e f g = rw (e, f, g, mul-add, mul-one)
 aside-requires : tie.Need-aside-requires
 aside-requires c κs =
     let start = entry c.before in
-    (start.pre.0.buckets, start.pre.0.work_length, kept_most start.pre.0 start.args.i)
+    (start.requires.0.buckets, start.requires.0.work_length, kept_most start.requires.0 start.args.i)
 
 returns : tie.Need-returns
 returns c =
     let e = start c.before in
     let out = sym (side_is c.before) ∙ not-true c.before.aside.result c.if1.true in
     let same = not_sent (turn (known c.before)) (worked e) out in
-    (e.pre.3 ∙ ap (λ (l : List Record). record_size (s e) * length l) same, e.pre.4 ∙ ap (places (s e) (s e).side_places) same)
+    (e.requires.3 ∙ ap (λ (l : List Record). record_size (s e) * length l) same, e.requires.4 ∙ ap (places (s e) (s e).side_places) same)
 
 returns-2 : tie.Need-returns-2
 returns-2 c =
@@ -107,14 +107,14 @@ returns-2 c =
     let turn = turn (known (asked sized)) in
     let z = size sized in
     let lent = lent_is (e.args.i * z) _ z _ (area e) _ (ap (λ (z : ℕ). e.args.i * z) (size_is sized)) (size_is sized) refl in (
-      next_free _ z e.args.free _ _ sized.record_size.ensures e.pre.3 (sent_length turn (worked e) (yes sized)),
-      back_is e.args.free _ z _ e.args.store.now _ copy.new.0 _ e.pre.3 sized.record_size.ensures e.pre.4
+      next_free _ z e.args.free _ _ sized.record_size.ensures e.requires.3 (sent_length turn (worked e) (yes sized)),
+      back_is e.args.free _ z _ e.args.store.now _ copy.new.0 _ e.requires.3 sized.record_size.ensures e.requires.4
           (copy.ensures ∙ lent)
-          ∙ sent_put turn (worked e) e.pre.2 (yes sized),
+          ∙ sent_put turn (worked e) e.requires.2 (yes sized),
     )
 
 pub side_record_spec : {M : Type 1} → statement M
 side_record_spec =
-    tie.close (tie.spec (λ c. search rules) (λ c. omega (arith, (entry c.before).pre.1, kept_length (entry c.before).pre.0)) aside-requires returns
+    tie.close (tie.spec (λ c. search rules) (λ c. omega (arith, (entry c.before).requires.1, kept_length (entry c.before).requires.0)) aside-requires returns
     (λ c κs. search rules) (λ c. omega (arith, inside c)) (λ c. omega (arith, inside c)) (λ c. omega (arith, place c)) (λ c. search rules) (λ c. search rules)
     (λ c. place c) (λ c. search rules) (λ c. search rules) (λ c. inside c.before) (λ c κs. search rules) (λ c. search rules) returns-2)

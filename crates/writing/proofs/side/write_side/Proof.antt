@@ -51,22 +51,22 @@ returns : tie.Need-returns
 returns c =
     let zeroed = c.before.before.before in
     let e = start zeroed in
-    zeroed.zero_fill.ensures ∙ ap zeros e.pre.1 ∙ sym (side_none (worked e) (sym e.pre.2 ∙ c.if1.true))
+    zeroed.zero_fill.ensures ∙ ap zeros e.requires.1 ∙ sym (side_none (worked e) (sym e.requires.2 ∙ c.if1.true))
 
 side-records-requires : tie.Need-side-records-requires
 side-records-requires c κs =
     let zeroed = c.before.before.before.before in
     let e = start zeroed in (
-      e.pre.0,
-      omega (arith, e.pre.2, e.pre.3, sent_need (worked e)),
+      e.requires.0,
+      omega (arith, e.requires.2, e.requires.3, sent_need (worked e)),
       tail_is 2 (blank zeroed) (few zeroed) ∙ ap (drop 2) zeroed.zero_fill.ensures ∙ zeros_drop (length (side e)) 2
-          ∙ sent_none (card_of (t e)) e.args.m e.args.work.now e.args.area.now _ (places_length (card_of (t e)) (length (side e)) e.pre.1),
+          ∙ sent_none (card_of (t e)) e.args.m e.args.work.now e.args.area.now _ (places_length (card_of (t e)) (length (side e)) e.requires.1),
     )
 
 write-number-requires : tie.Need-write-number-requires
 write-number-requires c κs =
     let e = start c.before.before.before.before.before.before.before.before in
-    (omega (arith, has_two e), omega (arith, e.pre.3, (sound (t e) e.pre.0.ok).side_small))
+    (omega (arith, has_two e), omega (arith, e.requires.3, (sound (t e) e.requires.0.ok).side_small))
 
 returns-2 : tie.Need-returns-2
 returns-2 c =
@@ -78,7 +78,7 @@ returns-2 c =
     c.before.before.write_number.ensures
     ∙ ap (λ (l : List ℕ). to_bytes 2 e.args.need ++ drop 2 l) (tail_back 2 (blank zeroed) places (few zeroed))
     ∙ ap (λ (l : List ℕ). to_bytes 2 e.args.need ++ l) (front ∙ sent.side_records.ensures)
-    ∙ side_written (worked e) e.args.need e.pre.2
+    ∙ side_written (worked e) e.args.need e.requires.2
 
 pub write_side_spec : {M : Type 1} → statement M
 write_side_spec =
