@@ -13,7 +13,7 @@ use Rattle.placing.proofs.place_parts.Statement.{statement}
 use Rattle.placing.proofs.place_parts.Tie as tie
 
 -- ---- work is zeros
-module _ (c : tie.After-zero-counts) where
+module _ (c : tie.After-zero_counts) where
   abbrev start : tie.Start
   start = c.before.before.before.before.before.before.before.before
 
@@ -21,24 +21,24 @@ module _ (c : tie.After-zero-counts) where
   m = start.args.m
 
   abbrev zeros : List ℕ
-  zeros = c.zero-counts.new.0
+  zeros = c.zero_counts.new.counts
 
   long : m ≤ length zeros
-  long = omega (arith, c.zero-counts.auto.0, start.requires.halves)
+  long = omega (arith, c.zero_counts.auto.counts, start.requires.halves)
 
   half : length (take m zeros) ≡ m
   half = length-take-le m zeros long
 
 -- ---- its first half is the true counts
-module _ (c : tie.After-count-parts) where
-  abbrev zeroed : tie.After-zero-counts
+module _ (c : tie.After-count_parts) where
+  abbrev zeroed : tie.After-zero_counts
   zeroed = c.before.before.before.before
 
   abbrev counts : List ℕ
-  counts = c.count_parts.new.1.1.0
+  counts = c.count_parts.new.counts
 
   counts_long : length counts ≡ m zeroed
-  counts_long = c.count_parts.auto.1.1.0 ∙ half zeroed
+  counts_long = c.count_parts.auto.counts ∙ half zeroed
 
   abbrev work : List ℕ
   work = counts ++ drop (m zeroed) (zeros zeroed)
@@ -46,9 +46,9 @@ module _ (c : tie.After-count-parts) where
   rest_zero : (x : ℕ) → nth (drop (m zeroed) work) x ≡ 0
   rest_zero x =
       ap (λ (z : List ℕ). nth z x) (front_drop (m zeroed) (zeros zeroed) counts (long zeroed) counts_long)
-      ∙ ap (λ (z : List ℕ). nth (drop (m zeroed) z) x) zeroed.zero-counts.ensures ∙ zero_at_drop (length (start zeroed).args.work.now) (m zeroed) x
+      ∙ ap (λ (z : List ℕ). nth (drop (m zeroed) z) x) zeroed.zero_counts.ensures ∙ zero_at_drop (length (start zeroed).args.work.now) (m zeroed) x
 
-count-parts-requires : tie.Need-count-parts-requires
+count-parts-requires : tie.Need-count_parts-requires
 count-parts-requires c κs =
     let zeroed = c.before.before.before in
     let p = (start zeroed).requires in
@@ -59,10 +59,10 @@ count-parts-requires c κs =
       second = p.second;
       third = p.third;
       few = p.few;
-      zeros = λ b. rw zeroed.zero-counts.ensures (zero_at_take (length (start zeroed).args.work.now) (m zeroed) b);
+      zeros = λ b. rw zeroed.zero_counts.ensures (zero_at_take (length (start zeroed).args.work.now) (m zeroed) b);
     }
 
-choose-parts-requires : tie.Need-choose-parts-requires
+choose-parts-requires : tie.Need-choose_parts-requires
 choose-parts-requires c κs =
     let counted = c.before.before.before.before in
     let whole = zeroed counted in
@@ -70,7 +70,7 @@ choose-parts-requires c κs =
       record {
         ready = p.ready;
         buckets = p.buckets;
-        halves = front_length (m whole) (zeros whole) (counts counted) (long whole) (counts_long counted) ∙ whole.zero-counts.kept.0 ∙ p.halves;
+        halves = front_length (m whole) (zeros whole) (counts counted) (long whole) (counts_long counted) ∙ whole.zero_counts.auto.counts ∙ p.halves;
         first = p.first;
         second = p.second;
         third = p.third;
@@ -86,7 +86,7 @@ returns c =
     let counted = chose.before.before.before.before.before in
     let whole = zeroed counted in
     placed _ _ _ (counts counted) (work counted) _ _ (front_take (m whole) (zeros whole) (counts counted) (long whole) (counts_long counted))
-    counted.count_parts.ensures (rest_zero counted) chose.choose-parts.ensures
+    counted.count_parts.ensures (rest_zero counted) chose.choose_parts.ensures
 
 pub place_parts_spec : {M : Type 1} → statement M
 place_parts_spec =

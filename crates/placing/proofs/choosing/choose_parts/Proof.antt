@@ -16,7 +16,7 @@ use Rattle.placing.proofs.choosing.choose_parts.Statement.{statement}
 use Rattle.placing.proofs.choosing.choose_parts.Tie as tie
 
 -- ---- at the first call
-module _ (c : tie.After-choose-more-arg2) where
+module _ (c : tie.After-choose_more-arg-2-1) where
   abbrev start : tie.Start
   start = c.before.before.before.before.before.before.before.before
 
@@ -33,32 +33,32 @@ module _ (c : tie.After-choose-more-arg2) where
   after = records s.width start.args.after_count start.args.after.now
 
 -- ---- the first list has chosen
-module _ (c : tie.After-choose-more) where
-  abbrev first : tie.After-choose-more-arg2
+module _ (c : tie.After-choose_more) where
+  abbrev first : tie.After-choose_more-arg-2-1
   first = c.before
 
   abbrev ys : List ℕ
-  ys = c.choose-more.new.1.1.1.1.1.1.0
+  ys = c.choose_more.new.kept
 
   ys_long : length ys ≡ (start first).args.before_count
-  ys_long = c.choose-more.auto.1.1.1.1.1.1.0 ∙ first_lent _ _ _ _ (start first).requires.0.places
+  ys_long = c.choose_more.auto.kept ∙ first_lent _ _ _ _ (start first).requires.0.places
 
 -- ---- and the second
-module _ (c : tie.After-choose-more2) where
-  abbrev once : tie.After-choose-more
+module _ (c : tie.After-choose_more-2) where
+  abbrev once : tie.After-choose_more
   once = c.before.before.before.before.before.before.before
 
   abbrev zs : List ℕ
-  zs = c.choose_more2.new.1.1.1.1.1.1.0
+  zs = c.choose_more-2.new.kept
 
   zs_long : length zs ≡ (start (first once)).args.between_count
-  zs_long = c.choose_more2.auto.1.1.1.1.1.1.0 ∙ second_lent _ _ _ _ (start (first once)).requires.0.places (ys once) (ys_long once)
+  zs_long = c.choose_more-2.auto.kept ∙ second_lent _ _ _ _ (start (first once)).requires.0.places (ys once) (ys_long once)
 
   two : Chose (s (first once)) (start (first once)).args.m (before (first once) ++ between (first once)) (start (first once)).args.work.now
-      c.choose_more2.new.1.1.1.0 (ys once ++ zs)
-  two = chose_append _ _ _ _ _ _ _ (ys once) zs once.choose-more.ensures c.choose_more2.ensures
+      c.choose_more-2.new.work (ys once ++ zs)
+  two = chose_append _ _ _ _ _ _ _ (ys once) zs once.choose_more.ensures c.choose_more-2.ensures
 
-choose-more-requires : tie.Need-choose-more-requires
+choose-more-requires : tie.Need-choose_more-requires
 choose-more-requires c κs =
     let p = (start c).requires.0 in
     record {
@@ -70,22 +70,22 @@ choose-more-requires c κs =
       places = first_lent _ _ _ _ p.places;
     }
 
-choose-more-requires-2 : tie.Need-choose-more-requires-2
+choose-more-requires-2 : tie.Need-choose_more-requires-2
 choose-more-requires-2 c κs =
     let once = c.before.before.before.before.before.before in
     let at = first once in
     let p = (start at).requires.0 in
-    let few = chose_few _ _ _ _ _ _ once.choose-more.ensures (start at).requires.1 in
+    let few = chose_few _ _ _ _ _ _ once.choose_more.ensures (start at).requires.1 in
     record {
       ready = p.ready;
       buckets = p.buckets;
-      halves = once.choose-more.auto.1.1.1.0 ∙ p.halves;
+      halves = once.choose_more.auto.work ∙ p.halves;
       there = p.second;
       few = λ x. omega (arith, few x, length_records (s at).width (start at).args.before_count (start at).args.before.now, p.few);
       places = second_lent _ _ _ _ p.places (ys once) (ys_long once);
     }
 
-choose-more-requires-3 : tie.Need-choose-more-requires-3
+choose-more-requires-3 : tie.Need-choose_more-requires-3
 choose-more-requires-3 c κs =
     let twice = c.before.before.before.before.before.before in
     let at = first (once twice) in
@@ -98,7 +98,7 @@ choose-more-requires-3 c κs =
     record {
       ready = p.ready;
       buckets = p.buckets;
-      halves = twice.choose_more2.auto.1.1.1.0 ∙ (once twice).choose-more.auto.1.1.1.0 ∙ p.halves;
+      halves = twice.choose_more-2.auto.work ∙ (once twice).choose_more.auto.work ∙ p.halves;
       there = p.third;
       few = λ x. omega (arith, few x, long, before_long, between_long, p.few);
       places = third_lent _ _ _ _ p.places (ys (once twice)) (ys_long (once twice)) (zs twice) (zs_long twice);
@@ -110,10 +110,10 @@ returns c =
     let thrice = c.before.before.before.before in
     let twice = thrice.before.before.before.before.before.before.before in
     let at = first (once twice) in
-    let vs = thrice.choose-more3.new.1.1.1.1.1.1.0 in
-    let last_two = chose_append _ _ _ _ _ _ _ (zs twice) vs twice.choose_more2.ensures thrice.choose-more3.ensures in
+    let vs = thrice.choose_more-3.new.kept in
+    let last_two = chose_append _ _ _ _ _ _ _ (zs twice) vs twice.choose_more-2.ensures thrice.choose_more-3.ensures in
     rw (three_back _ _ _ _ (start at).requires.0.places (ys (once twice)) (ys_long (once twice)) (zs twice) (zs_long twice) vs)
-    (chose_append _ _ _ _ _ _ _ (ys (once twice)) (zs twice ++ vs) (once twice).choose-more.ensures last_two)
+    (chose_append _ _ _ _ _ _ _ (ys (once twice)) (zs twice ++ vs) (once twice).choose_more.ensures last_two)
 
 pub choose_parts_spec : {M : Type 1} → statement M
 choose_parts_spec =
