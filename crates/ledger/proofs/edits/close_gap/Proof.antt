@@ -8,15 +8,15 @@ use Rattle.ledger.proofs.ShiftLaws.{Moved, down_start, down_more}
 use Rattle.ledger.proofs.edits.close_gap.Statement.{statement}
 use Rattle.ledger.proofs.edits.close_gap.Tie as tie
 
-abbrev invariant-loop : tie.invariant-loop
+abbrev invariant-loop : tie.invariant-loop-j
 invariant-loop area₀ size from to last j₀ area j = Moved from last area₀ area (moved_down size from j area₀) j
 
-abbrev decreases-loop : tie.decreases-loop
+abbrev decreases-loop : tie.decreases-loop-j
 decreases-loop area₀ size from to last j₀ area j = last - j
 
-loop-again : tie.Need-loop-preserved invariant-loop decreases-loop
+loop-again : tie.Need-loop-j-preserved invariant-loop decreases-loop
 loop-again c =
-    let loop = c.before.before.loop in
+    let loop = c.before.before.loop-j in
     let args = c.before.before.before.args in record {
       after = omega arith;
       until = omega arith;
@@ -26,7 +26,7 @@ loop-again c =
 
 returns : tie.Need-returns invariant-loop decreases-loop
 returns c =
-    let loop = c.before.loop in
+    let loop = c.before.loop-j in
     let args = c.before.before.args in
     let e : loop.j ≡ args.to - args.size = omega arith in loop.invariant.is ∙ rw e
 

@@ -8,15 +8,15 @@ use Rattle.ledger.proofs.ShiftLaws.{Moved, up_start, up_more}
 use Rattle.ledger.proofs.edits.open_gap.Statement.{statement}
 use Rattle.ledger.proofs.edits.open_gap.Tie as tie
 
-abbrev invariant-loop : tie.invariant-loop
+abbrev invariant-loop : tie.invariant-loop-j
 invariant-loop area₀ size from to j₀ area j = Moved from to area₀ area (moved_up size j to area₀) j
 
-abbrev decreases-loop : tie.decreases-loop
+abbrev decreases-loop : tie.decreases-loop-j
 decreases-loop area₀ size from to j₀ area j = j
 
-loop-again : tie.Need-loop-preserved invariant-loop decreases-loop
+loop-again : tie.Need-loop-j-preserved invariant-loop decreases-loop
 loop-again c =
-    let loop = c.before.before.loop in
+    let loop = c.before.before.loop-j in
     let args = c.before.before.before.args in
     let e : loop.j - 1 + 1 ≡ loop.j = omega arith in record {
       after = omega arith;
@@ -27,7 +27,7 @@ loop-again c =
 
 returns : tie.Need-returns invariant-loop decreases-loop
 returns c =
-    let loop = c.before.loop in
+    let loop = c.before.loop-j in
     let e : loop.j ≡ c.before.before.args.from = omega arith in loop.invariant.is ∙ rw e
 
 pub open_gap_spec : {M : Type 1} → statement M

@@ -12,44 +12,44 @@ use Rattle.ledger.proofs.edits.remove_record.Statement.{statement}
 use Rattle.ledger.proofs.edits.remove_record.Tie as tie
 
 -- ---- the count and a record's size are read
-module _ (c : tie.After-record-size) where
+module _ (c : tie.After-record_size-size) where
   abbrev start : tie.Start
-  start = c.before.before.before.before
+  start = c.before.before.before
 
   abbrev end : ℕ
-  end = 2 + c.record_size.result * c.before.count_at.result
+  end = 2 + c.record_size-size.result * c.before.count_at-n.result
 
-  place : Place start.args.s start.args.ledger.now c.record_size.result c.before.count_at.result start.args.at
+  place : Place start.args.s start.args.ledger.now c.record_size-size.result c.before.count_at-n.result start.args.at
   place = record {
     ledger = start.requires.0;
-    bytes = bytes_of start.args.ledger.now c.before.before.before.slice-known.given;
-    size_is = c.record_size.ensures;
-    count = c.before.count_at.ensures.0;
+    bytes = bytes_of start.args.ledger.now c.slice_known-1.given;
+    size_is = c.record_size-size.ensures;
+    count = c.before.count_at-n.ensures.0;
     within = omega (arith, start.requires.1);
   }
 
 -- ---- the gap is closed
-module _ (c : tie.After-close-gap) where
-  abbrev sized : tie.After-record-size
+module _ (c : tie.After-close_gap) where
+  abbrev sized : tie.After-record_size-size
   sized = c.before.before
 
-  room_left : end sized ≤ length c.close-gap.new.0
-  room_left = omega (arith, remove_room (place sized) (start sized).requires.1, c.close-gap.auto.0)
+  room_left : end sized ≤ length c.close_gap.new.area
+  room_left = omega (arith, remove_room (place sized) (start sized).requires.1, c.close_gap.auto.area)
 
-sub_write_number : tie.Need-overflow_sub-write-number
+sub_write_number : tie.Need-overflow_sub-n
 sub_write_number c =
     let sized = sized c.before.before.before.before.before.before.before in
     omega (arith, count_listed (place sized), (start sized).requires.1)
 
-write-number-requires : tie.Need-write-number-requires
+write-number-requires : tie.Need-write_number-requires
 write-number-requires c κs =
     let cleared = c.before.before.before in
     let closed = cleared.before.before.before.before in
     let sized = sized closed in
-    let size : ℕ = sized.record_size.result in (
-      two_kept (end sized - size) (end sized - (end sized - size)) closed.close-gap.new.0 cleared.zero_fill.new.0
+    let size : ℕ = sized.record_size-size.result in (
+      two_kept (end sized - size) (end sized - (end sized - size)) closed.close_gap.new.area cleared.zero_fill.new.to
           (omega (arith, remove_room (place sized) (start sized).requires.1)) (omega (arith, room_left closed)),
-      omega (arith, sized.before.count_at.ensures.1),
+      omega (arith, sized.before.count_at-n.ensures.1),
     )
 
 returns : tie.Need-returns
@@ -58,11 +58,11 @@ returns c =
     let closed = cleared.before.before.before.before in
     let sized = sized closed in
     c.before.before.write_number.ensures
-    ∙ remove_written (place sized) (start sized).requires.1 _ _ closed.close-gap.auto.0 closed.close-gap.ensures cleared.zero_fill.ensures
+    ∙ remove_written (place sized) (start sized).requires.1 _ _ closed.close_gap.auto.area closed.close_gap.ensures cleared.zero_fill.ensures
 
 pub remove_record_spec : {M : Type 1} → statement M
 remove_record_spec =
-    tie.close (tie.spec (λ c κs. let start = c.before.before in has_count (card start.args.s) start.args.ledger.now start.requires.0.size)
+    tie.close (tie.spec (λ c κs. let start = c.before in has_count (card start.args.s) start.args.ledger.now start.requires.0.size)
     (λ c κs. search rules) (λ c. omega (arith, remove_room (place c) (start c).requires.1)) (λ c. omega (arith, remove_room (place c) (start c).requires.1))
     (λ c. omega (arith, remove_room (place c) (start c).requires.1)) (λ c. omega (arith, remove_room (place c) (start c).requires.1))
     (λ c. omega (arith, remove_room (place c) (start c).requires.1))

@@ -11,21 +11,21 @@ use Rattle.ledger.proofs.edits.replace_record.Statement.{statement}
 use Rattle.ledger.proofs.edits.replace_record.Tie as tie
 
 -- ---- a record's size is read
-module _ (c : tie.After-record-size) where
+module _ (c : tie.After-record_size-size) where
   abbrev start : tie.Start
   start = c.before.before.before
 
-  place : Place start.args.s start.args.ledger.now c.record_size.result (count_of start.args.ledger.now) start.args.at
+  place : Place start.args.s start.args.ledger.now c.record_size-size.result (count_of start.args.ledger.now) start.args.at
   place = record {
     ledger = start.requires.0;
-    bytes = bytes_of start.args.ledger.now c.before.before.slice-known.given;
-    size_is = c.record_size.ensures;
+    bytes = bytes_of start.args.ledger.now c.before.before.slice_known-1.given;
+    size_is = c.record_size-size.ensures;
     count = refl;
     within = omega (arith, start.requires.1);
   }
 
   -- the record lies in the area
-  room : 2 + c.record_size.result * start.args.at + c.record_size.result ≤ length start.args.ledger.now
+  room : 2 + c.record_size-size.result * start.args.at + c.record_size-size.result ≤ length start.args.ledger.now
   room = omega (arith, remove_room place start.requires.1)
 
 returns : tie.Need-returns

@@ -4,7 +4,6 @@ use mathlib.Core.Path.{◌≡◌, refl, sym, ◌∙◌}
 use Prim.Native.Nat.{ℕ, ◌≤◌, ◌+◌, ◌*◌}
 use native.Mathlib.Nat.{add-sub_cancel_left, mul-le-mul_right}
 use native.Mathlib.Omega.{arith}
-use borrow.Author.Tests.{not-true, not-false}
 use lib.ListN.{length, take, drop}
 use Rattle.theory.specs.Records.{records, key_below, rising}
 use Rattle.memory.proofs.SliceLaws.{length_lent}
@@ -17,14 +16,14 @@ record Rest (places : List ℕ) (n width left at : ℕ) : Type 0 where
   room : at + left * (width + 4) ≤ length places
   same : rising (records width left (drop at places)) ≡ rising (records width n places)
 
-abbrev invariant-loop : tie.invariant-loop
+abbrev invariant-loop : tie.invariant-loop-left
 invariant-loop places n width size left₀ at₀ left at = Rest places n width left at
 
-abbrev decreases-loop : tie.decreases-loop
+abbrev decreases-loop : tie.decreases-loop-left
 decreases-loop places n width size left₀ at₀ left at = left
 
 -- ---- two records are left at least
-module _ (c : tie.In-loop invariant-loop decreases-loop) where
+module _ (c : tie.In-loop-left invariant-loop decreases-loop) where
   abbrev start : tie.Start invariant-loop decreases-loop
   start = c.before.before.before.before
 
@@ -35,58 +34,58 @@ module _ (c : tie.In-loop invariant-loop decreases-loop) where
   width = start.args.width
 
   abbrev at : ℕ
-  at = c.before.loop.at
+  at = c.before.loop-left.at
 
   room : at + (width + 4) + (width + 4) ≤ length places
-  room = room_two at c.before.loop.left (width + 4) (length places) c.before.loop.invariant.room c.loop-test.true
+  room = room_two at c.before.loop-left.left (width + 4) (length places) c.before.loop-left.invariant.room c.loop-left-test.true
 
 -- ---- their keys are compared
-module _ (c : tie.After-below-key invariant-loop decreases-loop) where
-  abbrev met : tie.In-loop invariant-loop decreases-loop
+module _ (c : tie.After-below_key invariant-loop decreases-loop) where
+  abbrev met : tie.In-loop-left invariant-loop decreases-loop
   met = c.before.before.before
 
-  compared : c.Below_key.result
+  compared : c.below_key.result
       ≡ key_below (take (width met) (drop (at met) (places met))) (take (width met) (drop (at met + (width met + 4)) (places met)))
   compared =
       let start = met.before.before.before.before in
-      let loop = met.before.loop in
+      let loop = met.before.loop-left in
       rw (add-sub_cancel_left loop.at start.args.width, add-sub_cancel_left (loop.at + (start.args.width + 4)) start.args.width) at
-      c.Below_key.ensures
+      c.below_key.ensures
 
-below-key-requires : tie.Need-below-key-requires invariant-loop decreases-loop
+below-key-requires : tie.Need-below_key-requires invariant-loop decreases-loop
 below-key-requires c κs =
     let met = c.before.before in
     let r = room met in
     length_lent (at met) (width met) (places met) (omega arith)
     ∙ sym (length_lent (at met + (width met + 4)) (width met) (places met) (omega arith))
 
-returns-2 : tie.Need-returns-2 invariant-loop decreases-loop
+returns-2 : tie.Need-returns-then-not-below_key invariant-loop decreases-loop
 returns-2 c =
     let met = met c.before in
-    let loop = met.before.loop in
+    let loop = met.before.loop-left in
     sym (sym loop.invariant.same ∙ rising_next (width met) loop.left (at met) (places met) (omega arith)
-    ∙ rw (sym (compared c.before) ∙ not-true c.before.Below_key.result c.if2.true))
+    ∙ rw (sym (compared c.before) ∙ c.if-not-below_key.true))
 
-loop-again : tie.Need-loop-preserved invariant-loop decreases-loop
+loop-again : tie.Need-loop-left-preserved invariant-loop decreases-loop
 loop-again c =
     let met = met c.before in
-    let loop = met.before.loop in
+    let loop = met.before.loop-left in
     let next = rising_next (width met) loop.left (at met) (places met) (omega arith) in record {
       some = omega arith;
       room = (room_next (at met) loop.left (width met + 4) (length (places met)) loop.invariant.room (omega arith)).1;
-      same = sym (rw (sym (compared c.before) ∙ not-false c.before.Below_key.result c.if2.false) at next) ∙ loop.invariant.same;
+      same = sym (rw (sym (compared c.before) ∙ c.if-not-below_key.false) at next) ∙ loop.invariant.same;
     }
 
-returns-3 : tie.Need-returns-3 invariant-loop decreases-loop
+returns-3 : tie.Need-returns invariant-loop decreases-loop
 returns-3 c =
     let at = c.before in
     let args = at.before.before.before.args in
-    let e : at.loop.left ≡ 1 = omega arith in
-    sym (rising_one args.width at.loop.at args.places.now) ∙ rw e at at.loop.invariant.same
+    let e : at.loop-left.left ≡ 1 = omega arith in
+    sym (rising_one args.width at.loop-left.at args.places.now) ∙ rw e at at.loop-left.invariant.same
 
 pub keys_rise_spec : {M : Type 1} → statement M
 keys_rise_spec =
-    tie.close (tie.spec invariant-loop decreases-loop (λ c. let args = c.before.before.args in sym (rw c.if1.true (rising_none args.width args.places.now)))
+    tie.close (tie.spec invariant-loop decreases-loop (λ c. let args = c.before.before.args in sym (rw c.if-n-eq0.true (rising_none args.width args.places.now)))
     (λ c. let args = c.before.before.args in omega (arith, mul-le-mul_right {m = 1} {n = args.n} (args.width + 4) (omega arith)))
     (λ c. record { some = omega arith; room = omega arith; same = refl }) (λ c. omega (arith, room c)) (λ c. omega (arith, room c))
     (λ c. omega (arith, room c)) (λ c. omega (arith, room c)) (λ c. omega (arith, room c)) (λ c. omega (arith, room c)) (λ c. omega (arith, room c.before))

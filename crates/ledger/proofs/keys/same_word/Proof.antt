@@ -9,9 +9,9 @@ returns : tie.Need-returns
 returns c =
     let read = c.before in
     let start = read.before.before.before in
-    let bytes_a = bytes_of start.args.a.now read.before.before.shared-slice-known.given in
-    let bytes_b = bytes_of start.args.b.now read.before.shared-slice-known2.given in
-    rw (read.low-word-at.ensures, c.low-word-at2.ensures)
+    let bytes_a = bytes_of start.args.a.now read.before.before.shared_slice_known-1.given in
+    let bytes_b = bytes_of start.args.b.now read.before.shared_slice_known-2-1.given in
+    rw (read.low_word_at.ensures, c.low_word_at-2.ensures)
     (same_by_word start.args.a.now start.args.b.now start.args.at bytes_a bytes_b start.requires.0 start.requires.1)
 
 pub same_word_spec : {M : Type 1} → statement M
