@@ -11,7 +11,7 @@ use Rattle.packet.proofs.read_packet_key.Statement.{statement}
 use Rattle.packet.proofs.read_packet_key.Tie as tie
 
 -- ---- the buffer has the key's length, and the packet is judged
-module _ (c : tie.After-refusal) where
+module _ (c : tie.After-refusal-number) where
   abbrev start : tie.Start
   start = c.before.before.before.before
 
@@ -22,27 +22,27 @@ module _ (c : tie.After-refusal) where
   buffer = start.args.buffer.now
 
 -- ---- nothing is refused
-none : (c : tie.Else2) → refusal_of (reading (packet c.before)) ≡ 0
-none c = sym c.before.refusal.ensures ∙ c.if2.false
+none : (c : tie.Else-number-ne0) → refusal_of (reading (packet c.before)) ≡ 0
+none c = sym c.before.refusal-number.ensures ∙ c.if-number-ne0.false
 
-returns : tie.Need-returns
+returns : tie.Need-returns-then-buffer-ne-IPV4_WIDTH
 unfolding read_packet
-returns c = let args = c.before.before.before.args in keyed_3 (reading args.packet.now) args.buffer.now c.if1.true
+returns c = let args = c.before.before.before.args in keyed_3 (reading args.packet.now) args.buffer.now c.if-buffer-ne-IPV4_WIDTH.true
 
-returns-2 : tie.Need-returns-2
+returns-2 : tie.Need-returns-then-number-ne0
 unfolding read_packet
 returns-2 c =
     let judged = c.before in
-    keyed_refused (reading (packet judged)) (buffer judged) judged.before.if1.false judged.refusal.result judged.refusal.ensures c.if2.true
+    keyed_refused (reading (packet judged)) (buffer judged) judged.before.if-buffer-ne-IPV4_WIDTH.false judged.refusal-number.result judged.refusal-number.ensures c.if-number-ne0.true
 
-returns-3 : tie.Need-returns-3
+returns-3 : tie.Need-returns
 unfolding read_packet
 returns-3 c =
     let right = c.before.before.before.before in
     let judged = right.before in
-    rw c.before.before.write_key.ensures (keyed_0 (reading (packet judged)) (buffer judged) judged.before.if1.false (omega arith) (none right))
+    rw c.before.before.write_key.ensures (keyed_0 (reading (packet judged)) (buffer judged) judged.before.if-buffer-ne-IPV4_WIDTH.false (omega arith) (none right))
 
 pub read_packet_key_spec : {M : Type 1} → statement M
 read_packet_key_spec =
     tie.close (tie.spec returns (λ c κs. search rules) returns-2
-    (λ c κs. (unrefused_right (packet c.before.before) (none c.before), c.before.before.before.if1.false)) (λ c. search rules) returns-3)
+    (λ c κs. (unrefused_right (packet c.before.before) (none c.before), c.before.before.before.if-buffer-ne-IPV4_WIDTH.false)) (λ c. search rules) returns-3)

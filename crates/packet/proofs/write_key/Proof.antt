@@ -13,8 +13,8 @@ use Rattle.packet.proofs.write_key.Statement.{statement}
 use Rattle.packet.proofs.write_key.Tie as tie
 
 -- ---- both addresses are written, and the part after the header is lent
-module _ (c : tie.After-has-ports) where
-  abbrev destination : tie.After-copy2
+module _ (c : tie.After-has_ports) where
+  abbrev destination : tie.After-copy-2
   destination = c.before.before.before.before.before
 
   abbrev source : tie.After-copy
@@ -26,20 +26,20 @@ module _ (c : tie.After-has-ports) where
   abbrev packet : List ℕ
   packet = start.args.packet.now
 
-  source_is : source.copy.last.0 ≡ take 4 (drop 12 packet)
+  source_is : source.copy.new.to ≡ take 4 (drop 12 packet)
   source_is = source.copy.ensures
 
-  destination_is : destination.copy2.last.0 ≡ take 4 (drop 16 packet)
-  destination_is = destination.copy2.ensures
+  destination_is : destination.copy-2.new.to ≡ take 4 (drop 16 packet)
+  destination_is = destination.copy-2.ensures
 
-  source_long : length source.copy.last.0 ≡ 4
+  source_long : length source.copy.new.to ≡ 4
   source_long = ap length source_is ∙ simp (length-take, length-drop) (omega (arith, start.requires.0.header.fixed))
 
   abbrev end : ℕ
-  end = c.before.before.header_length.result
+  end = c.before.before.header_length-end.result
 
   lent : take (length packet - end) (drop end packet) ≡ after_header packet
-  lent = after_lent packet end c.before.before.header_length.ensures start.requires.0.header.within
+  lent = after_lent packet end c.before.before.header_length-end.ensures start.requires.0.header.within
 
 returns : tie.Need-returns
 unfolding packet_key ports
@@ -48,10 +48,10 @@ returns c =
     let has = ports.before.before in
     let first = source has in
     let second = destination has in
-    let parts : KeyParts 4 (start has).args.key.now first.copy.last.0 second.copy2.last.0 ports.read-ports.new.1.1.0 =
+    let parts : KeyParts 4 (start has).args.key.now first.copy.new.to second.copy-2.new.to ports.read_ports.new.to =
     record { room = (start has).requires.1; source_long = source_long has; destination_long = omega arith; ports_long = omega arith } in
     key_written parts c.protocol.result
-    ∙ parts_are (source_is has) (destination_is has) (ports.read-ports.ensures ∙ rw (has.has_ports.ensures, lent has)) c.protocol.ensures
+    ∙ parts_are (source_is has) (destination_is has) (ports.read_ports.ensures ∙ rw (has.has_ports.ensures, lent has)) c.protocol.ensures
 
 pub write_key_spec : {M : Type 1} → statement M
 write_key_spec =

@@ -6,11 +6,11 @@ use borrow.Author.Rules.{rules}
 use Rattle.packet.proofs.header.header_wrong.Statement.{statement}
 use Rattle.packet.proofs.header.header_wrong.Tie as tie
 
-returns-2 : tie.Need-returns-2
+returns-2 : tie.Need-returns
 unfolding header_wrong
 returns-2 c =
     let long = c.before.before in
-    rw (c.version.ensures, c.before.header_length.ensures, le-ltb (length long.before.before.args.packet.now) 20 long.if1.false)
+    rw (c.version.ensures, c.before.header_length-end.ensures, le-ltb (length long.before.before.args.packet.now) 20 long.if-packet-lt20.false)
 
 pub header_wrong_spec : {M : Type 1} → statement M
-header_wrong_spec = tie.close (tie.spec (λ c. unfold header_wrong in rw (lt-ltb _ _ c.if1.true)) (λ c κs. search rules) (λ c κs. search rules) returns-2)
+header_wrong_spec = tie.close (tie.spec (λ c. unfold header_wrong in rw (lt-ltb _ _ c.if-packet-lt20.true)) (λ c κs. search rules) (λ c κs. search rules) returns-2)

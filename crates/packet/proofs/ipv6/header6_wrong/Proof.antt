@@ -7,5 +7,5 @@ use Rattle.packet.proofs.ipv6.header6_wrong.Tie as tie
 
 pub header6_wrong_spec : {M : Type 1} → statement M
 header6_wrong_spec =
-    tie.close (tie.spec (λ c. unfold header6_wrong in rw (lt-ltb _ _ c.if1.true)) (λ c κs. search rules)
-    (λ c. unfold header6_wrong in rw (c.version.ensures, le-ltb _ _ c.before.if1.false)))
+    tie.close (tie.spec (λ c. unfold header6_wrong in rw (lt-ltb _ _ c.if-packet-lt40.true)) (λ c κs. search rules)
+    (λ c. unfold header6_wrong in rw (c.version.ensures, le-ltb _ _ c.before.if-packet-lt40.false)))

@@ -11,7 +11,7 @@ use Rattle.packet.proofs.ipv6.read_packet6_key.Statement.{statement}
 use Rattle.packet.proofs.ipv6.read_packet6_key.Tie as tie
 
 -- ---- the buffer has the key's length, and the packet is judged
-module _ (c : tie.After-refusal6) where
+module _ (c : tie.After-refusal6-number) where
   abbrev start : tie.Start
   start = c.before.before.before.before
 
@@ -22,27 +22,27 @@ module _ (c : tie.After-refusal6) where
   buffer = start.args.buffer.now
 
 -- ---- nothing is refused
-none : (c : tie.Else2) → refusal_of (reading6 (packet c.before)) ≡ 0
-none c = sym c.before.refusal6.ensures ∙ c.if2.false
+none : (c : tie.Else-number-ne0) → refusal_of (reading6 (packet c.before)) ≡ 0
+none c = sym c.before.refusal6-number.ensures ∙ c.if-number-ne0.false
 
-returns : tie.Need-returns
+returns : tie.Need-returns-then-buffer-ne-IPV6_WIDTH
 unfolding read_packet6
-returns c = let args = c.before.before.before.args in keyed_3 (reading6 args.packet.now) args.buffer.now c.if1.true
+returns c = let args = c.before.before.before.args in keyed_3 (reading6 args.packet.now) args.buffer.now c.if-buffer-ne-IPV6_WIDTH.true
 
-returns-2 : tie.Need-returns-2
+returns-2 : tie.Need-returns-then-number-ne0
 unfolding read_packet6
 returns-2 c =
     let judged = c.before in
-    keyed_refused (reading6 (packet judged)) (buffer judged) judged.before.if1.false judged.refusal6.result judged.refusal6.ensures c.if2.true
+    keyed_refused (reading6 (packet judged)) (buffer judged) judged.before.if-buffer-ne-IPV6_WIDTH.false judged.refusal6-number.result judged.refusal6-number.ensures c.if-number-ne0.true
 
-returns-3 : tie.Need-returns-3
+returns-3 : tie.Need-returns
 unfolding read_packet6
 returns-3 c =
     let right = c.before.before.before.before in
     let judged = right.before in
-    rw c.before.before.write_key6.ensures (keyed_0 (reading6 (packet judged)) (buffer judged) judged.before.if1.false (omega arith) (none right))
+    rw c.before.before.write_key6.ensures (keyed_0 (reading6 (packet judged)) (buffer judged) judged.before.if-buffer-ne-IPV6_WIDTH.false (omega arith) (none right))
 
 pub read_packet6_key_spec : {M : Type 1} → statement M
 read_packet6_key_spec =
     tie.close (tie.spec returns (λ c κs. search rules) returns-2
-    (λ c κs. (unrefused_right6 (packet c.before.before) (none c.before), c.before.before.before.if1.false)) (λ c. search rules) returns-3)
+    (λ c κs. (unrefused_right6 (packet c.before.before) (none c.before), c.before.before.before.if-buffer-ne-IPV6_WIDTH.false)) (λ c. search rules) returns-3)

@@ -13,8 +13,8 @@ use Rattle.packet.proofs.ipv6.write_key6.Statement.{statement}
 use Rattle.packet.proofs.ipv6.write_key6.Tie as tie
 
 -- ---- both addresses are written, and the part after the header is lent
-module _ (c : tie.After-has-ports6) where
-  abbrev destination : tie.After-copy2
+module _ (c : tie.After-has_ports6) where
+  abbrev destination : tie.After-copy-2
   destination = c.before.before.before.before
 
   abbrev source : tie.After-copy
@@ -26,13 +26,13 @@ module _ (c : tie.After-has-ports6) where
   abbrev packet : List ℕ
   packet = start.args.packet.now
 
-  source_is : source.copy.last.0 ≡ take 16 (drop 8 packet)
+  source_is : source.copy.new.to ≡ take 16 (drop 8 packet)
   source_is = source.copy.ensures
 
-  destination_is : destination.copy2.last.0 ≡ take 16 (drop 24 packet)
-  destination_is = destination.copy2.ensures
+  destination_is : destination.copy-2.new.to ≡ take 16 (drop 24 packet)
+  destination_is = destination.copy-2.ensures
 
-  source_long : length source.copy.last.0 ≡ 16
+  source_long : length source.copy.new.to ≡ 16
   source_long = ap length source_is ∙ simp (length-take, length-drop) (omega (arith, start.requires.0.header))
 
   lent : take (length packet - 40) (drop 40 packet) ≡ drop 40 packet
@@ -45,10 +45,10 @@ returns c =
     let has = ports.before.before in
     let first = source has in
     let second = destination has in
-    let parts : KeyParts 16 (start has).args.key.now first.copy.last.0 second.copy2.last.0 ports.read-ports.new.1.1.0 =
+    let parts : KeyParts 16 (start has).args.key.now first.copy.new.to second.copy-2.new.to ports.read_ports.new.to =
     record { room = (start has).requires.1; source_long = source_long has; destination_long = omega arith; ports_long = omega arith } in
     key_written parts c.next_header.result
-    ∙ parts_are (source_is has) (destination_is has) (ports.read-ports.ensures ∙ rw (has.has_ports6.ensures, lent has)) c.next_header.ensures
+    ∙ parts_are (source_is has) (destination_is has) (ports.read_ports.ensures ∙ rw (has.has_ports6.ensures, lent has)) c.next_header.ensures
 
 pub write_key6_spec : {M : Type 1} → statement M
 write_key6_spec =
