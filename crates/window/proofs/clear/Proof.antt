@@ -7,12 +7,12 @@ use Rattle.window.proofs.WindowAreaLaws.{cleared}
 use Rattle.window.proofs.clear.Statement.{statement}
 use Rattle.window.proofs.clear.Tie as tie
 
-returns : tie.Need-returns
+returns : tie.Need-returns-then-words-ne-LENGTH
 unfolding clear_of
-returns c = rw (ne_eqb _ window_length c.if1.true)
+returns c = rw (ne_eqb _ window_length c.if-words-ne-LENGTH.true)
 
-returns-2 : tie.Need-returns-2
-returns-2 c = let zeroed = c.before.before in cleared _ zeroed.before.before.if1.false zeroed.zero-counts.ensures
+returns-2 : tie.Need-returns
+returns-2 c = let zeroed = c.before.before in cleared _ zeroed.before.before.if-words-ne-LENGTH.false zeroed.zero_counts.ensures
 
 pub clear_spec : {M : Type 1} → statement M
 clear_spec = tie.close (tie.spec returns (λ c κs. search rules) (λ c. search rules) returns-2)

@@ -10,7 +10,7 @@ returns c =
     let three = four.before.before.before.before in
     let two = three.before.before.before.before in
     let one = two.before.before.before.before in
-    counted_all _ _ _ _ _ one.raise.ensures two.raise2.ensures three.raise3.ensures four.raise4.ensures
+    counted_all _ _ _ _ _ one.raise.ensures two.raise-2.ensures three.raise-3.ensures four.raise-4.ensures
 
 pub count_spec : {M : Type 1} → statement M
 count_spec =

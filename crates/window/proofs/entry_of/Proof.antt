@@ -16,11 +16,11 @@ unfolding entry_of told_answer
 returns c =
     let side = c.before.before in
     let held = side.before.before in (
-      rw (held.one-where.ensures.0, side.one-where2.ensures.0, c.at-most-64.ensures.0, other_way),
+      rw (held.one_where.ensures.0, side.one_where-2.ensures.0, c.at_most_64.ensures.0, other_way),
       record {
-        held = held.one-where.ensures.1;
-        side = side.one-where2.ensures.1;
-        compared = c.at-most-64.ensures.1;
+        held = held.one_where.ensures.1;
+        side = side.one_where-2.ensures.1;
+        compared = c.at_most_64.ensures.1;
       },
     )
 

@@ -10,49 +10,49 @@ use Rattle.window.proofs.put_for_oldest.Statement.{statement}
 use Rattle.window.proofs.put_for_oldest.Tie as tie
 
 -- ---- the entry's word is in the ring
-module _ (c : tie.After-word-of) where
-  abbrev taken : tie.After-entry-at
+module _ (c : tie.After-word_of) where
+  abbrev taken : tie.After-entry_at-left
   taken = c.before
 
   abbrev start : tie.Start
   start = taken.before.before.before.before.before.before.before
 
-  left : EntryFits taken.entry_at.result
-  left = taken.entry_at.ensures.1
+  left : EntryFits taken.entry_at-left.result
+  left = taken.entry_at-left.ensures.1
 
 -- ---- and one count after the other is changed
 module _ (c : tie.After-raise) where
-  abbrev placed : tie.After-word-of
+  abbrev placed : tie.After-word_of
   placed = c.before.before.before.before
 
-  long : length c.raise.new.0 ≡ window_length
-  long = c.raise.auto.0 ∙ simp length-set (start placed).requires.0
+  long : length c.raise.new.words ≡ window_length
+  long = c.raise.auto.words ∙ simp length-set (start placed).requires.0
 
-module _ (c : tie.After-raise2) where
+module _ (c : tie.After-raise-2) where
   abbrev one : tie.After-raise
   one = c.before.before.before.before.before.before
 
-  long2 : length c.raise2.new.0 ≡ window_length
-  long2 = c.raise2.auto.0 ∙ long one
+  long2 : length c.raise-2.new.words ≡ window_length
+  long2 = c.raise-2.auto.words ∙ long one
 
-module _ (c : tie.After-raise3) where
-  abbrev two : tie.After-raise2
+module _ (c : tie.After-raise-3) where
+  abbrev two : tie.After-raise-2
   two = c.before.before.before.before.before
 
-  long3 : length c.raise3.new.0 ≡ window_length
-  long3 = c.raise3.auto.0 ∙ long2 two
+  long3 : length c.raise-3.new.words ≡ window_length
+  long3 = c.raise-3.auto.words ∙ long2 two
 
-module _ (c : tie.After-raise4) where
-  abbrev three : tie.After-raise3
+module _ (c : tie.After-raise-4) where
+  abbrev three : tie.After-raise-3
   three = c.before.before.before.before.before
 
-  long4 : length c.raise4.new.0 ≡ window_length
-  long4 = c.raise4.auto.0 ∙ long3 three
+  long4 : length c.raise-4.new.words ≡ window_length
+  long4 = c.raise-4.auto.words ∙ long3 three
 
 -- two words are below 2^16
 add_place : tie.Need-overflow_add-place
 add_place c =
-    let known = c.before.slice-known3.given in omega (arith, c.wide_count2.ensures, c.before.before.wide_count.ensures, known 0, known 1)
+    let known = c.before.slice_known-3-1.given in omega (arith, c.wide_count.ensures, c.before.before.wide_count-first.ensures, known 0, known 1)
 
 raise-requires : tie.Need-raise-requires
 raise-requires c κs =
@@ -85,8 +85,8 @@ returns c =
     let placed = placed one in
     let taken = taken placed in
     let read = taken.before.before in
-    come_for _ _ read.before.before.wide_count.ensures read.wide_count2.ensures placed.word_of.ensures _ taken.entry_at.ensures.0
-    one.raise.ensures two.raise2.ensures three.raise3.ensures four.raise4.ensures
+    come_for _ _ read.before.before.wide_count-first.ensures read.wide_count.ensures placed.word_of.ensures _ taken.entry_at-left.ensures.0
+    one.raise.ensures two.raise-2.ensures three.raise-3.ensures four.raise-4.ensures
 
 pub put_for_oldest_spec : {M : Type 1} → statement M
 put_for_oldest_spec =

@@ -12,6 +12,6 @@ returns c = refl
 
 pub raise_spec : {M : Type 1} → statement M
 raise_spec =
-    tie.close (tie.spec (λ c. search rules) (λ c. search rules) (λ c. omega (arith, c.slice-known.given c.before.args.at))
-    (λ c. omega (arith, c.slice-known.given c.before.args.at, c.before.requires.1)) (λ c. search rules) (λ c. search rules) (λ c. search rules)
+    tie.close (tie.spec (λ c. search rules) (λ c. search rules) (λ c. omega (arith, c.slice_known-1.given c.before.args.at))
+    (λ c. omega (arith, c.slice_known-1.given c.before.args.at, c.before.requires.1)) (λ c. search rules) (λ c. search rules) (λ c. search rules)
     (λ c. search rules) returns)
