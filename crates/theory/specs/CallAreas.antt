@@ -1,6 +1,6 @@
 -- The five areas that a call is lent, as a contract speaks of them: where it requires, at entry and at exit.
 use Rattle.std.specs.Prelude.{List, ℕ}
-use Rattle.std.specs.Borrow.{Bor}
+use Rattle.std.specs.Borrow.{MutBor}
 use denote.Triple.Both.{Both}
 use Rattle.theory.specs.Layout.{Areas}
 use Rattle.theory.specs.Lookup.{bare}
@@ -8,7 +8,7 @@ use Rattle.theory.specs.Ledger.{Step, answered}
 
 -- a lent slice of numbers, and the same at entry and at exit
 abbrev Slice : Type 0
-Slice = Bor (List ℕ)
+Slice = MutBor (List ℕ)
 
 abbrev Slices : Type 0
 Slices = Both Slice Slice

@@ -64,7 +64,10 @@ module _ (s : Card) where
     module _ (c : ℕ → ℕ) where
       pub growing_none : (w : ℕ) (a : List ℕ) → blank_buckets s crowd s.buckets ≡ growing_buckets s crowd c (records w 0 a)
       unfolding blank_buckets growing_buckets records entries blank_bucket growing_bucket choosers
-      growing_none w a = flat_cong _ _ (upto 0 s.buckets) (all_every (λ x. by_test (crowd x) (λ e. rw e) (λ e. rw e)) (upto 0 s.buckets))
+      growing_none w a = flat_cong (blank_bucket s crowd) (growing_bucket s crowd c (records w 0 a)) (upto 0 s.buckets) (all_every same (upto 0 s.buckets))
+        where
+          same : (x : ℕ) → blank_bucket s crowd x ≡ growing_bucket s crowd c (records w 0 a) x
+          same x = unfold blank_bucket growing_bucket records entries choosers in by_test (crowd x) (λ e. rw e) (λ e. rw e)
 
       growing_all : (l : List Record) → ((b : ℕ) → crowd b ≡ crowded s c l b) → growing_buckets s crowd c l ≡ buckets_bytes s c l
       unfolding growing_buckets buckets_bytes

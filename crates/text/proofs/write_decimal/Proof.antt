@@ -12,7 +12,7 @@ module _ (c : tie.After-decimal) where
   start = c.before.before.before
 
   known : Spelled start.args.n c.decimal.result c.decimal.new.1.0 start.args.to.now
-  known = record { fits = start.fits.n.fits; spelled = c.decimal.ensures; room = start.requires }
+  known = record { fits = start.ranges.n.fits.fits; spelled = c.decimal.ensures; room = start.requires }
 
 -- ---- they are copied
 module _ (c : tie.After-copy) where

@@ -16,10 +16,10 @@ returns c =
     let ledger = counts.before.before.before.before in
     let start = ledger.before.before.before.before.before.before.before in
     let p = start.requires in
-    cleared (card start.args.s) ledger.zero_fill.new.0 counts.zero-counts.new.0 clipped.zero-fill2.new.0
-    buckets.zero_fill3.new.0 side.zero_fill4.new.0 (ledger.zero_fill.ensures ∙ ap zeros p.1)
-    (counts.zero-counts.ensures ∙ ap zeros p.2) (clipped.zero-fill2.ensures ∙ ap zeros p.3)
-    (buckets.zero_fill3.ensures ∙ ap zeros p.4) (side.zero_fill4.ensures ∙ ap zeros p.5)
+    cleared (card start.args.s) ledger.zero_fill.new.to counts.zero_counts.new.counts clipped.zero_fill-2.new.to
+    buckets.zero_fill-3.new.to side.zero_fill-4.new.to (ledger.zero_fill.ensures ∙ ap zeros p.1)
+    (counts.zero_counts.ensures ∙ ap zeros p.2) (clipped.zero_fill-2.ensures ∙ ap zeros p.3)
+    (buckets.zero_fill-3.ensures ∙ ap zeros p.4) (side.zero_fill-4.ensures ∙ ap zeros p.5)
 
 pub clear_areas_spec : {M : Type 1} → statement M
 clear_areas_spec =

@@ -42,7 +42,7 @@ module _ (c : tie.After-valid) where
   new = record { key = start.args.key.now; class = start.args.class }
 
   new_fits : Fit (card_of t).width new
-  new_fits = record { wide = start.requires.wide; small = start.fits.class.fits }
+  new_fits = record { wide = start.requires.wide; small = start.ranges.class.fits.fits }
 
   has_two : 2 ≤ length area
   has_two = has_count (card_of t) area start.requires.whole

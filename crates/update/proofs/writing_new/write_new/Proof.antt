@@ -36,7 +36,7 @@ module _ (c : tie.After-edit-ledger-arg) where
   made = edited_list start.args.s start.args.edit start.args.key.now start.args.class start.args.ledger.now
 
   new_fits : Fit s.width new
-  new_fits = record { wide = start.requires.wide; small = start.fits.class.fits }
+  new_fits = record { wide = start.requires.wide; small = start.ranges.class.fits.fits }
 
 -- ---- the ledger has the new list
 module _ (c : tie.After-edit-ledger) where

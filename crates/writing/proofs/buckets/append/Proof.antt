@@ -31,7 +31,7 @@ returns c =
     let z = length (bytes read) in
     let mark = ap (λ (k : ℕ). 1 + z * k) read.wide.ensures.0 in
     ap (λ (l : List ℕ). set l 0 (get_or (part read) 0 0 + 1))
-    (back_is (1 + z * read.wide.result) _ z _ (part read) _ copied.copy.new.0 (bytes read) mark refl refl copied.copy.ensures)
+    (back_is (1 + z * read.wide.result) _ z _ (part read) _ copied.copy.new.to (bytes read) mark refl refl copied.copy.ensures)
 
 pub append_spec : {M : Type 1} → statement M
 append_spec =

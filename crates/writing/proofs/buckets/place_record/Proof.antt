@@ -45,18 +45,18 @@ module _ (c : tie.Start) where
   choice_most = kept_most c.requires.0 c.args.i
 
 -- ---- the area's bytes are known
-module _ (c : tie.After-shared-slice-known3) where
+module _ (c : tie.After-shared_slice_known-3-1) where
   abbrev entry : tie.Start
   entry = c.before.before.before.before
 
   turn : Turn (s entry).width entry.args.n entry.args.i (area entry)
   turn =
       let laying = entry.requires.0 in
-      record { wide = laying.records_fit; below = entry.requires.1; octets = bytes_of (area entry) c.shared-slice-known3.given }
+      record { wide = laying.records_fit; below = entry.requires.1; octets = bytes_of (area entry) c.shared_slice_known-3-1.given }
 
 -- ---- whether it belongs to the side
 module _ (c : tie.After-aside) where
-  abbrev known : tie.After-shared-slice-known3
+  abbrev known : tie.After-shared_slice_known-3-1
   known = c.before.before
 
   abbrev start : tie.Start
@@ -66,7 +66,7 @@ module _ (c : tie.After-aside) where
   side_is = c.aside.ensures ∙ kept_side start.requires.0 start.args.i start.requires.1
 
 -- ---- it does not: its bytes lie in the area
-module _ (c : tie.After-record-size) where
+module _ (c : tie.After-record_size-size) where
   abbrev asked : tie.After-aside
   asked = c.before.before
 
@@ -74,31 +74,31 @@ module _ (c : tie.After-record-size) where
   e = start asked
 
   abbrev size : ℕ
-  size = c.record_size.result
+  size = c.record_size-size.result
 
   size_is : size ≡ (s e).width + 4
   unfolding record_size
-  size_is = c.record_size.ensures
+  size_is = c.record_size-size.ensures
 
   inside : e.args.i * size + size ≤ length (area e)
   inside = turn_inside (turn (known asked)) size size_is
 
 -- ---- and its bucket's part in the buckets
-module _ (c : tie.After-bucket-size) where
-  abbrev sized : tie.After-record-size
+module _ (c : tie.After-bucket_size-part_size) where
+  abbrev sized : tie.After-record_size-size
   sized = c.before
 
   abbrev at : tie.Start
   at = e sized
 
   abbrev part_size : ℕ
-  part_size = c.bucket_size.result
+  part_size = c.bucket_size-part_size.result
 
   part : ChosenPart (s at) at.args.m at.args.i (work at) (area at) (size sized) part_size (choice at) at.args.buckets.now
   part =
       let laying = at.requires.0 in
       chosen_part (ok at) (turn (known (asked sized))) laying.placed.worked (size sized) part_size (choice at) at.args.buckets.now (size_is sized)
-      c.bucket_size.ensures at.requires.2 (kept_is laying at.args.i at.requires.1) (sym (side_is (asked sized)) ∙ sized.before.if1.left)
+      c.bucket_size-part_size.ensures at.requires.2 (kept_is laying at.args.i at.requires.1) (sym (side_is (asked sized)) ∙ sized.before.if-aside.false)
 
 -- a low mark leaves room for one record more
 room_for : (s : Card) (size part_size mark record_length part_length : ℕ) → size ≡ record_size s → part_size ≡ bucket_size s
@@ -107,10 +107,10 @@ unfolding bucket_size
 room_for s size part_size mark record_length part_length e f g h low =
     rw (g, h, e, f) (omega (arith, row_fits mark s.room (record_size s) low, mul_comm (record_size s) mark, mul_comm (record_size s) s.room))
 
-returns : tie.Need-returns
+returns : tie.Need-returns-then-aside
 returns c =
     let e = start c.before in
-    e.requires.2 ∙ skip_side (ok e) (turn (known c.before)) e.requires.0.placed.worked (sym (side_is c.before) ∙ c.if1.true)
+    e.requires.2 ∙ skip_side (ok e) (turn (known c.before)) e.requires.0.placed.worked (sym (side_is c.before) ∙ c.if-aside.true)
 
 append-requires : tie.Need-append-requires
 append-requires c κs =
@@ -120,15 +120,15 @@ append-requires c κs =
     let lent_record = length_lent (e.args.i * z) z (area e) (inside (sized here)) in
     let lent_part = length_lent (choice e * part_size here) (part_size here) e.args.buckets.now (part here).within in
     let low = (part here).mark_low in
-    let fits = room_for (s e) z (part_size here) _ _ _ (sized here).record_size.ensures here.bucket_size.ensures lent_record lent_part low in
+    let fits = room_for (s e) z (part_size here) _ _ _ (sized here).record_size-size.ensures here.bucket_size-part_size.ensures lent_record lent_part low in
     (omega (arith, low, (ok e).room_small), fits)
 
 pub place_record_spec : {M : Type 1} → statement M
 place_record_spec =
     tie.close (tie.spec (λ c. search rules) (λ c. is_kept (entry c.before))
-    (λ c. omega (arith, choice_most (entry c.before), (entry c.before).fits.m))
+    (λ c. omega (arith, choice_most (entry c.before), (entry c.before).ranges.m.fits))
     (λ c κs. let laying = (entry c.before).requires.0 in (laying.buckets, laying.work_length, choice_most (entry c.before))) returns (λ c κs. search rules)
     (λ c. omega (arith, inside c)) (λ c. omega (arith, inside c)) (λ c κs. search rules) (λ c. omega (arith, (part c).within))
     (λ c. omega (arith, (part c).within)) (λ c. search rules) (λ c. search rules) (λ c. (part c).within) (λ c. search rules) (λ c. search rules)
     (λ c. inside (sized c.before)) append-requires (λ c. search rules)
-    (λ c. (part c.before.before.before.before.before).one_more c.before.before.append.new.0 c.before.before.append.ensures))
+    (λ c. (part c.before.before.before.before.before).one_more c.before.before.append.new.part c.before.before.append.ensures))

@@ -17,35 +17,35 @@ record First (s : Card) (m : ℕ) (work area : List ℕ) (n size i : ℕ) (bucke
   same : length buckets ≡ size
   is : buckets ≡ placed s m work i area
 
-abbrev invariant-loop : tie.invariant-loop
+abbrev invariant-loop : tie.invariant-loop-i
 invariant-loop s m work kept buckets₀ area n i₀ buckets i = First (card s) m work area n (length buckets₀) i buckets
 
-abbrev decreases-loop : tie.decreases-loop
+abbrev decreases-loop : tie.decreases-loop-i
 decreases-loop s m work kept buckets₀ area n i₀ buckets i = n - i
 
-loop-holds : tie.Need-loop-init invariant-loop decreases-loop
+loop-holds : tie.Need-loop-i-init invariant-loop decreases-loop
 loop-holds c =
     let start = c.before.before.before.before in
     record { most = omega arith; same = refl; is = start.requires.1 ∙ growing_none _ _ _ _ start.args.area.now }
 
-place-record-requires : tie.Need-place-record-requires invariant-loop decreases-loop
+place-record-requires : tie.Need-place_record-requires invariant-loop decreases-loop
 place-record-requires c κs =
     let loop = c.before.before in
-    (loop.before.before.before.before.before.requires.0, omega arith, loop.loop.invariant.is)
+    (loop.before.before.before.before.before.requires.0, omega arith, loop.loop-i.invariant.is)
 
-loop-again : tie.Need-loop-preserved invariant-loop decreases-loop
+loop-again : tie.Need-loop-i-preserved invariant-loop decreases-loop
 loop-again c =
-    let place = c.before.before.place-record in
-    let inv = c.before.before.before.before.before.loop.invariant in
-    record { most = omega arith; same = place.auto.1.1.1.1.0 ∙ inv.same; is = place.ensures }
+    let place = c.before.before.place_record in
+    let inv = c.before.before.before.before.before.loop-i.invariant in
+    record { most = omega arith; same = place.auto.buckets ∙ inv.same; is = place.ensures }
 
 returns : tie.Need-returns invariant-loop decreases-loop
 returns c =
-    let loop = c.before.loop in
+    let loop = c.before.loop-i in
     let all : loop.i ≡ c.before.before.before.before.before.before.args.n = omega (arith, loop.invariant.most) in
     loop.invariant.is ∙ rw all
 
 pub place_records_spec : {M : Type 1} → statement M
 place_records_spec =
-    tie.close (tie.spec invariant-loop decreases-loop loop-holds place-record-requires (λ c. omega arith) (λ c. omega arith) loop-again (λ c. c.before.loop.invariant.same)
+    tie.close (tie.spec invariant-loop decreases-loop loop-holds place-record-requires (λ c. omega arith) (λ c. omega arith) loop-again (λ c. c.before.loop-i.invariant.same)
     returns)

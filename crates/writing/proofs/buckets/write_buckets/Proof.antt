@@ -6,11 +6,11 @@ use borrow.Author.Rules.{rules}
 use Rattle.writing.proofs.buckets.write_buckets.Statement.{statement}
 use Rattle.writing.proofs.buckets.write_buckets.Tie as tie
 
-place-records-requires : tie.Need-place-records-requires
+place-records-requires : tie.Need-place_records-requires
 place-records-requires c κs =
     let opened = c.before.before.before in
     let laying = opened.before.before.before.before.before.before.requires.0 in
-    (laying, opened.open-buckets.ensures ∙ ap (blank_buckets _ _) laying.buckets)
+    (laying, opened.open_buckets.ensures ∙ ap (blank_buckets _ _) laying.buckets)
 
 returns : tie.Need-returns
 returns c =

@@ -38,18 +38,18 @@ module _ (c : tie.Start) where
   worked = c.requires.0.placed.worked
 
 -- ---- the area's bytes are known
-module _ (c : tie.After-shared-slice-known3) where
+module _ (c : tie.After-shared_slice_known-3-1) where
   abbrev entry : tie.Start
   entry = c.before.before.before.before
 
   turn : Turn (s entry).width entry.args.n entry.args.i (area entry)
   turn =
       let laying = entry.requires.0 in
-      record { wide = laying.records_fit; below = entry.requires.1; octets = bytes_of (area entry) c.shared-slice-known3.given }
+      record { wide = laying.records_fit; below = entry.requires.1; octets = bytes_of (area entry) c.shared_slice_known-3-1.given }
 
 -- ---- whether it belongs to the side
 module _ (c : tie.After-aside) where
-  abbrev known : tie.After-shared-slice-known3
+  abbrev known : tie.After-shared_slice_known-3-1
   known = c.before.before
 
   abbrev start : tie.Start
@@ -59,7 +59,7 @@ module _ (c : tie.After-aside) where
   side_is = c.aside.ensures ∙ kept_side start.requires.0 start.args.i start.requires.1
 
 -- ---- it does: its bytes lie in the area, and the free place in the store
-module _ (c : tie.After-record-size) where
+module _ (c : tie.After-record_size-size) where
   abbrev asked : tie.After-aside
   asked = c.before.before
 
@@ -67,22 +67,22 @@ module _ (c : tie.After-record-size) where
   e = start asked
 
   abbrev size : ℕ
-  size = c.record_size.result
+  size = c.record_size-size.result
 
   size_is : size ≡ (s e).width + 4
   unfolding record_size
-  size_is = c.record_size.ensures
+  size_is = c.record_size-size.ensures
 
   inside : e.args.i * size + size ≤ length (area e)
   inside = turn_inside (turn (known asked)) size size_is
 
   yes : on_side e ≡ true
-  yes = sym (side_is asked) ∙ not-false asked.aside.result c.before.if1.false
+  yes = sym (side_is asked) ∙ c.before.if-not-aside.false
 
   place : e.args.free + size ≤ length e.args.store.now
   place =
       let room = place_within (turn (known asked)) (worked e) e.requires.2 yes in
-      omega (arith, room, e.requires.3, ap length e.requires.4, c.record_size.ensures)
+      omega (arith, room, e.requires.3, ap length e.requires.4, c.record_size-size.ensures)
 
 next_free : (z size free j k : ℕ) → size ≡ z → free ≡ z * j → k ≡ j + 1 → free + size ≡ z * k
 next_free z size free j k e f g = rw (e, f, g, mul-add, mul-one)
@@ -92,14 +92,14 @@ aside-requires c κs =
     let start = entry c.before in
     (start.requires.0.buckets, start.requires.0.work_length, kept_most start.requires.0 start.args.i)
 
-returns : tie.Need-returns
+returns : tie.Need-returns-then-not-aside
 returns c =
     let e = start c.before in
-    let out = sym (side_is c.before) ∙ not-true c.before.aside.result c.if1.true in
+    let out = sym (side_is c.before) ∙ c.if-not-aside.true in
     let same = not_sent (turn (known c.before)) (worked e) out in
     (e.requires.3 ∙ ap (λ (l : List Record). record_size (s e) * length l) same, e.requires.4 ∙ ap (places (s e) (s e).side_places) same)
 
-returns-2 : tie.Need-returns-2
+returns-2 : tie.Need-returns
 returns-2 c =
     let copy = c.before.before.copy in
     let sized = c.before.before.before.before.before in
@@ -107,8 +107,8 @@ returns-2 c =
     let turn = turn (known (asked sized)) in
     let z = size sized in
     let lent = lent_is (e.args.i * z) _ z _ (area e) _ (ap (λ (z : ℕ). e.args.i * z) (size_is sized)) (size_is sized) refl in (
-      next_free _ z e.args.free _ _ sized.record_size.ensures e.requires.3 (sent_length turn (worked e) (yes sized)),
-      back_is e.args.free _ z _ e.args.store.now _ copy.new.0 _ e.requires.3 sized.record_size.ensures e.requires.4
+      next_free _ z e.args.free _ _ sized.record_size-size.ensures e.requires.3 (sent_length turn (worked e) (yes sized)),
+      back_is e.args.free _ z _ e.args.store.now _ copy.new.to _ e.requires.3 sized.record_size-size.ensures e.requires.4
           (copy.ensures ∙ lent)
           ∙ sent_put turn (worked e) e.requires.2 (yes sized),
     )

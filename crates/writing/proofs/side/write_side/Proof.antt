@@ -37,23 +37,23 @@ module _ (c : tie.Start) where
   has_two = omega (arith, c.requires.1, (bounds t c.requires.0.ok).side_least)
 
 -- ---- the area is zeros
-module _ (c : tie.After-zero-fill) where
+module _ (c : tie.After-zero_fill) where
   abbrev start : tie.Start
   start = c.before.before.before.before.before.before
 
   abbrev blank : List ℕ
-  blank = c.zero_fill.new.0
+  blank = c.zero_fill.new.to
 
   few : 2 ≤ length blank
-  few = omega (arith, c.zero_fill.auto.0, has_two start)
+  few = omega (arith, c.zero_fill.auto.to, has_two start)
 
-returns : tie.Need-returns
+returns : tie.Need-returns-then-need-eq0
 returns c =
     let zeroed = c.before.before.before in
     let e = start zeroed in
-    zeroed.zero_fill.ensures ∙ ap zeros e.requires.1 ∙ sym (side_none (worked e) (sym e.requires.2 ∙ c.if1.true))
+    zeroed.zero_fill.ensures ∙ ap zeros e.requires.1 ∙ sym (side_none (worked e) (sym e.requires.2 ∙ c.if-need-eq0.true))
 
-side-records-requires : tie.Need-side-records-requires
+side-records-requires : tie.Need-side_records-requires
 side-records-requires c κs =
     let zeroed = c.before.before.before.before in
     let e = start zeroed in (
@@ -63,17 +63,17 @@ side-records-requires c κs =
           ∙ sent_none (card_of (t e)) e.args.m e.args.work.now e.args.area.now _ (places_length (card_of (t e)) (length (side e)) e.requires.1),
     )
 
-write-number-requires : tie.Need-write-number-requires
+write-number-requires : tie.Need-write_number-requires
 write-number-requires c κs =
     let e = start c.before.before.before.before.before.before.before.before in
     (omega (arith, has_two e), omega (arith, e.requires.3, (sound (t e) e.requires.0.ok).side_small))
 
-returns-2 : tie.Need-returns-2
+returns-2 : tie.Need-returns
 returns-2 c =
     let sent = c.before.before.before.before.before.before in
     let zeroed = sent.before.before.before.before.before in
     let e = start zeroed in
-    let places = sent.side_records.new.1.1.1.1.0 in
+    let places = sent.side_records.new.store in
     let front = drop_at (take 2 (blank zeroed)) places 2 (length-take-le 2 (blank zeroed) (few zeroed)) in
     c.before.before.write_number.ensures
     ∙ ap (λ (l : List ℕ). to_bytes 2 e.args.need ++ drop 2 l) (tail_back 2 (blank zeroed) places (few zeroed))
