@@ -10,23 +10,23 @@ use Rattle.update.proofs.record_of.Statement.{statement}
 use Rattle.update.proofs.record_of.Tie as tie
 
 -- ---- a buffer is there
-module _ (c : tie.After-new-buffer) where
+module _ (c : tie.After-new_buffer-buffer) where
   abbrev start : tie.Start
   start = c.before.before
 
-  lent : length (take start.args.size c.new_buffer.result) ≡ start.args.size
-  lent = length-take-le start.args.size c.new_buffer.result (omega (arith, c.new_buffer.ensures, start.requires.1))
+  lent : length (take start.args.size c.new_buffer-buffer.result) ≡ start.args.size
+  lent = length-take-le start.args.size c.new_buffer-buffer.result (omega (arith, c.new_buffer-buffer.ensures, start.requires.1))
 
 returns : tie.Need-returns
 returns c =
     let new = c.before.before.before in
     let size = (start new).args.size in
-    let buffer = new.new_buffer.result in
+    let buffer = new.new_buffer-buffer.result in
     let written = c.before.write_record in
-    let long : length written.new.0 ≡ size = written.auto.0 ∙ lent new in
-    let fits : size ≤ length buffer = omega (arith, new.new_buffer.ensures, (start new).requires.1) in (
-      front_take size buffer written.new.0 fits long ∙ written.ensures,
-      front_length size buffer written.new.0 fits long ∙ new.new_buffer.ensures,
+    let long : length written.new.to ≡ size = written.auto.to ∙ lent new in
+    let fits : size ≤ length buffer = omega (arith, new.new_buffer-buffer.ensures, (start new).requires.1) in (
+      front_take size buffer written.new.to fits long ∙ written.ensures,
+      front_length size buffer written.new.to fits long ∙ new.new_buffer-buffer.ensures,
     )
 
 pub record_of_spec : {M : Type 1} → statement M
