@@ -8,14 +8,14 @@ use bench_load::{Asked, BenchLoad};
 use streams::Got;
 
 // Writes the calls of a load, as many at a time as the buffer holds. It stops where they are not taken.
-fn write_calls(load: BenchLoad, buffer: &mut [u8])
+fn write_calls(rt: &HostRuntime, load: BenchLoad, buffer: &mut [u8])
     requires { (0 < load.flows) × (18 ≤ length buffer.old) }
 {
     let mut left = load;
     while left.count > 0 {
         let piece = bench_load::next_piece(buffer, left);
         let bytes = piece.bytes;
-        if !streams::write_all(&buffer[..bytes]) {
+        if !streams::write_all(rt, &buffer[..bytes]) {
             return;
         }
         left = piece.rest;
@@ -23,9 +23,9 @@ fn write_calls(load: BenchLoad, buffer: &mut [u8])
 }
 
 // "15 ..; nothing is then written": one byte more than a load has is asked for, so that a longer input is seen.
-fn main() {
+fn main(rt: HostRuntime) {
     let mut input = [0u8; 33];
-    let read = streams::read_full(&mut input);
+    let read = streams::read_full(&rt, &mut input);
     let Got::Bytes(got) = read else {
         return;
     };
@@ -34,5 +34,5 @@ fn main() {
         return;
     };
     let mut buffer = io::large_buffer();
-    write_calls(load, &mut buffer);
+    write_calls(&rt, load, &mut buffer);
 }

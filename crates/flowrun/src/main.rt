@@ -17,11 +17,11 @@ struct Block {
 }
 
 // Reads behind the bytes that wait. At the end of the input these are a call that is cut short, and after a failed read they are none.
-fn read_block(input: &mut [u8], waiting: usize) -> Block
+fn read_block(rt: &HostRuntime, input: &mut [u8], waiting: usize) -> Block
     requires { (waiting < 18) × (length input.old ≡ 9216) }
     ensures { Split result.more result.whole result.end × (take waiting input.new ≡ take waiting input.old) }
 {
-    match streams::read_after(input, waiting) {
+    match streams::read_after(rt, input, waiting) {
         Got::Bytes(n) => Block {
             end: waiting + n,
             whole: (waiting + n) / 18 * 18,
@@ -50,6 +50,7 @@ struct Left {
 
 // One read, and the calls that have come with it.
 fn run_block(
+    rt: &HostRuntime,
     left: Left,
     input: &mut [u8],
     ledger: &mut [u8],
@@ -64,7 +65,7 @@ fn run_block(
 {
     let first = left.first;
     let waiting = left.waiting;
-    let block = read_block(input, waiting);
+    let block = read_block(rt, input, waiting);
     let whole = block.whole;
     let end = block.end;
     let mut text = io::large_buffer();
@@ -79,7 +80,7 @@ fn run_block(
         work,
         &mut text,
     );
-    let taken = streams::write_all(&text[..bytes]);
+    let taken = streams::write_all(rt, &text[..bytes]);
     streams::keep_rest(input, whole, end);
     Left {
         first: first + (whole / 18) as u64,
@@ -97,6 +98,7 @@ fn input_buffer() -> [u8; 9216]
 
 // Blocks up to the end of the input. A proved loop has to end, and nothing says that an input does: no run comes to the last block.
 fn run_blocks(
+    rt: &HostRuntime,
     ledger: &mut [u8],
     true_counts: &mut [u16],
     clipped: &mut [u8],
@@ -113,6 +115,7 @@ fn run_blocks(
     let mut block: u64 = 0;
     while block < 1125899906842624 {
         left = run_block(
+            rt,
             left,
             &mut input,
             ledger,
@@ -130,8 +133,8 @@ fn run_blocks(
 }
 
 // The areas of document 01's lengths under flowrun's settings, "on a table cleared first".
-fn main() {
-    if !streams::write_all(b"call op answer class buckets compared\n") {
+fn main(rt: HostRuntime) {
+    if !streams::write_all(&rt, b"call op answer class buckets compared\n") {
         return;
     }
     let mut ledger = [0u8; 2178];
@@ -157,6 +160,7 @@ fn main() {
         &mut side,
     );
     run_blocks(
+        &rt,
         &mut ledger,
         &mut true_counts,
         &mut clipped,

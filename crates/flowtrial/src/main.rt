@@ -26,6 +26,7 @@ struct Next {
 
 // The next trial: its settings read, its line written.
 fn run_next(
+    rt: &HostRuntime,
     left: Trials,
     ledger: &mut [u8],
     true_counts: &mut [u16],
@@ -38,7 +39,7 @@ fn run_next(
     ensures { result.more ≡ true → (result.left.load ≡ left.load) × (result.left.number ≡ suc left.number) }
 {
     let mut settings = [0u8; 12];
-    let read = streams::read_full(&mut settings);
+    let read = streams::read_full(rt, &mut settings);
     let Got::Bytes(got) = read else {
         return Next { left, more: false };
     };
@@ -58,12 +59,13 @@ fn run_next(
     let rest = told.rest;
     Next {
         left: rest,
-        more: streams::write_all(&line[..bytes]) & (got == 12),
+        more: streams::write_all(rt, &line[..bytes]) & (got == 12),
     }
 }
 
 // Trials up to the end of the input. A proved loop has to end, and nothing says that an input does: no run comes to the last number.
 fn run_trials(
+    rt: &HostRuntime,
     load: BenchLoad,
     ledger: &mut [u8],
     true_counts: &mut [u16],
@@ -76,7 +78,7 @@ fn run_trials(
 {
     let mut left = trials::all_trials(load);
     while left.number < 1125899906842624 {
-        let next = run_next(left, ledger, true_counts, clipped, buckets, side, work);
+        let next = run_next(rt, left, ledger, true_counts, clipped, buckets, side, work);
         if !next.more {
             return;
         }
@@ -85,9 +87,9 @@ fn run_trials(
 }
 
 // "A bad load gives 15 and prints nothing." Each trial is lent parts of six areas of 64 KiB.
-fn main() {
+fn main(rt: HostRuntime) {
     let mut input = [0u8; 32];
-    let read = streams::read_full(&mut input);
+    let read = streams::read_full(&rt, &mut input);
     let Got::Bytes(got) = read else {
         return;
     };
@@ -102,6 +104,7 @@ fn main() {
     let mut side = io::large_buffer();
     let mut work = large_numbers();
     run_trials(
+        &rt,
         load,
         &mut ledger,
         &mut true_counts,

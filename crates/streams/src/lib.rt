@@ -1,11 +1,14 @@
 // Standard input and standard output of the programs. A read or a write that fails is said on standard error with its reason, here and nowhere else.
-// A call that a signal broke off is made again. So is one on a pipe that is set to not wait, over and over: others may run between two tries.
+// A call that a signal broke off is made again. So is one on a pipe that is set to not wait, over and over.
 #![tactic(auto)]
 
 ghost use Rattle.std.specs.Prelude.{◌≡◌, ℕ, ◌-◌, ◌≤◌, length, take, drop};
+ghost use Rattle.std.specs.Io.{WritesAtMost};
 ghost use Rattle.streams.specs.Streams.{Within, Moves};
 
 use memory::parts::copy;
+use std::io::{Cursor, ErrorKind, Read, Write};
+use std::{io, str};
 
 // What a read gives: 1 or more bytes, the end of the input, or nothing, since it failed, which is said.
 #[derive(Clone, Copy)]
@@ -27,47 +30,65 @@ enum Tried {
 // No run comes to so many calls that are made again: a proved loop has to end.
 const MOST_TURNS: u64 = 1152921504606846976;
 
-// Whether a call that failed is to be made again; where a pipe was not ready, others may run first.
-fn to_try_again() -> bool {
-    let error = os::errno();
-    if error == libc::EAGAIN {
-        libc::sched_yield();
-        return true;
-    }
-    error == libc::EINTR
+// Whether a call that failed is to be made again.
+fn to_try_again(error: &io::Error) -> bool {
+    let kind = error.kind();
+    (kind == ErrorKind::WouldBlock) | (kind == ErrorKind::Interrupted)
 }
 
-// What a call on a buffer came to, by its answer.
-fn judge(answer: isize, buffer: &[u8]) -> Tried
+// The reason of the system in a text of std's, which puts the number of the error behind it.
+fn reason_alone(text: &str) -> &str {
+    match text.rsplit_once(" (os error ") {
+        Some((reason, _)) => reason,
+        None => text,
+    }
+}
+
+// Says why a call on a stream failed. Where standard error takes nothing, nothing is said.
+fn say(rt: &HostRuntime, stream: &str, error: &io::Error) {
+    let mut text = Cursor::new([0u8; 320]);
+    let _ = write!(text, "{error}");
+    let end = text.position() as usize;
+    let bytes = text.into_inner();
+    let Some(written) = bytes.get(..end) else {
+        return;
+    };
+    let Ok(whole) = str::from_utf8(written) else {
+        return;
+    };
+    let reason = reason_alone(whole);
+    let _ = eprintln!(rt; "{stream}: {reason}");
+}
+
+// What a call on a buffer came to, by its answer. Where it failed, that is said.
+fn judge(rt: &HostRuntime, stream: &str, answer: io::Result<usize>, buffer: &[u8]) -> Tried
+    requires { WritesAtMost answer buffer.now }
     ensures { Moves result (length buffer.now) }
 {
-    let moved = io::count(answer, buffer);
-    if answer < 0 {
-        if to_try_again() {
-            return Tried::Again;
+    match answer {
+        Ok(0) => Tried::Nothing,
+        Ok(moved) => Tried::Moved(moved),
+        Err(error) => {
+            if to_try_again(&error) {
+                return Tried::Again;
+            }
+            say(rt, stream, &error);
+            Tried::Failed
         }
-        return Tried::Failed;
     }
-    if moved == 0 {
-        return Tried::Nothing;
-    }
-    Tried::Moved(moved)
 }
 
 // One read that came to something, into a buffer that has room.
-pub fn read_some(buffer: &mut [u8]) -> Got
+pub fn read_some(rt: &HostRuntime, buffer: &mut [u8]) -> Got
     ensures { Within result (length buffer.old) }
 {
     let mut turns: u64 = 0;
     while turns < MOST_TURNS {
-        let answer = libc::read(libc::STDIN_FILENO, buffer);
-        match judge(answer, buffer) {
+        let answer = rt.stdin().read(buffer);
+        match judge(rt, "standard input", answer, buffer) {
             Tried::Moved(n) => return Got::Bytes(n),
             Tried::Nothing => return Got::End,
-            Tried::Failed => {
-                os::fail(b"standard input");
-                return Got::Failed;
-            }
+            Tried::Failed => return Got::Failed,
             Tried::Again => turns += 1,
         }
     }
@@ -75,11 +96,11 @@ pub fn read_some(buffer: &mut [u8]) -> Got
 }
 
 // The same behind the bytes that stand at the start of a buffer already, which stay.
-pub fn read_after(buffer: &mut [u8], from: usize) -> Got
+pub fn read_after(rt: &HostRuntime, buffer: &mut [u8], from: usize) -> Got
     requires { from ≤ length buffer.old }
     ensures { Within result (length buffer.old - from) × (take from buffer.new ≡ take from buffer.old) }
 {
-    read_some(&mut buffer[from..])
+    read_some(rt, &mut buffer[from..])
 }
 
 // So many bytes, or the end of the input where there is none.
@@ -93,12 +114,12 @@ fn filled(done: usize) -> Got
 }
 
 // Reads until a buffer is full or the input ends.
-pub fn read_full(buffer: &mut [u8]) -> Got
+pub fn read_full(rt: &HostRuntime, buffer: &mut [u8]) -> Got
     ensures { Within result (length buffer.new) }
 {
     let mut done: usize = 0;
     while done < buffer.len() {
-        match read_after(buffer, done) {
+        match read_after(rt, buffer, done) {
             Got::Bytes(n) => done += n,
             Got::Failed => return Got::Failed,
             Got::End => return filled(done),
@@ -119,17 +140,22 @@ pub fn keep_rest(buffer: &mut [u8], from: usize, to: usize)
 }
 
 // One write that came to something: how many bytes it took, none where it failed.
-fn write_some(bytes: &[u8]) -> usize
+fn write_some(rt: &HostRuntime, bytes: &[u8]) -> usize
     ensures { result ≤ length bytes.now }
 {
     let mut turns: u64 = 0;
     while turns < MOST_TURNS {
-        let answer = libc::write(libc::STDOUT_FILENO, bytes);
-        match judge(answer, bytes) {
+        let answer = rt.stdout().write(bytes);
+        match judge(rt, "standard output", answer, bytes) {
             Tried::Moved(n) => return n,
             Tried::Again => turns += 1,
-            _ => {
-                os::fail(b"standard output");
+            Tried::Failed => return 0,
+            Tried::Nothing => {
+                say(
+                    rt,
+                    "standard output",
+                    &io::Error::from(ErrorKind::WriteZero),
+                );
                 return 0;
             }
         }
@@ -138,10 +164,10 @@ fn write_some(bytes: &[u8]) -> usize
 }
 
 // Writes all bytes; whether they were taken.
-pub fn write_all(bytes: &[u8]) -> bool {
+pub fn write_all(rt: &HostRuntime, bytes: &[u8]) -> bool {
     let mut done: usize = 0;
     while done < bytes.len() {
-        let taken = write_some(&bytes[done..]);
+        let taken = write_some(rt, &bytes[done..]);
         if taken == 0 {
             return false;
         }

@@ -1,0 +1,9 @@
+-- Each write leaves fewer bytes.
+use Rattle.std.proofs.Common.{◌-◌, ◌≤◌, length}
+use Rattle.streams.proofs.write_all.Given as goal
+
+abbrev pub invariant-loop-done : goal.invariant-loop-done
+invariant-loop-done l = l.done ≤ length l.bytes
+
+abbrev pub decreases-loop-done : goal.decreases-loop-done
+decreases-loop-done l = length l.bytes - l.done
