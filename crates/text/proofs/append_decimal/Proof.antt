@@ -11,7 +11,7 @@ returns : tie.Need-returns
 returns c =
     let written = c.before.before in
     let start = written.before.before.before in
-    let told = written.write-decimal.ensures in (
+    let told = written.write_decimal.ensures in (
       append_lent (decimal start.args.n ++ (start.args.after ∷ [])) start.args.to.now _ start.args.at _ (omega (arith, start.requires)) told.0,
       omega arith,
       omega arith,

@@ -10,7 +10,7 @@ returns : tie.Need-returns
 returns c =
     let written = c.before.before in
     let start = written.before.before.before in
-    let told = written.write-letter.ensures in (
+    let told = written.write_letter.ensures in (
       append_lent (start.args.letter ∷ start.args.after ∷ []) start.args.to.now _ start.args.at _ (omega (arith, start.requires)) told.0,
       omega arith,
       omega arith,
