@@ -8,9 +8,9 @@ returns : tie.Need-returns
 unfolding stepped next_number
 returns c =
     let grown = c.before in
-    let s = grown.before.step.ensures in
-    let w = grown.wrapping-add-u64.ensures in
-    (ap₂ (λ s w. record { s = s; w = w }) s w, c.wrapping-add-u642.ensures ∙ ap₂ (λ s w. (s + w) % 2 ^ 64) s w)
+    let s = grown.before.step-s.ensures in
+    let w = grown.wrapping_add_u64-w.ensures in
+    (ap₂ (λ s w. record { s = s; w = w }) s w, c.wrapping_add_u64-number.ensures ∙ ap₂ (λ s w. (s + w) % 2 ^ 64) s w)
 
 pub advance_spec : {M : Type 1} → statement M
 advance_spec = tie.close (tie.spec (λ c κs. search rules) (λ c κs. search rules) (λ c κs. search rules) returns)

@@ -7,8 +7,8 @@ use Rattle.bench_load.proofs.next_two.Tie as tie
 returns : tie.Need-returns
 unfolding draw after_call
 returns c =
-    let two = c.before.advance2.ensures in
-    let one = c.before.before.advance.ensures in
+    let two = c.before.advance-two.ensures in
+    let one = c.before.before.advance-one.ensures in
     (rw (one.1, two.1, one.0), two.0 ∙ rw one.0)
 
 pub next_two_spec : {M : Type 1} → statement M

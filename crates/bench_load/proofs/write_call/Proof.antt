@@ -21,12 +21,12 @@ module _ (c : tie.After-letter) where
   long_1 : length (lettered to letter) ≡ 18
   long_1 = lettered_long to letter size
 
-module _ (c : tie.After-write-key) where
+module _ (c : tie.After-write_key) where
   abbrev at_letter : tie.After-letter
   at_letter = c.before.before
 
   abbrev key : List ℕ
-  key = c.write_key.new.0
+  key = c.write_key.new.to
 
   key_long : length key ≡ ipv4_width
   key_long = ap length (c.write_key.ensures 0) ∙ length_load_key _ _
@@ -34,7 +34,7 @@ module _ (c : tie.After-write-key) where
   long_2 : length (keyed (to at_letter) (letter at_letter) key) ≡ 18
   long_2 = keyed_long (to at_letter) (letter at_letter) (size at_letter) key key_long
 
-write-class-requires : tie.Need-write-class-requires
+write-class-requires : tie.Need-write_class-requires
 write-class-requires c κs =
     let written = c.before.before.before.before in
     length_tail 14 (keyed (to (at_letter written)) (letter (at_letter written)) (key written)) (omega (arith, long_2 written)) ∙ rw (long_2 written)
@@ -45,8 +45,8 @@ returns c =
     let written = class.before.before.before.before.before in
     let lettered = at_letter written in
     let args = lettered.before.before.args in
-    call_back (to lettered) (letter lettered) (size lettered) (key written) (key_long written) class.write_class.new.0
-    ∙ call_written args.flows args.first args.second (letter lettered) (key written) class.write_class.new.0 class.before.class_of.result
+    call_back (to lettered) (letter lettered) (size lettered) (key written) (key_long written) class.write_class.new.to
+    ∙ call_written args.flows args.first args.second (letter lettered) (key written) class.write_class.new.to class.before.class_of.result
     (lettered.letter.ensures args.flows args.second) (written.write_key.ensures args.first) class.write_class.ensures
     (class.before.class_of.ensures args.second)
 

@@ -10,15 +10,15 @@ front : (c : tie.Start) → length (take 8 c.args.to.now) ≡ 8
 front c = length-take-le 8 c.args.to.now (omega (arith, c.requires.0))
 
 -- ---- the number is written
-module _ (c : tie.After-write-eight) where
+module _ (c : tie.After-write_eight) where
   abbrev start : tie.Start
   start = c.before.before.before
 
   abbrev eight : List ℕ
-  eight = c.write-eight.new.0
+  eight = c.write_eight.new.to
 
   eight_long : length eight ≡ 8
-  eight_long = rw (c.write-eight.ensures, length_to_bytes)
+  eight_long = rw (c.write_eight.ensures, length_to_bytes)
 
 returns : tie.Need-returns
 returns c =
@@ -26,8 +26,8 @@ returns c =
     let number = filled.before.before.before.before in
     let asked = start number in
     let zeros = filled.zero_fill.ensures ∙ ap (λ n. replicate n 0) (zeros_lent asked.args.to.now (eight number) asked.requires.0 (eight_long number)) in
-    λ first. key_back asked.args.to.now (eight number) asked.requires.0 (eight_long number) filled.zero_fill.new.0
-    ∙ key_written asked.args.flows first asked.args.second (eight number) filled.zero_fill.new.0 number.write-eight.ensures zeros
+    λ first. key_back asked.args.to.now (eight number) asked.requires.0 (eight_long number) filled.zero_fill.new.to
+    ∙ key_written asked.args.flows first asked.args.second (eight number) filled.zero_fill.new.to number.write_eight.ensures zeros
 
 pub write_key_spec : {M : Type 1} → statement M
 write_key_spec =
