@@ -9,6 +9,7 @@ use lib.Dec.{ltb, eqb}
 use lib.ListN.{length, take, drop, get_or, set, length-set, length-append, length-take, length-drop}
 use lib.Seq.{get_or-set_same, get_or-set_other, drop-set-lt, get_or-drop, length-take-le, take_at, drop_at}
 use borrow.Author.Tests.{ltb-false, eq-eqb, ne_eqb}
+use Rattle.theory.specs.Records.{of_bytes}
 use Rattle.theory.specs.Packet.{version, header_length, protocol, fragment_offset, has_ports, header_wrong, after_header}
 use Rattle.theory.specs.Packet.{ports_cut, ports, packet_key, reading, read_packet, Reading, keyed}
 use Rattle.theory.specs.Packet6.{next_header, header6_wrong, has_ports6, ports6_cut, ports6, packet6_key, reading6, read_packet6}
@@ -111,9 +112,8 @@ later_ports_zero q buffer later zero =
     (simp (length-take, length-drop) (omega arith)) (simp (length-take, length-drop) (omega arith)) refl)
 
 -- ---- other flags, the high three bits of byte 6: the offset by its two bytes
-offset_is : (q : List ℕ) → 20 ≤ length q → fragment_offset q ≡ (get_or q 6 0 * 256 + get_or q 7 0) % 8192
-unfolding fragment_offset
-offset_is q long = ap (λ n. n % 8192) (count_is (drop 6 q) (rw length-drop (omega arith))) ∙ rw (get_or-drop 6 q 0 0, get_or-drop 6 q 1 0)
+offset_is : (q : List ℕ) → 20 ≤ length q → of_bytes (take 2 (drop 6 q)) ≡ get_or q 6 0 * 256 + get_or q 7 0
+offset_is q long = count_is (drop 6 q) (rw length-drop (omega arith)) ∙ rw (get_or-drop 6 q 0 0, get_or-drop 6 q 1 0)
 
 -- what is read of a packet whose byte 6 is another
 module _ (q : List ℕ) (b : ℕ) where
@@ -138,10 +138,11 @@ module _ (q : List ℕ) (b : ℕ) where
     after_header_kept = rw header_length_kept (drop-set-lt (header_length q) q 6 b (omega (arith, header_least q right)))
 
     offset_kept : b % 32 ≡ get_or q 6 0 % 32 → fragment_offset (set q 6 b) ≡ fragment_offset q
+    unfolding fragment_offset
     offset_kept same =
         let long : 20 ≤ length (set q 6 b) = rw length-set (fixed_there q right) in
-        offset_is (set q 6 b) long ∙ rw (get_or-set_same q 6 b 0 (omega (arith, fixed_there q right)), byte_kept 7 (omega arith)) (omega arith)
-        ∙ sym (offset_is q (fixed_there q right))
+        rw (offset_is (set q 6 b) long, offset_is q (fixed_there q right), get_or-set_same q 6 b 0 (omega (arith, fixed_there q right)), byte_kept 7 (omega arith))
+        (omega arith)
 
 pub flags_not_read : FlagsNotRead
 unfolding read_packet ports_cut ports packet_key has_ports
