@@ -7,13 +7,13 @@ use borrow.Author.Rules.{rules}
 use Rattle.snapshot.proofs.first_count.Statement.{statement}
 use Rattle.snapshot.proofs.first_count.Tie as tie
 
-returns : tie.Need-returns
+returns : tie.Need-returns-then-width-eq-IPV4_WIDTH
 returns c =
-    let t = paper c.before.before.args.s in sym (first_of_ipv4 t (sym (c.before.width.ensures ∙ width_is t) ∙ c.if1.true))
+    let t = paper c.before.before.args.s in sym (first_of_ipv4 t (sym (c.before.width.ensures ∙ width_is t) ∙ c.if-width-eq-IPV4_WIDTH.true))
 
-returns-2 : tie.Need-returns-2
+returns-2 : tie.Need-returns
 returns-2 c =
-    let t = paper c.before.before.args.s in sym (first_of_other t (λ e. c.if1.false (c.before.width.ensures ∙ width_is t ∙ e)))
+    let t = paper c.before.before.args.s in sym (first_of_other t (λ e. c.if-width-eq-IPV4_WIDTH.false (c.before.width.ensures ∙ width_is t ∙ e)))
 
 pub first_count_spec : {M : Type 1} → statement M
 first_count_spec = tie.close (tie.spec (λ c κs. search rules) returns returns-2)

@@ -24,8 +24,8 @@ returns c =
     let k = room.before in
     let p = k.before in
     c.new.ensures
-    ∙ settings_read p.before.before.args.file.now p.setting.ensures k.setting2.ensures room.setting3.ensures top.setting4.ensures
-    capacity.setting5.ensures side_places.setting6.ensures width.width.ensures
+    ∙ settings_read p.before.before.args.file.now p.setting.ensures k.setting-2.ensures room.setting-3.ensures top.setting-4.ensures
+    capacity.setting-5.ensures side_places.setting-6.ensures width.width.ensures
 
 pub read_settings_spec : {M : Type 1} → statement M
 read_settings_spec =

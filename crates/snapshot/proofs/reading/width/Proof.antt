@@ -12,12 +12,12 @@ setting-requires c κs =
     let f = start.args.file.now in
     let there = head_there f start.requires in (
       omega arith,
-      ⊎_elim (λ e. absurd (c.if1.false (c.before.count_at.ensures.0 ∙ e))) (λ e. omega (arith, e, there)) (count_one f start.requires),
+      ⊎_elim (λ e. absurd (c.if-count_at-eq-SETTINGS_WITHOUT_WIDTH.false (c.before.count_at.ensures.0 ∙ e))) (λ e. omega (arith, e, there)) (count_one f start.requires),
     )
 
 pub width_spec : {M : Type 1} → statement M
 width_spec =
     tie.close (tie.spec (λ c κs. omega (arith, head_there c.before.args.file.now c.before.requires))
-    (λ c. width_of_six c.before.before.before.args.file.now c.before.count_at.ensures.0 c.if1.true) setting-requires
-    (λ c. width_of_seven c.before.before.before.before.args.file.now c.before.before.count_at.ensures.0 c.before.if1.false
+    (λ c. width_of_six c.before.before.before.args.file.now c.before.count_at.ensures.0 c.if-count_at-eq-SETTINGS_WITHOUT_WIDTH.true) setting-requires
+    (λ c. width_of_seven c.before.before.before.before.args.file.now c.before.before.count_at.ensures.0 c.before.if-count_at-eq-SETTINGS_WITHOUT_WIDTH.false
     c.setting.ensures))
