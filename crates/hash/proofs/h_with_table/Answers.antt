@@ -1,13 +1,9 @@
 -- `hash::h_with_table` meets its contract: the table's length says which way it is read.
-use mathlib.Core.Path.{◌≡◌, refl, sym, ◌∙◌}
-use mathlib.Core.List.{List}
+use mathlib.Core.Path.{refl, sym, ◌∙◌}
 use mathlib.Core.Logic.{⊎_elim}
-use Prim.Native.Nat.{ℕ}
 use native.Mathlib.Omega.{arith}
 use borrow.Author.Rules.{rules}
 use lib.ListN.{length}
-use Rattle.theory.specs.Hash.{H}
-use Rattle.hash.specs.Table.{TableFor, H_by}
 use Rattle.hash.proofs.LentTableLaws.{lent_length, half_length}
 use Rattle.hash.proofs.KeyHashLaws.{by_byte_is, by_half_is, by_right}
 use Rattle.hash.proofs.h_with_table.Goals as goal

@@ -2,14 +2,12 @@
 use mathlib.Core.Path.{◌≡◌, sym, ap, ◌∙◌}
 use Prim.Native.Nat.{ℕ, ◌+◌, ◌≤◌}
 use native.Mathlib.Omega.{arith}
-use borrow.Author.Rules.{rules}
-use lib.ListN.{length, take}
+use lib.ListN.{length}
 use lib.Seq.{length-take-le}
 use Rattle.theory.specs.Settings.{card_of}
 use Rattle.theory.proofs.SettingsLaws.{ranges}
 use Rattle.settings.specs.Checked.{paper}
 use Rattle.settings.proofs.Laws.{capacity_is, work_length_is, bounds}
-use Rattle.update.specs.Editing.{Planned}
 use Rattle.update.proofs.EditKindLaws.{size_is}
 use Rattle.update.proofs.WriteLaws.{updated_3, updated_refused, updated_made}
 use Rattle.update.proofs.update_checked.Goals as goal
@@ -20,9 +18,10 @@ returns-then-key-width c = updated_3 _ _ _ _ (λ w. c.if-key-width.true (w ∙ s
 pub record_of-buffer-requires : goal.record_of-buffer-requires
 record_of-buffer-requires c =
     let t = paper c.args.s in
-    let wide = c.if-key-width.false ∙ c.width.ensures in
-    (c.record_size-size.ensures ∙ size_is (card_of t) ∙ ap (λ (w : ℕ). w + 4) (sym wide),
-    omega (arith, c.record_size-size.ensures, (bounds t c.requires.ready.ok).record_most))
+    let wide = c.if-key-width.false ∙ c.width.ensures in (
+      c.record_size-size.ensures ∙ size_is (card_of t) ∙ ap (λ (w : ℕ). w + 4) (sym wide),
+      omega (arith, c.record_size-size.ensures, (bounds t c.requires.ready.ok).record_most),
+    )
 
 -- the record lies within the buffer
 in_64 : (size length : ℕ) → length ≡ 64 → size ≤ 64 → size ≤ length
@@ -65,7 +64,7 @@ slice_bounds-write_new-end-2 c =
 pub write_new-requires : goal.write_new-requires
 write_new-requires c =
     let halves : length c.args.work.now ≡ c.buckets-m.result + c.buckets-m.result =
-        omega (arith, c.requires.words, c.buckets-m.ensures, work_length_is (paper c.args.s)) in
+    omega (arith, c.requires.words, c.buckets-m.ensures, work_length_is (paper c.args.s)) in
     record {
       ok = c.requires.ready.ok;
       buckets = c.buckets-m.ensures;

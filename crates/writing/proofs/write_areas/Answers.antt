@@ -26,9 +26,10 @@ copy_counts-requires c =
 pub write_clipped-requires : goal.write_clipped-requires
 write_clipped-requires c =
     let laying = c.requires.0 in
-    let t = paper c.args.s in
-    ((ranges t laying.ok).top_high,
-    omega (arith, half_length c.args.m c.args.work.now laying.work_length, c.requires.4, laying.buckets, clipped_length_is t))
+    let t = paper c.args.s in (
+      (ranges t laying.ok).top_high,
+      omega (arith, half_length c.args.m c.args.work.now laying.work_length, c.requires.4, laying.buckets, clipped_length_is t),
+    )
 
 pub returns : goal.returns
 returns c =

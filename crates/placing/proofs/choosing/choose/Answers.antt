@@ -1,11 +1,7 @@
 -- `placing::choosing::choose` meets its contract: the table is right for the key's length, so the choice is that of H of the key.
 use mathlib.Core.Path.{◌≡◌, sym, ap, ◌∙◌}
-use mathlib.Core.Bool.{true}
-use mathlib.Core.List.{List}
-use Prim.Native.Nat.{ℕ}
 use lib.ListN.{length}
 use Rattle.theory.specs.Hash.{H}
-use Rattle.theory.specs.Settings.{ipv4_width}
 use Rattle.settings.specs.Checked.{paper}
 use Rattle.settings.proofs.Laws.{width_is}
 use Rattle.hash.proofs.KeyHashLaws.{ipv4_key, ipv4_fits, ipv4_hash}
@@ -30,9 +26,10 @@ returns c =
     let key = c.args.key.now in
     let right = right_for _ _ c.requires.0 key c.requires.2 in
     let hashed : c.if-s-eq-IPV4_WIDTH.h ≡ H key =
-        elim c.if-s-eq-IPV4_WIDTH.branch
-        [ then-s-eq-IPV4_WIDTH w ↦ w.h-is
-            ∙ ipv4_hash table key (long_for _ _ c.requires.0 key c.requires.2) (c.requires.2 ∙ width_is (paper c.args.s) ∙ w.if-s-eq-IPV4_WIDTH.true) right
-            w.by_bytes-h.ensures.1
-        | else-s-eq-IPV4_WIDTH w ↦ w.h-is ∙ w.h_with_table-h.ensures.1 right ] in
+    elim c.if-s-eq-IPV4_WIDTH.branch [
+      | then-s-eq-IPV4_WIDTH w ↦ w.h-is
+          ∙ ipv4_hash table key (long_for _ _ c.requires.0 key c.requires.2) (c.requires.2 ∙ width_is (paper c.args.s) ∙ w.if-s-eq-IPV4_WIDTH.true) right
+          w.by_bytes-h.ensures.1
+      | else-s-eq-IPV4_WIDTH w ↦ w.h-is ∙ w.h_with_table-h.ensures.1 right
+    ] in
     c.choose_at.ensures _ hashed

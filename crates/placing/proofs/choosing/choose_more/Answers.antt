@@ -46,13 +46,13 @@ loop-i-init c =
 pub key_at-requires : goal.key_at-requires
 key_at-requires c =
     let sizes : Sizes (card c.args.s) c.record_size-size.result c.width-width.result =
-        record { size_is = c.record_size-size.ensures; width_is = c.width-width.ensures } in
+    record { size_is = c.record_size-size.ensures; width_is = c.width-width.ensures } in
     key_inside sizes _ _ c.args.area.now c.requires.there c.loop-i-test.true
 
 pub choose-choice-requires : goal.choose-choice-requires
 choose-choice-requires c =
     let sizes : Sizes (card c.args.s) c.record_size-size.result c.width-width.result =
-        record { size_is = c.record_size-size.ensures; width_is = c.width-width.ensures } in
+    record { size_is = c.record_size-size.ensures; width_is = c.width-width.ensures } in
     let halved : c.args.m ≤ length c.loop-i.work = omega (arith, c.loop-i.invariant.halves) in (
       c.requires.ready,
       length-take-le c.args.m c.loop-i.work halved ∙ c.requires.buckets,
@@ -62,12 +62,12 @@ choose-choice-requires c =
 pub overflow_cast-kept : goal.overflow_cast-kept
 overflow_cast-kept c =
     let sizes : Sizes (card c.args.s) c.record_size-size.result c.width-width.result =
-        record { size_is = c.record_size-size.ensures; width_is = c.width-width.ensures } in
+    record { size_is = c.record_size-size.ensures; width_is = c.width-width.ensures } in
     let made =
-        choice_of c.args.s c.args.m c.loop-i.i _ _ c.args.area.now _ (nth (take c.args.m c.loop-i.work)) c.choose-choice.result c.pick.result c.requires.buckets
-        sizes c.key_at.ensures c.choose-choice.ensures c.pick.ensures in
+    choice_of c.args.s c.args.m c.loop-i.i _ _ c.args.area.now _ (nth (take c.args.m c.loop-i.work)) c.choose-choice.result c.pick.result c.requires.buckets
+    sizes c.key_at.ensures c.choose-choice.ensures c.pick.ensures in
     let small =
-        picked_within (card c.args.s) (sound_card _ _ c.requires.ready) _ c.requires.buckets _ _ _ _ _ made.top_is made.bucket_is made.kept_is in
+    picked_within (card c.args.s) (sound_card _ _ c.requires.ready) _ c.requires.buckets _ _ _ _ _ made.top_is made.bucket_is made.kept_is in
     omega (arith, small, c.requires.buckets, (bounds (paper c.args.s) c.requires.ready.ok).buckets_most)
 
 pub add_choice-requires : goal.add_choice-requires
@@ -78,10 +78,10 @@ add_choice-requires c =
     let loop = c.loop-i.invariant in
     let counts : ℕ → ℕ = nth (take m work) in
     let sizes : Sizes s c.record_size-size.result c.width-width.result =
-        record { size_is = c.record_size-size.ensures; width_is = c.width-width.ensures } in
+    record { size_is = c.record_size-size.ensures; width_is = c.width-width.ensures } in
     let made =
-        choice_of c.args.s m c.loop-i.i _ _ c.args.area.now _ counts c.choose-choice.result c.pick.result c.requires.buckets sizes c.key_at.ensures
-        c.choose-choice.ensures c.pick.ensures in
+    choice_of c.args.s m c.loop-i.i _ _ c.args.area.now _ counts c.choose-choice.result c.pick.result c.requires.buckets sizes c.key_at.ensures
+    c.choose-choice.ensures c.pick.ensures in
     let halved : m ≤ length work = omega (arith, loop.halves) in
     let within = chosen_within _ _ c.requires.ready counts (take s.width (drop (c.loop-i.i * (s.width + 4)) c.args.area.now)) in
     let bound = choosers_bound s (nth (take m c.args.work.now)) s.width c.loop-i.i c.args.area.now in
@@ -99,16 +99,16 @@ loop-i-preserved c =
     let counts : ℕ → ℕ = nth (take m work) in
     let choice = c.choose-choice.result in
     let sizes : Sizes s c.record_size-size.result c.width-width.result =
-        record { size_is = c.record_size-size.ensures; width_is = c.width-width.ensures } in
+    record { size_is = c.record_size-size.ensures; width_is = c.width-width.ensures } in
     let made =
-        choice_of c.args.s m c.loop-i.i _ _ c.args.area.now _ counts choice c.pick.result c.requires.buckets sizes c.key_at.ensures c.choose-choice.ensures
-        c.pick.ensures in
+    choice_of c.args.s m c.loop-i.i _ _ c.args.area.now _ counts choice c.pick.result c.requires.buckets sizes c.key_at.ensures c.choose-choice.ensures
+    c.pick.ensures in
     let halved : m ≤ length work = omega (arith, loop.halves) in
     let ys = c.add_choice.new.choosers in
     let long = c.add_choice.auto.choosers ∙ length_tail m work halved in
     let new = take m work ++ (ys ++ drop (length work - m) (drop m work)) in
     let added : (b : ℕ) → nth (drop m new) b ≡ nth (drop m work) b + cond {A = ℕ} (not choice.all_top && eqb b choice.bucket) 1 0 =
-        λ b. ap (λ (z : List ℕ). nth z b) (tail_drop m work halved ys) ∙ rw (tail_is m work halved) at (c.add_choice.ensures b) in
+    λ b. ap (λ (z : List ℕ). nth z b) (tail_drop m work halved ys) ∙ rw (tail_is m work halved) at (c.add_choice.ensures b) in
     record {
       within = omega (arith, c.loop-i-test.true);
       halves = tail_length m work halved ys long ∙ loop.halves;

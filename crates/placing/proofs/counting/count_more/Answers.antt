@@ -1,14 +1,13 @@
 -- `placing::counting::count_more` meets its contract: after i records each count is what it was and the true count of these.
 use mathlib.Core.Path.{◌≡◌, refl, sym, ap, ◌∙◌}
-use mathlib.Core.Bool.{true, cond}
+use mathlib.Core.Bool.{cond}
 use mathlib.Core.List.{List}
-use Prim.Native.Nat.{ℕ, ◌+◌, ◌*◌, ◌<◌}
+use Prim.Native.Nat.{ℕ, ◌+◌}
 use native.Mathlib.Nat.{add-zero}
 use native.Mathlib.Omega.{arith}
-use lib.ListN.{length, take, drop}
+use lib.ListN.{length}
 use Rattle.theory.specs.Lists.{has}
 use Rattle.theory.specs.Hash.{H}
-use Rattle.theory.specs.Settings.{ipv4_width, Card}
 use Rattle.settings.specs.Checked.{card}
 use Rattle.hash.proofs.KeyHashLaws.{ipv4_key, ipv4_fits, ipv4_hash}
 use Rattle.placing.specs.Worked.{nth}
@@ -25,13 +24,13 @@ loop-i-init c =
 pub key_at-key-requires : goal.key_at-key-requires
 key_at-key-requires c =
     let sizes : Sizes (card c.args.s) c.record_size-size.result c.width-width.result =
-        record { size_is = c.record_size-size.ensures; width_is = c.width-width.ensures } in
+    record { size_is = c.record_size-size.ensures; width_is = c.width-width.ensures } in
     key_inside sizes _ _ c.args.area.now c.requires.there c.loop-i-test.true
 
 pub slice_bounds-by_bytes-end : goal.slice_bounds-by_bytes-end
 slice_bounds-by_bytes-end c =
     let sizes : Sizes (card c.args.s) c.record_size-size.result c.width-width.result =
-        record { size_is = c.record_size-size.ensures; width_is = c.width-width.ensures } in
+    record { size_is = c.record_size-size.ensures; width_is = c.width-width.ensures } in
     let key = c.key_at-key.result.now in
     let key_long = ap length c.key_at-key.ensures ∙ key_length sizes _ c.loop-i.i c.args.area.now c.requires.there c.loop-i-test.true in
     let narrow = key_long ∙ sym c.width-width.ensures ∙ c.if-width-eq-IPV4_WIDTH.true in
@@ -40,7 +39,7 @@ slice_bounds-by_bytes-end c =
 pub by_bytes-h-requires : goal.by_bytes-h-requires
 by_bytes-h-requires c =
     let sizes : Sizes (card c.args.s) c.record_size-size.result c.width-width.result =
-        record { size_is = c.record_size-size.ensures; width_is = c.width-width.ensures } in
+    record { size_is = c.record_size-size.ensures; width_is = c.width-width.ensures } in
     let key = c.key_at-key.result.now in
     let key_long = ap length c.key_at-key.ensures ∙ key_length sizes _ c.loop-i.i c.args.area.now c.requires.there c.loop-i-test.true in
     ipv4_fits c.args.table.now key (long_for _ _ c.requires.ready key key_long) (key_long ∙ sym c.width-width.ensures ∙ c.if-width-eq-IPV4_WIDTH.true)
@@ -48,7 +47,7 @@ by_bytes-h-requires c =
 pub h_with_table-h-requires : goal.h_with_table-h-requires
 h_with_table-h-requires c =
     let sizes : Sizes (card c.args.s) c.record_size-size.result c.width-width.result =
-        record { size_is = c.record_size-size.ensures; width_is = c.width-width.ensures } in
+    record { size_is = c.record_size-size.ensures; width_is = c.width-width.ensures } in
     let key_long = ap length c.key_at-key.ensures ∙ key_length sizes _ c.loop-i.i c.args.area.now c.requires.there c.loop-i-test.true in
     long_for _ _ c.requires.ready c.key_at-key.result.now key_long
 
@@ -68,17 +67,18 @@ loop-i-preserved c =
     let table = c.args.table.now in
     let so_far = c.loop-i.invariant in
     let sizes : Sizes s c.record_size-size.result c.width-width.result =
-        record { size_is = c.record_size-size.ensures; width_is = c.width-width.ensures } in
+    record { size_is = c.record_size-size.ensures; width_is = c.width-width.ensures } in
     let key = c.key_at-key.result.now in
     let key_long = ap length c.key_at-key.ensures ∙ key_length sizes _ c.loop-i.i area c.requires.there c.loop-i-test.true in
     let key_here = c.key_at-key.ensures ∙ key_is sizes c.loop-i.i area in
     let right = right_for _ _ c.requires.ready key key_long in
     let hashed : c.if-width-eq-IPV4_WIDTH.h ≡ H key =
-        elim c.if-width-eq-IPV4_WIDTH.branch
-        [ then-width-eq-IPV4_WIDTH w ↦ w.h-is
-            ∙ ipv4_hash table key (long_for _ _ c.requires.ready key key_long) (key_long ∙ sym c.width-width.ensures ∙ w.if-width-eq-IPV4_WIDTH.true) right
-            w.by_bytes-h.ensures.1
-        | else-width-eq-IPV4_WIDTH w ↦ w.h-is ∙ w.h_with_table-h.ensures.1 right ] in
+    elim c.if-width-eq-IPV4_WIDTH.branch [
+      | then-width-eq-IPV4_WIDTH w ↦ w.h-is
+          ∙ ipv4_hash table key (long_for _ _ c.requires.ready key key_long) (key_long ∙ sym c.width-width.ensures ∙ w.if-width-eq-IPV4_WIDTH.true) right
+          w.by_bytes-h.ensures.1
+      | else-width-eq-IPV4_WIDTH w ↦ w.h-is ∙ w.h_with_table-h.ensures.1 right
+    ] in
     let by_key = c.raise_at.ensures key hashed in
     record {
       within = omega (arith, c.loop-i-test.true);

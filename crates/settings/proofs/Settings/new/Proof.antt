@@ -2,7 +2,6 @@
 use mathlib.Core.Path.{sym, ◌∙◌}
 use mathlib.Core.Bool.{and-true, and-false}
 use borrow.Author.Rules.{rules}
-use borrow.Author.Tests.{not-true, not-false}
 use Rattle.theory.specs.Settings.{allowed, in_ranges}
 use Rattle.settings.proofs.Settings.new.Statement.{statement}
 use Rattle.settings.proofs.Settings.new.Tie as tie

@@ -1,16 +1,11 @@
 -- `update::judging::judge` meets its contract: the ledger's rules, then the spot of the key, then the side need of the list that the edit would make.
-use mathlib.Core.Path.{◌≡◌, sym, ap, ◌∙◌}
-use mathlib.Core.Bool.{Bool, false}
-use mathlib.Core.List.{List}
-use Prim.Native.Nat.{ℕ, ◌+◌, ◌-◌, ◌≤◌}
+use mathlib.Core.Path.{sym, ap, ◌∙◌}
+use Prim.Native.Nat.{◌≤◌}
 use native.Mathlib.Omega.{arith}
-use borrow.Author.Rules.{rules}
-use lib.ListN.{length, take}
+use lib.ListN.{length}
 use Rattle.theory.proofs.ListLaws.{negated_false, negated_true}
 use Rattle.theory.specs.Settings.{card_of}
 use Rattle.theory.specs.Records.{Record}
-use Rattle.theory.specs.Ledger.{side_need_of}
-use Rattle.theory.specs.Calls.{ledger_records, ledger_invalid}
 use Rattle.theory.proofs.SettingsLaws.{ranges}
 use Rattle.theory.proofs.ByteLaws.{Fit, length_record}
 use Rattle.settings.specs.Checked.{paper, card}
@@ -18,8 +13,6 @@ use Rattle.settings.proofs.Laws.{capacity_is, side_places_are}
 use Rattle.ledger.proofs.LedgerLaws.{has_count, records_are}
 use Rattle.ledger.proofs.SpotLaws.{search_room, search_rises, ledger_spot}
 use Rattle.ledger.proofs.LedgerEditLaws.{few, listed}
-use Rattle.placing.specs.Worked.{Placed}
-use Rattle.update.specs.Editing.{edited, brings, leaves_out}
 use Rattle.update.proofs.PlanLaws.{Found, Accepted, ledger_room, place_fits, place_listed, makes, made_length, made_few}
 use Rattle.update.proofs.PlanLaws.{judged_4, judged_by_list, judged_9, judged_0}
 use Rattle.update.proofs.judging.judge.Goals as goal
@@ -51,12 +44,12 @@ returns-then-by_list-ne0 c =
     let valid = negated_true c.valid.result _ c.valid.ensures c.if-not-valid.false in
     let count = c.count_at-count.ensures.0 in
     let known : Found (paper c.args.s) c.args.edit c.args.key.now c.args.class c.args.ledger.now c.find_spot-spot.result c.count_at-count.result =
-        record {
-          rules = valid;
-          wide = c.requires.wide;
-          of = ledger_spot _ _ c.requires.whole valid _ count _ c.requires.wide _ c.find_spot-spot.ensures;
-          count = count ∙ sym (listed _ _ c.requires.whole valid);
-        } in
+    record {
+      rules = valid;
+      wide = c.requires.wide;
+      of = ledger_spot _ _ c.requires.whole valid _ count _ c.requires.wide _ c.find_spot-spot.ensures;
+      count = count ∙ sym (listed _ _ c.requires.whole valid);
+    } in
     let by_list = c.refusal_by_list-by_list.ensures in
     let some = c.if-by_list-ne0.true in (
       c.refuse-then-by_list-ne0.ensures ∙ by_list ∙ sym (judged_by_list known (λ e. some (by_list ∙ e))),
@@ -68,14 +61,14 @@ place_new-need-requires c =
     let valid = negated_true c.valid.result _ c.valid.ensures c.if-not-valid.false in
     let count = c.count_at-count.ensures.0 in
     let known : Found (paper c.args.s) c.args.edit c.args.key.now c.args.class c.args.ledger.now c.find_spot-spot.result c.count_at-count.result =
-        record {
-          rules = valid;
-          wide = c.requires.wide;
-          of = ledger_spot _ _ c.requires.whole valid _ count _ c.requires.wide _ c.find_spot-spot.ensures;
-          count = count ∙ sym (listed _ _ c.requires.whole valid);
-        } in
+    record {
+      rules = valid;
+      wide = c.requires.wide;
+      of = ledger_spot _ _ c.requires.whole valid _ count _ c.requires.wide _ c.find_spot-spot.ensures;
+      count = count ∙ sym (listed _ _ c.requires.whole valid);
+    } in
     let accepted : Accepted (paper c.args.s) c.args.edit c.args.key.now c.args.class c.args.ledger.now c.find_spot-spot.result c.count_at-count.result =
-        record { found = known; none = sym c.refusal_by_list-by_list.ensures ∙ c.if-by_list-ne0.false } in
+    record { found = known; none = sym c.refusal_by_list-by_list.ensures ∙ c.if-by_list-ne0.false } in
     let t = paper c.args.s in
     let new : Record = record { key = c.args.key.now; class = c.args.class } in
     let new_fits : Fit (card_of t).width new = record { wide = c.requires.wide; small = c.ranges.class.fits } in
@@ -97,14 +90,14 @@ returns-then-s-need c =
     let valid = negated_true c.valid.result _ c.valid.ensures c.if-not-valid.false in
     let count = c.count_at-count.ensures.0 in
     let known : Found (paper c.args.s) c.args.edit c.args.key.now c.args.class c.args.ledger.now c.find_spot-spot.result c.count_at-count.result =
-        record {
-          rules = valid;
-          wide = c.requires.wide;
-          of = ledger_spot _ _ c.requires.whole valid _ count _ c.requires.wide _ c.find_spot-spot.ensures;
-          count = count ∙ sym (listed _ _ c.requires.whole valid);
-        } in
+    record {
+      rules = valid;
+      wide = c.requires.wide;
+      of = ledger_spot _ _ c.requires.whole valid _ count _ c.requires.wide _ c.find_spot-spot.ensures;
+      count = count ∙ sym (listed _ _ c.requires.whole valid);
+    } in
     let accepted : Accepted (paper c.args.s) c.args.edit c.args.key.now c.args.class c.args.ledger.now c.find_spot-spot.result c.count_at-count.result =
-        record { found = known; none = sym c.refusal_by_list-by_list.ensures ∙ c.if-by_list-ne0.false } in
+    record { found = known; none = sym c.refusal_by_list-by_list.ensures ∙ c.if-by_list-ne0.false } in
     let t = paper c.args.s in
     let new : Record = record { key = c.args.key.now; class = c.args.class } in
     let new_fits : Fit (card_of t).width new = record { wide = c.requires.wide; small = c.ranges.class.fits } in
@@ -118,14 +111,14 @@ overflow_sub-result c =
     let valid = negated_true c.valid.result _ c.valid.ensures c.if-not-valid.false in
     let count = c.count_at-count.ensures.0 in
     let known : Found (paper c.args.s) c.args.edit c.args.key.now c.args.class c.args.ledger.now c.find_spot-spot.result c.count_at-count.result =
-        record {
-          rules = valid;
-          wide = c.requires.wide;
-          of = ledger_spot _ _ c.requires.whole valid _ count _ c.requires.wide _ c.find_spot-spot.ensures;
-          count = count ∙ sym (listed _ _ c.requires.whole valid);
-        } in
+    record {
+      rules = valid;
+      wide = c.requires.wide;
+      of = ledger_spot _ _ c.requires.whole valid _ count _ c.requires.wide _ c.find_spot-spot.ensures;
+      count = count ∙ sym (listed _ _ c.requires.whole valid);
+    } in
     let accepted : Accepted (paper c.args.s) c.args.edit c.args.key.now c.args.class c.args.ledger.now c.find_spot-spot.result c.count_at-count.result =
-        record { found = known; none = sym c.refusal_by_list-by_list.ensures ∙ c.if-by_list-ne0.false } in
+    record { found = known; none = sym c.refusal_by_list-by_list.ensures ∙ c.if-by_list-ne0.false } in
     omega (arith, place_fits accepted, c.left_out.ensures.0)
 
 pub returns : goal.returns
@@ -133,14 +126,14 @@ returns c =
     let valid = negated_true c.valid.result _ c.valid.ensures c.if-not-valid.false in
     let count = c.count_at-count.ensures.0 in
     let known : Found (paper c.args.s) c.args.edit c.args.key.now c.args.class c.args.ledger.now c.find_spot-spot.result c.count_at-count.result =
-        record {
-          rules = valid;
-          wide = c.requires.wide;
-          of = ledger_spot _ _ c.requires.whole valid _ count _ c.requires.wide _ c.find_spot-spot.ensures;
-          count = count ∙ sym (listed _ _ c.requires.whole valid);
-        } in
+    record {
+      rules = valid;
+      wide = c.requires.wide;
+      of = ledger_spot _ _ c.requires.whole valid _ count _ c.requires.wide _ c.find_spot-spot.ensures;
+      count = count ∙ sym (listed _ _ c.requires.whole valid);
+    } in
     let accepted : Accepted (paper c.args.s) c.args.edit c.args.key.now c.args.class c.args.ledger.now c.find_spot-spot.result c.count_at-count.result =
-        record { found = known; none = sym c.refusal_by_list-by_list.ensures ∙ c.if-by_list-ne0.false } in
+    record { found = known; none = sym c.refusal_by_list-by_list.ensures ∙ c.if-by_list-ne0.false } in
     let t = paper c.args.s in
     let new : Record = record { key = c.args.key.now; class = c.args.class } in
     let new_fits : Fit (card_of t).width new = record { wide = c.requires.wide; small = c.ranges.class.fits } in

@@ -3,7 +3,6 @@ use mathlib.Core.Path.{◌≡◌, sym, ap, ◌∙◌}
 use mathlib.Core.List.{List, ◌++◌}
 use Prim.Native.Nat.{ℕ, ◌+◌, ◌-◌, ◌≤◌}
 use native.Mathlib.Omega.{arith}
-use borrow.Author.Rules.{rules}
 use lib.ListN.{length, take, drop}
 use lib.Seq.{length-take-le}
 use Rattle.theory.specs.Records.{Record, record_bytes}
@@ -17,7 +16,7 @@ use Rattle.placing.proofs.WorkLaws.{kept_within}
 use Rattle.writing.proofs.LentRecordLaws.{FrontBack, front_back}
 use Rattle.update.specs.Editing.{PlacingNew, edited_at, brings, leaves_out}
 use Rattle.update.specs.declared.editing.Edit.{Edit}
-use Rattle.update.proofs.EditKindLaws.{size_is, Around, from_within, after_within, first_room, mid_room, last_room, new_list, total_is}
+use Rattle.update.proofs.EditKindLaws.{size_is, Around, after_within, first_room, mid_room, last_room, new_list, total_is}
 use Rattle.update.proofs.judging.place_new.Goals as goal
 
 -- what lies around the edit's place, by how many records it leaves out and the size of a record
@@ -85,6 +84,6 @@ returns c =
     let back = choices ++ drop total c.args.kept.now in
     let first = ap (λ (j : ℕ). take j back) (sym counted) ∙ kept_back.first in
     let placed : (x : Record) → record_bytes x ≡ c.args.«record».now → Fit (card c.args.s).width x
-            → Placed (card c.args.s) c.args.m (edited_at c.args.s c.args.edit c.args.at x c.args.count c.args.ledger.now) c.place_parts.new.work choices =
-        λ x f g. rw (new_list a mid.result mid.ensures.0 c.args.«record».now x f g) at c.place_parts.ensures in
+    → Placed (card c.args.s) c.args.m (edited_at c.args.s c.args.edit c.args.at x c.args.count c.args.ledger.now) c.place_parts.new.work choices =
+    λ x f g. rw (new_list a mid.result mid.ensures.0 c.args.«record».now x f g) at c.place_parts.ensures in
     λ x f g. (c.side_need.ensures _ (rw kept_back.first (placed x f g)), rw first (placed x f g))

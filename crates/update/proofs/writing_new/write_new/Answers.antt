@@ -1,10 +1,8 @@
 -- `update::writing_new::write_new` meets its contract: the edited ledger holds the new list, and the writers lay that out.
-use mathlib.Core.Path.{◌≡◌, sym, ap, ◌∙◌}
-use mathlib.Core.List.{List}
-use Prim.Native.Nat.{ℕ, ◌-◌, ◌≤◌}
+use mathlib.Core.Path.{sym, ap, ◌∙◌}
 use native.Mathlib.Omega.{arith}
-use lib.ListN.{length, take, drop}
-use Rattle.theory.specs.Records.{Record, records}
+use lib.ListN.{length}
+use Rattle.theory.specs.Records.{Record}
 use Rattle.theory.specs.Layout.{counted_places}
 use Rattle.theory.proofs.ByteLaws.{Fit, length_record}
 use Rattle.settings.specs.Checked.{card}
@@ -14,7 +12,7 @@ use Rattle.memory.proofs.SliceLaws.{bytes_of}
 use Rattle.writing.proofs.LentRecordLaws.{lent_room, laid_out}
 use Rattle.update.specs.Editing.{edited_list}
 use Rattle.update.proofs.EditKindLaws.{size_is}
-use Rattle.update.proofs.WriteLaws.{plan_room, plan_fit, plan_kept, Written, long, lent_list}
+use Rattle.update.proofs.WriteLaws.{plan_room, plan_fit, Written, long, lent_list}
 use Rattle.update.proofs.writing_new.write_new.Goals as goal
 
 pub edit_ledger-requires : goal.edit_ledger-requires
@@ -37,11 +35,11 @@ slice_bounds-write_areas-count c =
     let new_fits : Fit s.width new = record { wide = c.requires.wide; small = c.ranges.class.fits } in
     let flows = records_fit_width _ c.args.ledger.now c.requires.sized.ledger p.valid (bytes_of c.args.ledger.now c.slice_known-1.given) in
     let written : Written s (edited_list c.args.s c.args.edit c.args.key.now c.args.class c.args.ledger.now) c.edit_ledger.new.ledger =
-        record {
-          fit = plan_fit p new_fits flows;
-          few = p.room;
-          is = c.edit_ledger.ensures new (sym c.requires.written) ∙ ap (counted_places s s.capacity) (sym p.list);
-        } in
+    record {
+      fit = plan_fit p new_fits flows;
+      few = p.room;
+      is = c.edit_ledger.ensures new (sym c.requires.written) ∙ ap (counted_places s s.capacity) (sym p.list);
+    } in
     has_count s c.edit_ledger.new.ledger (long written)
 
 pub slice_bounds-write_areas-start : goal.slice_bounds-write_areas-start
@@ -52,11 +50,11 @@ slice_bounds-write_areas-start c =
     let new_fits : Fit s.width new = record { wide = c.requires.wide; small = c.ranges.class.fits } in
     let flows = records_fit_width _ c.args.ledger.now c.requires.sized.ledger p.valid (bytes_of c.args.ledger.now c.slice_known-1.given) in
     let written : Written s (edited_list c.args.s c.args.edit c.args.key.now c.args.class c.args.ledger.now) c.edit_ledger.new.ledger =
-        record {
-          fit = plan_fit p new_fits flows;
-          few = p.room;
-          is = c.edit_ledger.ensures new (sym c.requires.written) ∙ ap (counted_places s s.capacity) (sym p.list);
-        } in
+    record {
+      fit = plan_fit p new_fits flows;
+      few = p.room;
+      is = c.edit_ledger.ensures new (sym c.requires.written) ∙ ap (counted_places s s.capacity) (sym p.list);
+    } in
     has_count s c.edit_ledger.new.ledger (long written)
 
 pub write_areas-requires : goal.write_areas-requires
@@ -67,11 +65,11 @@ write_areas-requires c =
     let new_fits : Fit s.width new = record { wide = c.requires.wide; small = c.ranges.class.fits } in
     let flows = records_fit_width _ c.args.ledger.now c.requires.sized.ledger p.valid (bytes_of c.args.ledger.now c.slice_known-1.given) in
     let written : Written s (edited_list c.args.s c.args.edit c.args.key.now c.args.class c.args.ledger.now) c.edit_ledger.new.ledger =
-        record {
-          fit = plan_fit p new_fits flows;
-          few = p.room;
-          is = c.edit_ledger.ensures new (sym c.requires.written) ∙ ap (counted_places s s.capacity) (sym p.list);
-        } in
+    record {
+      fit = plan_fit p new_fits flows;
+      few = p.room;
+      is = c.edit_ledger.ensures new (sym c.requires.written) ∙ ap (counted_places s s.capacity) (sym p.list);
+    } in
     let all = lent_list written c.args.plan.count p.count in (
       record {
         ok = c.requires.ok;
@@ -96,9 +94,9 @@ returns c =
     let new_fits : Fit s.width new = record { wide = c.requires.wide; small = c.ranges.class.fits } in
     let flows = records_fit_width _ c.args.ledger.now c.requires.sized.ledger p.valid (bytes_of c.args.ledger.now c.slice_known-1.given) in
     let written : Written s (edited_list c.args.s c.args.edit c.args.key.now c.args.class c.args.ledger.now) c.edit_ledger.new.ledger =
-        record {
-          fit = plan_fit p new_fits flows;
-          few = p.room;
-          is = c.edit_ledger.ensures new (sym c.requires.written) ∙ ap (counted_places s s.capacity) (sym p.list);
-        } in
+    record {
+      fit = plan_fit p new_fits flows;
+      few = p.room;
+      is = c.edit_ledger.ensures new (sym c.requires.written) ∙ ap (counted_places s s.capacity) (sym p.list);
+    } in
     let is = c.write_areas.ensures in laid_out s (lent_list written c.args.plan.count p.count) written.is is.0 is.1 is.2 is.3
