@@ -1,4 +1,4 @@
-//! Links the proved static library, which `rt staticlib card` writes.
+//! Links the proved static library, which `bin/build staticlib card` writes.
 
 use std::path::Path;
 
@@ -9,7 +9,7 @@ fn main() {
     println!("cargo:rerun-if-changed={}", library.display());
     if !library.exists() {
         eprintln!(
-            "{} is not there: run `rt staticlib card` in the repository's root first",
+            "{} is not there: run `bin/build staticlib card` in the repository's root first",
             library.display()
         );
         std::process::exit(1);

@@ -21,7 +21,7 @@ pub fn program(name: &str) -> PathBuf {
     let program = bin.join(name);
     assert!(
         program.exists(),
-        "{} is not there: run `rt check {name}` in the repository's root first",
+        "{} is not there: run `bin/build check {name}` in the repository's root first",
         program.display()
     );
     program
