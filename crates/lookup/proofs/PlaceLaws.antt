@@ -9,7 +9,6 @@ use lib.Dec.{eqb}
 use borrow.Author.Tests.{lt-ltb, le-ltb, eq-eqb, ne_eqb}
 use lib.ListN.{length, take, drop, get_or, length-drop}
 use lib.Seq.{get_or-take, get_or-drop, drop-drop}
-use Rattle.theory.specs.Lists.{least}
 use Rattle.theory.specs.Hash.{H}
 use Rattle.theory.specs.Records.{class_width, count_of}
 use Rattle.theory.specs.Settings.{Settings, Card, allowed, card_of, record_size, bucket_size, buckets_length}

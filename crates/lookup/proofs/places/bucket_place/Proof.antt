@@ -14,7 +14,7 @@ use Rattle.lookup.proofs.places.bucket_place.Statement.{statement}
 use Rattle.lookup.proofs.places.bucket_place.Tie as tie
 
 -- ---- the size of a bucket is known
-module _ (c : tie.After-bucket-size) where
+module _ (c : tie.After-bucket_size) where
   abbrev start : tie.Start
   start = c.before.before.before
 
@@ -48,15 +48,15 @@ module _ (c : tie.After-bucket-size) where
   mark : MarkAt t buckets bucket at
   mark = record { ok = start.requires.0.ok; start = from }
 
-returns-3 : tie.Need-returns-3
+returns-3 : tie.Need-returns
 returns-3 c =
     let size = c.before.before.before.before in
-    bucket_among (mark size) c.before.before.if1.false c.if2.false (omega (arith, inside size, some size, (start size).requires.0.buckets_size))
+    bucket_among (mark size) c.before.before.if-mark-eq255.false c.if-s-mark.false (omega (arith, inside size, some size, (start size).requires.0.buckets_size))
 
 pub bucket_place_spec : {M : Type 1} → statement M
 bucket_place_spec =
     tie.close (tie.spec (λ c κs. search rules) (λ c. omega (arith, inside c, few c)) (λ c. omega (arith, inside c.before, some c.before))
-    (λ c. omega (arith, c.shared-slice-known3.given (at c.before))) (λ c κs. search rules)
-    (λ c. let size = c.before.before.before in sent_on (mark size) c.before.if1.true (c.side_place.ensures (buckets size) (bucket size)))
-    (λ c. bucket_invalid (mark c.before.before.before.before) c.before.before.if1.false c.if2.true)
+    (λ c. omega (arith, c.shared_slice_known-3-1.given (at c.before))) (λ c κs. search rules)
+    (λ c. let size = c.before.before.before in sent_on (mark size) c.before.if-mark-eq255.true (c.side_place.ensures (buckets size) (bucket size)))
+    (λ c. bucket_invalid (mark c.before.before.before.before) c.before.before.if-mark-eq255.false c.if-s-mark.true)
     (λ c. let size = c.before.before.before.before in omega (arith, inside size, some size, few size)) returns-3)

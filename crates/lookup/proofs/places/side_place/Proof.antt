@@ -6,14 +6,14 @@ use Rattle.lookup.proofs.PlaceLaws.{side_invalid, side_among}
 use Rattle.lookup.proofs.places.side_place.Statement.{statement}
 use Rattle.lookup.proofs.places.side_place.Tie as tie
 
-returns : tie.Need-returns
+returns : tie.Need-returns-then-s-records
 returns c =
-    let count = c.before.before.count_at.ensures.0 in λ buckets b. side_invalid _ (omega (arith, count))
+    let count = c.before.before.count_at-records.ensures.0 in λ buckets b. side_invalid _ (omega (arith, count))
 
-returns-2 : tie.Need-returns-2
+returns-2 : tie.Need-returns
 returns-2 c =
     let counted = c.before.before in
-    λ buckets b. side_among _ _ counted.count_at.ensures.0 (omega arith) counted.before.before.requires.once
+    λ buckets b. side_among _ _ counted.count_at-records.ensures.0 (omega arith) counted.before.before.requires.once
 
 pub side_place_spec : {M : Type 1} → statement M
 side_place_spec =

@@ -12,11 +12,11 @@ returns c =
     let class = c.before.before.before in
     let hit = class.before.before in
     let args = hit.before.before.before.args in
-    let e = hit.scan-all.ensures.0 in
-    rw (c.before.before.pick32.ensures, c.before.pick322.ensures, e.finds, e.compares)
-    (by_test hit.scan-all.result.found
-    (λ q. rw (q, class.class_at.ensures)
-    (unfold record_at in rw (drop-drop (length args.key.now) hit.scan-all.result.at args.place.now)))
+    let e = hit.scan_all-hit.ensures.0 in
+    rw (c.before.before.pick32.ensures, c.before.pick32-2.ensures, e.finds, e.compares)
+    (by_test hit.scan_all-hit.result.found
+    (λ q. rw (q, class.class_at-class.ensures)
+    (unfold record_at in rw (drop-drop (length args.key.now) hit.scan_all-hit.result.at args.place.now)))
     (λ q. rw q))
 
 pub compare_all_spec : {M : Type 1} → statement M

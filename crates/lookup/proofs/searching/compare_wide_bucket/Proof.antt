@@ -13,7 +13,7 @@ use Rattle.lookup.proofs.searching.compare_wide_bucket.Statement.{statement}
 use Rattle.lookup.proofs.searching.compare_wide_bucket.Tie as tie
 
 -- ---- the size of a bucket is known
-module _ (c : tie.After-bucket-size) where
+module _ (c : tie.After-bucket_size) where
   abbrev start : tie.Start
   start = c.before.before.before
 
