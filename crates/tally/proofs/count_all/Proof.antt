@@ -8,7 +8,7 @@ use Rattle.tally.proofs.count_all.Statement.{statement}
 use Rattle.tally.proofs.count_all.Tie as tie
 
 -- ---- the marks are summed
-module _ (c : tie.After-sum-marks) where
+module _ (c : tie.After-sum_marks-sums) where
   abbrev start : tie.Start
   start = c.before.before.before.before
 
@@ -20,8 +20,8 @@ unfolding counted_totals
 returns c =
     let ledger = c.before.before in
     let side = ledger.before in
-    let sums = side.before.sum-marks.ensures in
-    rw (sums.0, sums.1, side.count_at.ensures.0, c.fill.ensures, ledger.count-at2.ensures.0, c.before.buckets.ensures)
+    let sums = side.before.sum_marks-sums.ensures in
+    rw (sums.0, sums.1, side.count_at.ensures.0, c.fill.ensures, ledger.count_at-2.ensures.0, c.before.buckets.ensures)
 
 pub count_all_spec : {M : Type 1} → statement M
 count_all_spec =
@@ -29,7 +29,7 @@ count_all_spec =
     (λ c κs. omega (arith, (start c).requires.0.side_size, (bound c).side_least)) (λ c. search rules)
     (λ c κs. omega (arith, (start c.before).requires.1, (bound c.before).ledger_least)) (λ c κs. (start c.before.before).requires.0.ok)
     (λ c κs. let b = bound c.before.before.before in record {
-      few = omega (arith, c.before.count-at2.ensures.1);
+      few = omega (arith, c.before.count_at-2.ensures.1);
       least = omega (arith, c.buckets.ensures);
       most = omega (arith, c.buckets.ensures);
     })

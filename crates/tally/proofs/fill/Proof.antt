@@ -22,14 +22,14 @@ module _ (c : tie.Start) where
   remainder_most : 100 * n % m ≤ 4096
   remainder_most = omega (arith, mod-lt (100 * n) {m = m} (omega (arith, c.requires.least)), c.requires.most)
 
-returns : tie.Need-returns
-returns c = let e = c.before in sym (fill_below (n e) (m e) c.if1.true)
+returns : tie.Need-returns-then-remainder-m
+returns c = let e = c.before in sym (fill_below (n e) (m e) c.if-remainder-m.true)
 
-returns-2 : tie.Need-returns-2
-returns-2 c = let e = c.before.before in sym (fill_above (n e) (m e) c.if2.true)
+returns-2 : tie.Need-returns-then-m-remainder
+returns-2 c = let e = c.before.before in sym (fill_above (n e) (m e) c.if-m-remainder.true)
 
-returns-3 : tie.Need-returns-3
-returns-3 c = let e = c.before.before in sym (fill_half (n e) (m e) c.before.if1.false c.if2.false)
+returns-3 : tie.Need-returns
+returns-3 c = let e = c.before.before in sym (fill_half (n e) (m e) c.before.if-remainder-m.false c.if-m-remainder.false)
 
 pub fill_spec : {M : Type 1} → statement M
 fill_spec =

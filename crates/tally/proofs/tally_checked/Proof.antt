@@ -2,7 +2,6 @@
 use mathlib.Core.Path.{◌≡◌}
 use mathlib.Core.Bool.{Bool, true, false}
 use borrow.Author.Rules.{rules}
-use borrow.Author.Tests.{not-true, not-false}
 use Rattle.theory.specs.Calls.{ledger_invalid, lookup_invalid, tally_areas}
 use Rattle.theory.proofs.ListLaws.{negated_false, negated_true}
 use Rattle.settings.specs.Checked.{card}
@@ -22,7 +21,7 @@ module _ (c : tie.After-valid) where
   four : c.valid.result ≡ false → ledger_bad start ≡ true
   four e = negated_false c.valid.result (ledger_bad start) c.valid.ensures e
 
-module _ (c : tie.After-lookup-valid) where
+module _ (c : tie.After-lookup_valid) where
   abbrev at : tie.After-valid
   at = c.before.before
 
@@ -31,26 +30,26 @@ module _ (c : tie.After-lookup-valid) where
       lookup_invalid (card (start at).args.s)
       (read_areas (start at).args.ledger.now (start at).args.clipped.now (start at).args.buckets.now (start at).args.side.now)
 
-  rules : ledger_bad (start at) ≡ false
-  rules = negated_true at.valid.result (ledger_bad (start at)) at.valid.ensures (not-false _ c.before.if1.false)
+  kept : ledger_bad (start at) ≡ false
+  kept = negated_true at.valid.result (ledger_bad (start at)) at.valid.ensures (c.before.if-not-valid.false)
 
-  five : c.lookup-valid.result ≡ false → lookup_bad ≡ true
-  five e = negated_false c.lookup-valid.result lookup_bad (c.lookup-valid.ensures (start at).args.ledger.now) e
+  five : c.lookup_valid.result ≡ false → lookup_bad ≡ true
+  five e = negated_false c.lookup_valid.result lookup_bad (c.lookup_valid.ensures (start at).args.ledger.now) e
 
-  none : c.lookup-valid.result ≡ true → lookup_bad ≡ false
-  none e = negated_true c.lookup-valid.result lookup_bad (c.lookup-valid.ensures (start at).args.ledger.now) e
+  none : c.lookup_valid.result ≡ true → lookup_bad ≡ false
+  none e = negated_true c.lookup_valid.result lookup_bad (c.lookup_valid.ensures (start at).args.ledger.now) e
 
-returns : tie.Need-returns
+returns : tie.Need-returns-then-not-valid
 unfolding tally_areas
-returns c = rw (c.no_totals.ensures, four c.before.before (not-true _ c.before.if1.true))
+returns c = rw (c.no_totals.ensures, four c.before.before (c.before.if-not-valid.true))
 
-returns-2 : tie.Need-returns-2
+returns-2 : tie.Need-returns-then-not-lookup_valid
 unfolding tally_areas
-returns-2 c = let judged = c.before.before in rw (c.no-totals2.ensures, rules judged, five judged (not-true _ c.before.if2.true))
+returns-2 c = let judged = c.before.before in rw (c.no_totals-then-not-lookup_valid.ensures, kept judged, five judged (c.before.if-not-lookup_valid.true))
 
-returns-3 : tie.Need-returns-3
+returns-3 : tie.Need-returns
 unfolding tally_areas
-returns-3 c = let judged = c.before.before in rw (c.count-all.ensures, rules judged, none judged (not-false _ c.before.if2.false))
+returns-3 c = let judged = c.before.before in rw (c.count_all.ensures, kept judged, none judged (c.before.if-not-lookup_valid.false))
 
 pub tally_checked_spec : {M : Type 1} → statement M
 tally_checked_spec =

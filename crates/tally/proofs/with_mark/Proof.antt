@@ -8,5 +8,5 @@ use Rattle.tally.proofs.with_mark.Tie as tie
 
 pub with_mark_spec : {M : Type 1} → statement M
 with_mark_spec =
-    tie.close (tie.spec (λ c. search rules) (λ c. rw (eq-eqb c.before.before.args.mark 255 c.before.if1.true) (omega arith, refl))
-    (λ c. search rules) (λ c. rw (ne_eqb c.before.before.args.mark 255 c.before.if1.false) (refl, omega arith)))
+    tie.close (tie.spec (λ c. search rules) (λ c. rw (eq-eqb c.before.before.args.mark 255 c.before.if-mark-eq255.true) (omega arith, refl))
+    (λ c. search rules) (λ c. rw (ne_eqb c.before.before.args.mark 255 c.before.if-mark-eq255.false) (refl, omega arith)))
