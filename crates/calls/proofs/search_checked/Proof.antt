@@ -16,21 +16,21 @@ module _ (c : tie.After-width) where
   start = c.before.before.before.before.before
 
 -- ---- it is right
-module _ (c : tie.Else1) where
+module _ (c : tie.Else-key-width) where
   wide : length (start c.before).args.key.now ≡ (card (start c.before).args.s).width
-  wide = c.if1.false ∙ c.before.width.ensures
+  wide = c.if-key-width.false ∙ c.before.width.ensures
 
-returns : tie.Need-returns
+returns : tie.Need-returns-then-key-width
 unfolding key_wrong
 returns c =
     let asked = c.before.before in
-    rw (c.bare.ensures, ne_eqb _ _ (λ e. c.before.if1.true (e ∙ sym asked.width.ensures)))
+    rw (c.bare.ensures, ne_eqb _ _ (λ e. c.before.if-key-width.true (e ∙ sym asked.width.ensures)))
 
-returns-2 : tie.Need-returns-2
+returns-2 : tie.Need-returns
 unfolding key_wrong
 returns-2 c =
     let right = c.before.before in
-    rw (eq-eqb _ _ (wide right)) (c.search_at.ensures ∙ hashed (paper (start right.before).args.s) _ _ _ _ _ c.before.h-rows.ensures)
+    rw (eq-eqb _ _ (wide right)) (c.search_at.ensures ∙ hashed (paper (start right.before).args.s) _ _ _ _ _ c.before.h_rows-h.ensures)
 
 pub search_checked_spec : {M : Type 1} → statement M
 search_checked_spec =
