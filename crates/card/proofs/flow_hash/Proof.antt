@@ -3,7 +3,6 @@ use mathlib.Core.Path.{◌≡◌, sym, ◌∙◌}
 use mathlib.Core.Bool.{true}
 use mathlib.Core.List.{[], ◌∷◌}
 use borrow.Author.Rules.{rules}
-use borrow.Author.Tests.{not-true, not-false}
 use Rattle.theory.specs.Settings.{width_allowed}
 use Rattle.theory.proofs.ListLaws.{all_stored}
 use Rattle.theory.proofs.SettingsLaws.{width_of}
@@ -12,39 +11,39 @@ use Rattle.card.proofs.flow_hash.Statement.{statement}
 use Rattle.card.proofs.flow_hash.Tie as tie
 
 -- ---- the width is one of the two
-module _ (c : tie.Else1) where
+module _ (c : tie.Else-not-width_allowed) where
   abbrev start : tie.Start
   start = c.before.before.before.before
 
   allows : width_allowed start.args.width ≡ true
-  allows = sym c.before.width_allowed.ensures ∙ not-false _ c.if1.false
+  allows = sym c.before.width_allowed.ensures ∙ c.if-not-width_allowed.false
 
-returns : tie.Need-returns
+returns : tie.Need-returns-then-not-width_allowed
 returns c =
     let args = c.before.before.before.before.args in
-    hash_1 args.width [] args.key.now args.h.now (sym c.before.width_allowed.ensures ∙ not-true _ c.if1.true)
+    hash_1 args.width [] args.key.now args.h.now (sym c.before.width_allowed.ensures ∙ c.if-not-width_allowed.true)
 
-returns-2 : tie.Need-returns-2
+returns-2 : tie.Need-returns-then-h-ne1
 returns-2 c =
     let known = c.before in
-    let args = (start known).args in hash_2 _ args.width args.key.now args.h.now c.if2.true ∙ hash_on _ _ _ (allows known)
+    let args = (start known).args in hash_2 _ args.width args.key.now args.h.now c.if-h-ne1.true ∙ hash_on _ _ _ (allows known)
 
-returns-3 : tie.Need-returns-3
+returns-3 : tie.Need-returns-then-key-width
 returns-3 c =
     let known = c.before.before in
     let args = (start known).args in
-    hash_3 _ args.width args.key.now args.h.now c.before.if2.false c.if3.true ∙ hash_on _ _ _ (allows known)
+    hash_3 _ args.width args.key.now args.h.now c.before.if-h-ne1.false c.if-key-width.true ∙ hash_on _ _ _ (allows known)
 
-h-rows-requires : tie.Need-h-rows-requires
-h-rows-requires c κs = let known = c.before.before in rw c.if3.false (width_of (start known).args.width (allows known))
+h-rows-requires : tie.Need-h_rows-requires
+h-rows-requires c κs = let known = c.before.before in rw c.if-key-width.false (width_of (start known).args.width (allows known))
 
-returns-4 : tie.Need-returns-4
+returns-4 : tie.Need-returns
 returns-4 c =
     let known = c.before.before.before in
     let args = (start known).args in
-    let one = c.before.before.if2.false in
-    rw (all_stored (c.h-rows.result ∷ []) args.h.now one, c.h-rows.ensures)
-    (hash_0 _ args.width args.key.now args.h.now one c.before.if3.false ∙ hash_on _ _ _ (allows known))
+    let one = c.before.before.if-h-ne1.false in
+    rw (all_stored (c.h_rows.result ∷ []) args.h.now one, c.h_rows.ensures)
+    (hash_0 _ args.width args.key.now args.h.now one c.before.if-key-width.false ∙ hash_on _ _ _ (allows known))
 
 pub flow_hash_spec : {M : Type 1} → statement M
 flow_hash_spec =

@@ -11,10 +11,10 @@ unfolding first_hashes
 returns c =
     let start = c.before.before.before.before.before in
     let hash_at = c.before.before.before.hash_at in
-    let hash_at2 = c.before.before.hash_at2 in
-    let hash_at3 = c.before.hash_at3 in
-    rw (← hash_at.ensures, ← hash_at2.ensures, ← hash_at3.ensures, ← c.hash-at4.ensures)
-    (all_stored (hash_at.result ∷ hash_at2.result ∷ hash_at3.result ∷ c.hash-at4.result ∷ []) start.args.hashes.now start.requires.1)
+    let hash_at2 = c.before.before.hash_at-2 in
+    let hash_at3 = c.before.hash_at-3 in
+    rw (← hash_at.ensures, ← hash_at2.ensures, ← hash_at3.ensures, ← c.hash_at-4.ensures)
+    (all_stored (hash_at.result ∷ hash_at2.result ∷ hash_at3.result ∷ c.hash_at-4.result ∷ []) start.args.hashes.now start.requires.1)
 
 pub write_hashes_spec : {M : Type 1} → statement M
 write_hashes_spec =

@@ -8,5 +8,5 @@ use Rattle.card.proofs.reading.flow_search_counts_lent.Tie as tie
 
 pub flow_search_counts_lent_spec : {M : Type 1} → statement M
 flow_search_counts_lent_spec =
-    tie.close (tie.spec (λ c κs. search rules) (λ c κs. given_few (with_few _ _ _ _ _ _) c.before.search-counted.ensures) (λ c. search rules)
-    (λ c. c.before.before.give-counts.ensures ∙ counted_with _ _ _ _ _ _ _ c.before.before.before.before.search-counted.ensures))
+    tie.close (tie.spec (λ c κs. search rules) (λ c κs. given_few (with_few _ _ _ _ _ _) c.before.search_counted-found.ensures) (λ c. search rules)
+    (λ c. c.before.before.give_counts.ensures ∙ counted_with _ _ _ _ _ _ _ c.before.before.before.before.search_counted-found.ensures))

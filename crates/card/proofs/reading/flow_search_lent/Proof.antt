@@ -8,4 +8,4 @@ use Rattle.card.proofs.reading.flow_search_lent.Tie as tie
 pub flow_search_lent_spec : {M : Type 1} → statement M
 flow_search_lent_spec =
     tie.close (tie.spec (λ c κs. search rules) (λ c κs. search rules)
-    (λ c. c.driver_number.ensures ∙ ap driver_number c.before.search-with-table.ensures))
+    (λ c. c.driver_number.ensures ∙ ap driver_number c.before.search_with_table.ensures))

@@ -9,7 +9,7 @@ use Rattle.card.proofs.reading.flow_tally.Statement.{statement}
 use Rattle.card.proofs.reading.flow_tally.Tie as tie
 
 -- ---- the areas are tallied
-module _ (c : tie.After-tally) where
+module _ (c : tie.After-tally-x) where
   abbrev start : tie.Start
   start = c.before.before.before.before.before.before
 
@@ -21,20 +21,20 @@ module _ (c : tie.After-tally) where
       let args = start.args in settings_of args.p args.k args.room args.top args.capacity args.side_places args.width
 
   call : Tallied asked start.args.ledger.now start.args.clipped.now start.args.buckets.now start.args.side.now
-      (totals_of c.tally.result)
-  call = record { is = c.tally.ensures }
+      (totals_of c.tally-x.result)
+  call = record { is = c.tally-x.ensures }
 
-returns-4 : tie.Need-returns-4
+returns-4 : tie.Need-returns
 returns-4 c =
     let wrote = c.before.before in
     let third = wrote.before.before in
     let made = third.before.before.before in
-    tallied (call made) (totals made) third.before.before.if1.false third.before.if2.false third.if3.false _ wrote.write-totals.ensures
+    tallied (call made) (totals made) third.before.before.if-number-eq1.false third.before.if-totals-ne4.false third.if-number-ne0.false _ wrote.write_totals.ensures
 
 pub flow_tally_spec : {M : Type 1} → statement M
 flow_tally_spec =
-    tie.close (tie.spec (λ c κs. search rules) (λ c. tallied_1 (call c.before) (totals c.before) c.if1.true)
-    (λ c. let made = c.before.before in tallied_2 (call made) (totals made) c.before.if1.false c.if2.true)
+    tie.close (tie.spec (λ c κs. search rules) (λ c. tallied_1 (call c.before) (totals c.before) c.if-number-eq1.true)
+    (λ c. let made = c.before.before in tallied_2 (call made) (totals made) c.before.if-number-eq1.false c.if-totals-ne4.true)
     (λ c. let made = c.before.before.before in
-    tallied_refused (call made) (totals made) c.before.before.if1.false c.before.if2.false c.if3.true)
+    tallied_refused (call made) (totals made) c.before.before.if-number-eq1.false c.before.if-totals-ne4.false c.if-number-ne0.true)
     (λ c κs. search rules) (λ c. search rules) returns-4)

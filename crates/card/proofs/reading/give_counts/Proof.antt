@@ -12,35 +12,35 @@ use Rattle.card.proofs.ReadingLaws.{given_1, given_2, given_refused, given_there
 use Rattle.card.proofs.reading.give_counts.Statement.{statement}
 use Rattle.card.proofs.reading.give_counts.Tie as tie
 
-returns : tie.Need-returns
-returns c = let args = c.before.before.before.args in rw c.driver_number.ensures (given_1 _ _ args.counts.now c.before.if1.true)
+returns : tie.Need-returns-then-number-eq1
+returns c = let args = c.before.before.before.args in rw c.driver_number.ensures (given_1 _ _ args.counts.now c.before.if-number-eq1.true)
 
-returns-2 : tie.Need-returns-2
+returns-2 : tie.Need-returns-then-counts-ne3
 returns-2 c =
     let args = c.before.before.before.before.before.args in
-    rw (c.driver-number2.ensures, c.before.bare.ensures)
-    (given_2 _ _ args.counts.now c.before.before.before.if1.false c.before.before.if2.true)
+    rw (c.driver_number-then-counts-ne3.ensures, c.before.bare.ensures)
+    (given_2 _ _ args.counts.now c.before.before.before.if-number-eq1.false c.before.before.if-counts-ne3.true)
 
-returns-3 : tie.Need-returns-3
+returns-3 : tie.Need-returns-then-refused
 returns-3 c =
     let args = c.before.before.before.before.before.before.args in
-    rw c.driver_number3.ensures
-    (given_refused _ _ args.counts.now c.before.before.before.before.if1.false c.before.before.before.if2.false
-    (negated_true _ _ c.before.before.refused.ensures c.before.if3.true))
+    rw c.driver_number-then-refused.ensures
+    (given_refused _ _ args.counts.now c.before.before.before.before.if-number-eq1.false c.before.before.before.if-counts-ne3.false
+    (negated_true _ _ c.before.before.refused.ensures c.before.if-refused.true))
 
-returns-4 : tie.Need-returns-4
+returns-4 : tie.Need-returns
 returns-4 c =
     let args = c.before.before.before.before.before.before.args in
     let x = args.answer in
-    let three = c.before.before.before.if2.false in
-    rw c.driver_number4.ensures
+    let three = c.before.before.before.if-counts-ne3.false in
+    rw c.driver_number-2.ensures
     (ap (λ (l : List ℕ). record { number = driver_number (answer_of x); area = l })
     (all_stored (x.buckets_read ∷ x.records_compared ∷ x.side_compared ∷ []) args.counts.now three)
-    ∙ given_there _ _ args.counts.now c.before.before.before.before.if1.false three
-    (negated_false _ _ c.before.before.refused.ensures c.before.if3.false))
+    ∙ given_there _ _ args.counts.now c.before.before.before.before.if-number-eq1.false three
+    (negated_false _ _ c.before.before.refused.ensures c.before.if-refused.false))
 
 pub give_counts_spec : {M : Type 1} → statement M
 give_counts_spec =
     tie.close (tie.spec (λ c κs. search rules) returns (λ c κs. search rules) (λ c κs. search rules) returns-2 (λ c κs. search rules)
-    (λ c κs. search rules) returns-3 (λ c. search rules) (λ c. simp length-set (omega (arith, c.before.before.if2.false)))
-    (λ c. simp length-set (omega (arith, c.before.before.if2.false))) (λ c κs. search rules) (λ c. search rules) returns-4)
+    (λ c κs. search rules) returns-3 (λ c. search rules) (λ c. simp length-set (omega (arith, c.before.before.if-counts-ne3.false)))
+    (λ c. simp length-set (omega (arith, c.before.before.if-counts-ne3.false))) (λ c κs. search rules) (λ c. search rules) returns-4)

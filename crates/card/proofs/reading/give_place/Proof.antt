@@ -10,33 +10,33 @@ use Rattle.card.proofs.ReadingLaws.{given_1, given_2, given_refused, given_there
 use Rattle.card.proofs.reading.give_place.Statement.{statement}
 use Rattle.card.proofs.reading.give_place.Tie as tie
 
-returns : tie.Need-returns
+returns : tie.Need-returns-then-number-eq1
 returns c =
     let args = c.before.before.before.before.args in
-    rw c.driver_number.ensures (given_1 _ _ args.place.now c.before.if1.true)
+    rw c.driver_number.ensures (given_1 _ _ args.place.now c.before.if-number-eq1.true)
 
-returns-2 : tie.Need-returns-2
+returns-2 : tie.Need-returns-then-place-ne2
 returns-2 c =
     let args = c.before.before.before.before.before.before.args in
-    rw (c.driver-number2.ensures, c.before.bare.ensures)
-    (given_2 _ _ args.place.now c.before.before.before.if1.false c.before.before.if2.true)
+    rw (c.driver_number-then-place-ne2.ensures, c.before.bare.ensures)
+    (given_2 _ _ args.place.now c.before.before.before.if-number-eq1.false c.before.before.if-place-ne2.true)
 
-returns-3 : tie.Need-returns-3
+returns-3 : tie.Need-returns-then-refused
 returns-3 c =
     let args = c.before.before.before.before.before.before.before.args in
-    rw c.driver_number3.ensures
-    (given_refused _ _ args.place.now c.before.before.before.before.if1.false c.before.before.before.if2.false
-    (negated_true _ _ c.before.before.refused.ensures c.before.if3.true))
+    rw c.driver_number-then-refused.ensures
+    (given_refused _ _ args.place.now c.before.before.before.before.if-number-eq1.false c.before.before.before.if-place-ne2.false
+    (negated_true _ _ c.before.before.refused.ensures c.before.if-refused.true))
 
-returns-4 : tie.Need-returns-4
+returns-4 : tie.Need-returns
 returns-4 c =
     let args = c.before.before.before.before.before.before.before.args in
-    let two = c.before.before.before.if2.false in
-    rw c.driver_number4.ensures
+    let two = c.before.before.before.if-place-ne2.false in
+    rw c.driver_number-2.ensures
     (ap (λ (l : List ℕ). record { number = driver_number (answer_of args.found.answer); area = l })
     (all_stored (args.found.area ∷ args.found.start ∷ []) args.place.now two)
-    ∙ given_there _ _ args.place.now c.before.before.before.before.if1.false two
-    (negated_false _ _ c.before.before.refused.ensures c.before.if3.false))
+    ∙ given_there _ _ args.place.now c.before.before.before.before.if-number-eq1.false two
+    (negated_false _ _ c.before.before.refused.ensures c.before.if-refused.false))
 
 pub give_place_spec : {M : Type 1} → statement M
 give_place_spec =
