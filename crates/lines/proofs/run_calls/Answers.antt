@@ -1,5 +1,5 @@
 -- `lines::run_calls` meets its contract: after i calls, what `Ran` says.
-use Rattle.std.proofs.Common.{◌≡◌, ℕ, ◌-◌, ◌*◌, length, take, drop, ap, ◌∙◌, arith}
+use Rattle.std.proofs.Common.{◌≡◌, ℕ, ◌-◌, ◌*◌, take, drop, ap, ◌∙◌, arith}
 use Rattle.theory.specs.Flowrun.{call_count}
 use Rattle.lines.proofs.BlockLaws.{call_bytes, ran_on, ran_end}
 use Rattle.lines.proofs.run_calls.Goals as goal
@@ -14,8 +14,8 @@ loop-i-preserved c =
     let ran = c.run_call-at in
     let input = c.args.input.now in
     let piece : take (c.call_end-end.result - c.loop-i.from) (drop c.loop-i.from input) ≡ take 18 (drop (18 * c.loop-i.i) input) =
-        ap (λ (m : ℕ). take (m - c.loop-i.from) (drop c.loop-i.from input)) c.call_end-end.ensures
-        ∙ call_bytes c.loop-i.from c.loop-i.i input so_far.from_is (omega (arith, so_far.from_is)) in
+    ap (λ (m : ℕ). take (m - c.loop-i.from) (drop c.loop-i.from input)) c.call_end-end.ensures
+    ∙ call_bytes c.loop-i.from c.loop-i.i input so_far.from_is (omega (arith, so_far.from_is)) in
     record {
       most = omega arith;
       number_is = omega (arith, so_far.number_is);
