@@ -8,14 +8,14 @@
  * What holds. It is proved of the protocol, for any number of readers and copies and every order of their steps: crates/theory/specs/Live.antt has each
  * atomic step of this file as a step of a machine, and says what it assumes of C11; the law in brackets has the proof (LiveLaws). That this file takes
  * these steps and no others is tested, in every order of small runs (tests/live_steps.c). The doors that it calls are proved.
- *   - Every search of a section answers from one published table, whole (sections-whole).
- *   - A section that starts after flow_live_publish returned has that table or a later one. The sections of a reader never go back (sections-whole).
- *   - flow_live_settled says when no section has a table from before the last publish (settled-for-good).
- *   - A reader takes no lock and waits for nobody (reader-goes-on): entering starts over only where a publish falls between two loads of `current`
- *     (other-by-publish); its first load, an acquire, may also give an older copy than the current one, and then it starts over for that.
- *   - With two copies more than there are readers a publish waits for nobody (never-waits); with fewer, from two on, it waits while every copy but the
- *     current one has a reader in it (waits-for-all).
- *   - No byte is written while it is read (no-race). So C sees no race, and the doors are called as their proofs assume.
+ *   - Every search of a section answers from one published table, whole (sections_whole).
+ *   - A section that starts after flow_live_publish returned has that table or a later one. The sections of a reader never go back (sections_whole).
+ *   - flow_live_settled says when no section has a table from before the last publish (settled_for_good).
+ *   - A reader takes no lock and waits for nobody (reader_goes_on): entering starts over only where a publish falls between two loads of `current`
+ *     (other_by_publish); its first load, an acquire, may also give an older copy than the current one, and then it starts over for that.
+ *   - With two copies more than there are readers a publish waits for nobody (never_waits); with fewer, from two on, it waits while every copy but the
+ *     current one has a reader in it (waits_for_all).
+ *   - No byte is written while it is read (no_race). So C sees no race, and the doors are called as their proofs assume.
  *
  * Why. The reader stores which copy it is in, then loads which one is current, and starts over where these differ; the writer stores which one is
  * current, and at its next publish loads which copy each reader is in. All four are sequentially consistent, so they stand in one order. Say that
@@ -138,7 +138,7 @@ static inline uint32_t flow_live_open(struct flow_live *live, const struct flow_
     return FLOW_DONE;
 }
 
-/* A reader: a section starts, for one search or for many. The machine's loads, stores, then enters or starts-over. */
+/* A reader: a section starts, for one search or for many. The machine's loads, stores, then enters or starts_over. */
 static inline void flow_live_enter(struct flow_live_reader *reader)
 {
     struct flow_live *live = reader->live;

@@ -372,7 +372,7 @@ enum machine_step {
     M_PUBLISHES,
     M_STEPS
 };
-static const char *const machine_step_names[M_STEPS] = {"loads",  "stores", "enters", "starts-over", "reads",  "leaves",   "clears",
+static const char *const machine_step_names[M_STEPS] = {"loads",  "stores", "enters", "starts_over", "reads",  "leaves",   "clears",
                                                         "begins", "looks",  "picks",  "drops",       "writes", "publishes"};
 static unsigned long machine_taken[M_STEPS];
 static char machine_says[80]; /* which step it cannot take, or "" */
