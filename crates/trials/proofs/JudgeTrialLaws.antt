@@ -8,7 +8,7 @@ use native.Mathlib.Omega.{arith}
 use lib.Dec.{ltb}
 use lib.ListN.{length}
 use borrow.Author.Tests.{lt-ltb, le-ltb, ltb-false}
-use Rattle.theory.specs.Settings.{Settings, allowed, card_of, ledger_length, true_length, clipped_length, buckets_length, side_length, work_length, Card}
+use Rattle.theory.specs.Settings.{allowed, card_of, ledger_length, true_length, clipped_length, buckets_length, side_length, work_length, Card}
 use Rattle.theory.specs.BenchLoad.{load_calls, BenchLoad, load_in, load_wrong, load_asked}
 use Rattle.theory.specs.Trials.{no_numbers, tried, trial_settings, area_bytes, area_above, trial_answer, trial_numbers, trial_load}
 use Rattle.theory.proofs.BenchLoadLaws.{flows_allowed}

@@ -17,14 +17,14 @@ returns c =
     let second = third.before.before.before.before in
     let first = second.before.before.before.before in
     let args = first.before.before.before.args in
-    let e₁ = first.append-decimal.ensures in
-    let e₂ = second.append-decimal2.ensures in
-    let e₃ = third.append-decimal3.ensures in
-    let e₄ = fourth.append-decimal4.ensures in
-    let e₅ = fifth.append-decimal5.ensures in
-    let e₆ = sixth.append-decimal6.ensures in
-    let e₇ = seventh.append-decimal7.ensures in
-    let e₈ = eighth.append-decimal8.ensures in (
+    let e₁ = first.append_decimal-a.ensures in
+    let e₂ = second.append_decimal-b.ensures in
+    let e₃ = third.append_decimal-c.ensures in
+    let e₄ = fourth.append_decimal-d.ensures in
+    let e₅ = fifth.append_decimal-e.ensures in
+    let e₆ = sixth.append_decimal-f.ensures in
+    let e₇ = seventh.append_decimal-g.ensures in
+    let e₈ = eighth.append_decimal.ensures in (
       line_after args.number args.answer (numbers_of args.x) _ _ _ _ _ _ _ _ _ _ _ _ _ _ _ _ _ _
           e₁.0 e₂.0 e₃.0 e₄.0 e₅.0 e₆.0 e₇.0 e₈.0,
       omega (arith, e₁.2, e₂.2, e₃.2, e₄.2, e₅.2, e₆.2, e₇.2, e₈.2),

@@ -10,12 +10,12 @@ use Rattle.trials.proofs.JudgeTrialLaws.{above_by}
 use Rattle.trials.proofs.judging.area_above.Statement.{statement}
 use Rattle.trials.proofs.judging.area_above.Tie as tie
 
-mul_above : tie.Need-mul-above
+mul_above : tie.Need-overflow_mul-true_length
 mul_above c =
     let start = c.before.before.before in
     omega (arith, c.true_length.ensures, (bounds (paper start.args.s) start.requires).true_most)
 
-mul_above_2 : tie.Need-mul-above-2
+mul_above_2 : tie.Need-overflow_mul-work_length
 mul_above_2 c =
     let start = c.before.before.before.before.before.before.before.before.before.before.before in
     omega (arith, c.work_length.ensures, (bounds (paper start.args.s) start.requires).work_most)
@@ -28,12 +28,12 @@ returns c =
     let true_counts = clipped.before.before in
     let ledger = true_counts.before.before in
     let s = ledger.before.before.args.s in
-    above_by (card s) _ _ _ _ _ _ (ledger.above.ensures ∙ ap (ltb 65536) ledger.before.ledger_length.ensures)
-    (true_counts.above2.ensures ∙ ap (λ n. ltb 65536 (2 * n)) true_counts.before.true_length.ensures)
-    (clipped.above3.ensures ∙ ap (ltb 65536) clipped.before.clipped_length.ensures)
-    (buckets.above4.ensures ∙ ap (ltb 65536) buckets.before.buckets_length.ensures)
-    (side.above5.ensures ∙ ap (ltb 65536) side.before.side_length.ensures)
-    (c.above6.ensures ∙ ap (λ n. ltb 65536 (2 * n)) c.before.work_length.ensures)
+    above_by (card s) _ _ _ _ _ _ (ledger.above-ledger.ensures ∙ ap (ltb 65536) ledger.before.ledger_length.ensures)
+    (true_counts.above-true_counts.ensures ∙ ap (λ n. ltb 65536 (2 * n)) true_counts.before.true_length.ensures)
+    (clipped.above-clipped.ensures ∙ ap (ltb 65536) clipped.before.clipped_length.ensures)
+    (buckets.above-buckets.ensures ∙ ap (ltb 65536) buckets.before.buckets_length.ensures)
+    (side.above-side.ensures ∙ ap (ltb 65536) side.before.side_length.ensures)
+    (c.above-work.ensures ∙ ap (λ n. ltb 65536 (2 * n)) c.before.work_length.ensures)
 
 pub area_above_spec : {M : Type 1} → statement M
 area_above_spec =

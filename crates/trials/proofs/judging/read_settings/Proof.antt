@@ -12,7 +12,7 @@ returns c =
     let three = four.before in
     let two = three.before in
     let one = two.before in
-    rw (one.setting.ensures, two.setting2.ensures, three.setting3.ensures, four.setting4.ensures, five.setting5.ensures, c.setting6.ensures)
+    rw (one.setting.ensures, two.setting-2.ensures, three.setting-3.ensures, four.setting-4.ensures, five.setting-5.ensures, c.setting-6.ensures)
 
 pub read_settings_spec : {M : Type 1} → statement M
 read_settings_spec =
