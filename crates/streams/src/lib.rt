@@ -3,7 +3,6 @@
 #![tactic(auto)]
 
 ghost use Rattle.std.specs.Prelude.{◌≡◌, ℕ, ◌-◌, ◌≤◌, length, take, drop};
-ghost use Rattle.std.specs.Io.{WritesAtMost};
 ghost use Rattle.streams.specs.Streams.{Within, Moves};
 
 use memory::parts::copy;
@@ -60,14 +59,23 @@ fn say(rt: &HostRuntime, stream: &str, error: &io::Error) {
     let _ = eprintln!(rt; "{stream}: {reason}");
 }
 
+// So many bytes moved, of at most so many.
+fn moved(count: usize, most: usize) -> Tried
+    ensures { Moves result most }
+{
+    let within = count.min(most);
+    if within == 0 {
+        return Tried::Nothing;
+    }
+    Tried::Moved(within)
+}
+
 // What a call on a buffer came to, by its answer. Where it failed, that is said.
 fn judge(rt: &HostRuntime, stream: &str, answer: io::Result<usize>, buffer: &[u8]) -> Tried
-    requires { WritesAtMost answer buffer.now }
     ensures { Moves result (length buffer.now) }
 {
     match answer {
-        Ok(0) => Tried::Nothing,
-        Ok(moved) => Tried::Moved(moved),
+        Ok(count) => moved(count, buffer.len()),
         Err(error) => {
             if to_try_again(&error) {
                 return Tried::Again;
