@@ -14,4 +14,5 @@ returns-then-not-lengths_right c =
 
 pub returns : goal.returns
 returns c =
-    clears (permitted (given_of c.args.given) c.new-checked.ensures c.in-Allowed.is) _ c.lengths_right.ensures c.if-not-lengths_right.false c.clear_areas.ensures
+    clears (permitted (given_of c.args.given) c.new-checked.ensures c.in-Allowed.is) _ c.lengths_right.ensures c.if-not-lengths_right.false
+    c.clear_areas.ensures

@@ -29,7 +29,8 @@ returns-4 c =
     let wrote = c.before.before in
     let third = wrote.before.before in
     let made = third.before.before.before in
-    tallied (call made) (totals made) third.before.before.if-number-eq1.false third.before.if-totals-ne4.false third.if-number-ne0.false _ wrote.write_totals.ensures
+    tallied (call made) (totals made) third.before.before.if-number-eq1.false third.before.if-totals-ne4.false third.if-number-ne0.false _
+    wrote.write_totals.ensures
 
 pub flow_tally_spec : {M : Type 1} → statement M
 flow_tally_spec =

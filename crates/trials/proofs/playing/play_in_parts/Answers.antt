@@ -28,31 +28,39 @@ pub slice_bounds-play_cleared-end : goal.slice_bounds-play_cleared-end
 slice_bounds-play_cleared-end c = bytes_fit c.args.ledger.now c.ledger_length-ledger_length.ensures (within_64k _ c.requires.1).ledger c.requires.3.ledger_long
 
 pub slice_bounds-play_cleared-end-2 : goal.slice_bounds-play_cleared-end-2
-slice_bounds-play_cleared-end-2 c = sym (bytes_part c.args.ledger.now c.ledger_length-ledger_length.ensures (within_64k _ c.requires.1).ledger c.requires.3.ledger_long)
+slice_bounds-play_cleared-end-2 c =
+    sym (bytes_part c.args.ledger.now c.ledger_length-ledger_length.ensures (within_64k _ c.requires.1).ledger c.requires.3.ledger_long)
 
 pub slice_bounds-play_cleared-end-3 : goal.slice_bounds-play_cleared-end-3
-slice_bounds-play_cleared-end-3 c = words_fit c.args.true_counts.now c.true_length-true_length.ensures (within_64k _ c.requires.1).true_counts c.requires.3.true_long
+slice_bounds-play_cleared-end-3 c =
+    words_fit c.args.true_counts.now c.true_length-true_length.ensures (within_64k _ c.requires.1).true_counts c.requires.3.true_long
 
 pub slice_bounds-play_cleared-end-4 : goal.slice_bounds-play_cleared-end-4
-slice_bounds-play_cleared-end-4 c = sym (words_part c.args.true_counts.now c.true_length-true_length.ensures (within_64k _ c.requires.1).true_counts c.requires.3.true_long)
+slice_bounds-play_cleared-end-4 c =
+    sym (words_part c.args.true_counts.now c.true_length-true_length.ensures (within_64k _ c.requires.1).true_counts c.requires.3.true_long)
 
 pub slice_bounds-play_cleared-end-5 : goal.slice_bounds-play_cleared-end-5
-slice_bounds-play_cleared-end-5 c = bytes_fit c.args.clipped.now c.clipped_length-clipped_length.ensures (within_64k _ c.requires.1).clipped_counts c.requires.3.clipped_long
+slice_bounds-play_cleared-end-5 c =
+    bytes_fit c.args.clipped.now c.clipped_length-clipped_length.ensures (within_64k _ c.requires.1).clipped_counts c.requires.3.clipped_long
 
 pub slice_bounds-play_cleared-end-6 : goal.slice_bounds-play_cleared-end-6
-slice_bounds-play_cleared-end-6 c = sym (bytes_part c.args.clipped.now c.clipped_length-clipped_length.ensures (within_64k _ c.requires.1).clipped_counts c.requires.3.clipped_long)
+slice_bounds-play_cleared-end-6 c =
+    sym (bytes_part c.args.clipped.now c.clipped_length-clipped_length.ensures (within_64k _ c.requires.1).clipped_counts c.requires.3.clipped_long)
 
 pub slice_bounds-play_cleared-end-7 : goal.slice_bounds-play_cleared-end-7
-slice_bounds-play_cleared-end-7 c = bytes_fit c.args.buckets.now c.buckets_length-buckets_length.ensures (within_64k _ c.requires.1).buckets c.requires.3.buckets_long
+slice_bounds-play_cleared-end-7 c =
+    bytes_fit c.args.buckets.now c.buckets_length-buckets_length.ensures (within_64k _ c.requires.1).buckets c.requires.3.buckets_long
 
 pub slice_bounds-play_cleared-end-8 : goal.slice_bounds-play_cleared-end-8
-slice_bounds-play_cleared-end-8 c = sym (bytes_part c.args.buckets.now c.buckets_length-buckets_length.ensures (within_64k _ c.requires.1).buckets c.requires.3.buckets_long)
+slice_bounds-play_cleared-end-8 c =
+    sym (bytes_part c.args.buckets.now c.buckets_length-buckets_length.ensures (within_64k _ c.requires.1).buckets c.requires.3.buckets_long)
 
 pub slice_bounds-play_cleared-end-9 : goal.slice_bounds-play_cleared-end-9
 slice_bounds-play_cleared-end-9 c = bytes_fit c.args.side.now c.side_length-side_length.ensures (within_64k _ c.requires.1).side_store c.requires.3.side_long
 
 pub slice_bounds-play_cleared-end-10 : goal.slice_bounds-play_cleared-end-10
-slice_bounds-play_cleared-end-10 c = sym (bytes_part c.args.side.now c.side_length-side_length.ensures (within_64k _ c.requires.1).side_store c.requires.3.side_long)
+slice_bounds-play_cleared-end-10 c =
+    sym (bytes_part c.args.side.now c.side_length-side_length.ensures (within_64k _ c.requires.1).side_store c.requires.3.side_long)
 
 pub slice_bounds-play_cleared-end-11 : goal.slice_bounds-play_cleared-end-11
 slice_bounds-play_cleared-end-11 c = words_fit c.args.work.now c.work_length-work_length.ensures (within_64k _ c.requires.1).work c.requires.3.work_long
@@ -69,9 +77,12 @@ play_cleared-requires c =
         words = words_part c.args.work.now c.work_length-work_length.ensures small.work lent.work_long ∙ c.work_length-work_length.ensures;
         sized = record {
           ledger = bytes_part c.args.ledger.now c.ledger_length-ledger_length.ensures small.ledger lent.ledger_long ∙ c.ledger_length-ledger_length.ensures;
-          true_counts = words_part c.args.true_counts.now c.true_length-true_length.ensures small.true_counts lent.true_long ∙ c.true_length-true_length.ensures;
-          clipped_counts = bytes_part c.args.clipped.now c.clipped_length-clipped_length.ensures small.clipped_counts lent.clipped_long ∙ c.clipped_length-clipped_length.ensures;
-          buckets = bytes_part c.args.buckets.now c.buckets_length-buckets_length.ensures small.buckets lent.buckets_long ∙ c.buckets_length-buckets_length.ensures;
+          true_counts =
+              words_part c.args.true_counts.now c.true_length-true_length.ensures small.true_counts lent.true_long ∙ c.true_length-true_length.ensures;
+          clipped_counts =
+              bytes_part c.args.clipped.now c.clipped_length-clipped_length.ensures small.clipped_counts lent.clipped_long ∙ c.clipped_length-clipped_length.ensures;
+          buckets =
+              bytes_part c.args.buckets.now c.buckets_length-buckets_length.ensures small.buckets lent.buckets_long ∙ c.buckets_length-buckets_length.ensures;
           side_store = bytes_part c.args.side.now c.side_length-side_length.ensures small.side_store lent.side_long ∙ c.side_length-side_length.ensures;
         };
       },
