@@ -2,9 +2,6 @@
 ghost use Rattle.std.specs.Prelude.{◌≡◌, ◌+◌, ◌*◌, ◌≤◌, length, take, drop};
 ghost use Rattle.theory.specs.Records.{class_width, to_bytes, of_bytes, record_bytes};
 
-use super::numbers::wide32;
-use super::parts::copy;
-
 // Record i of an area of records of a size.
 pub fn record_at(area: &[u8], i: usize, size: usize) -> &[u8]
     requires { i * size + size ≤ length area.now }
@@ -30,8 +27,7 @@ pub fn class_at(area: &[u8], at: usize) -> u32
     requires { at + class_width ≤ length area.now }
     ensures { result ≡ of_bytes (take class_width (drop at area.now)) }
 {
-    let high = wide32(area[at]) * 256 + wide32(area[at + 1]);
-    (high * 256 + wide32(area[at + 2])) * 256 + wide32(area[at + 3])
+    u32::from_be_bytes(area[at..at + 4].try_into().unwrap())
 }
 
 // A class in the four bytes of a part.
@@ -39,12 +35,7 @@ pub fn write_class(to: &mut [u8], class: u32)
     requires { length to.old ≡ class_width }
     ensures { to.new ≡ to_bytes class_width class }
 {
-    let upper = class / 256;
-    let high = upper / 256;
-    to[0] = (high / 256 % 256) as u8;
-    to[1] = (high % 256) as u8;
-    to[2] = (upper % 256) as u8;
-    to[3] = (class % 256) as u8;
+    to.copy_from_slice(&class.to_be_bytes());
 }
 
 pub fn write_record(to: &mut [u8], key: &[u8], class: u32)
@@ -52,6 +43,6 @@ pub fn write_record(to: &mut [u8], key: &[u8], class: u32)
     ensures { to.new ≡ record_bytes (record { key = key.entry.now; class = class }) }
 {
     let width = key.len();
-    copy(&mut to[..width], key);
+    to[..width].copy_from_slice(key);
     write_class(&mut to[width..], class);
 }
