@@ -2,7 +2,6 @@
 -- bytes.
 use mathlib.Core.Path.{◌≡◌, refl, subst, ◌∙◌}
 use mathlib.Core.Logic.{◌≢◌}
-use mathlib.Core.Bool.{Bool, false, ◌||◌}
 use mathlib.Core.List.{List, [], ◌∷◌, ◌++◌, append_assoc, append-nil}
 use Prim.Native.Nat.{ℕ, zero, suc, ◌+◌, ◌-◌, ◌*◌, ◌≤◌, ◌<◌}
 use native.Mathlib.Nat.{add-sub_cancel_left, add_comm, add-zero, zero-mul, suc-mul, mul-le-mul_right, sub-zero, le_refl, le_of_suc-le-suc, not-suc-le-zero}
@@ -11,8 +10,8 @@ use native.Mathlib.Omega.{arith}
 use mir.Syntax.{w8}
 use mir.Val.{Fits}
 use lib.ListN.{length, take, drop, replicate, get_or, length-append, length-drop, drop_of_length-le}
-use lib.Seq.{drop-cons, length-take-le, take_all, take_at, drop_at, take-append-add}
-use Rattle.theory.specs.Lists.{any, flat, upto}
+use lib.Seq.{length-take-le, take_all, take_at, drop_at, take-append-add}
+use Rattle.theory.specs.Lists.{flat, upto}
 use Rattle.theory.proofs.ListLaws.{All, length_drop_past}
 use Rattle.theory.proofs.GrowingLaws.{flat_cong, upto_from}
 use Rattle.theory.proofs.ByteLaws.{Byte}
@@ -177,11 +176,3 @@ flat_set f g z e a (suc n) (suc i) h o =
 pub bytes_of : (l : List ℕ) → ((i : ℕ) → Fits w8 (get_or l i 0)) → All Byte l
 bytes_of [] f = tt
 bytes_of (x ∷ xs) f = (omega (arith, f 0), bytes_of xs (λ i. f (suc i)))
-
--- a test of the elements from a place on
-module _ (p : ℕ → Bool) (l : List ℕ) (i : ℕ) where
-  pub any_from : i < length l → any p (drop i l) ≡ (p (get_or l i 0) || any p (drop (i + 1) l))
-  any_from h = rw (add-one, drop-cons l i 0 h)
-
-  pub any_past_end : length l ≤ i → any p (drop i l) ≡ false
-  any_past_end h = rw (drop_of_length-le l h)

@@ -1,5 +1,5 @@
 -- The paper's number of a refusal, and of what a call answers: "An accepted call answers 0".
-use Rattle.std.specs.Prelude.{ℕ, Result, Ok, Err, ⊤}
+use Rattle.std.specs.Prelude.{ℕ, Result, Ok, Err}
 use Rattle.memory.specs.declared.refusals.Refusal.{Refusal}
 use Rattle.memory.specs.declared.refusals.Refusal.TheVariants as is
 

@@ -3,12 +3,20 @@ ghost use Rattle.std.specs.Prelude.{◌≡◌, ◌++◌, ◌+◌, ◌<◌, ◌�
 ghost use Rattle.theory.specs.Records.{to_bytes, of_bytes, count_of};
 ghost use Rattle.memory.specs.Words.{low_first};
 
+// The N bytes from a place on.
+pub fn bytes_at<const N: usize>(area: &[u8], at: usize) -> [u8; N]
+    requires { at + N ≤ length area.now }
+    ensures { result ≡ take N (drop at area.now) }
+{
+    area[at..at + N].try_into().unwrap()
+}
+
 // The two-byte count that an area starts with.
 pub fn count_at(area: &[u8]) -> usize
     requires { 2 ≤ length area.now }
     ensures { (result ≡ count_of area.now) × (result < 65536) }
 {
-    usize::from(u16::from_be_bytes([area[0], area[1]]))
+    usize::from(u16::from_be_bytes(bytes_at(area, 0)))
 }
 
 // A number in the two bytes that an area starts with.
@@ -24,7 +32,7 @@ pub fn low_word_at(area: &[u8], at: usize) -> u64
     requires { at + 8 ≤ length area.now }
     ensures { result ≡ low_first (take 8 (drop at area.now)) }
 {
-    u64::from_le_bytes(area[at..at + 8].try_into().unwrap())
+    u64::from_le_bytes(bytes_at(area, at))
 }
 
 // The number in the eight bytes from a place on, high byte first.
@@ -32,7 +40,7 @@ pub fn eight_at(area: &[u8], at: usize) -> u64
     requires { at + 8 ≤ length area.now }
     ensures { result ≡ of_bytes (take 8 (drop at area.now)) }
 {
-    u64::from_be_bytes(area[at..at + 8].try_into().unwrap())
+    u64::from_be_bytes(bytes_at(area, at))
 }
 
 // A number in the eight bytes of a part, high byte first.

@@ -6,5 +6,9 @@ ghost use Rattle.theory.specs.Lists.{any};
 pub fn all_zero(part: &[u8]) -> bool
     ensures { result ≡ not (any (λ x. not (eqb x 0)) part.now) }
 {
-    part.iter().fold(true, |clean, &x| clean & (x == 0))
+    let mut dirty = false;
+    for &x in part {
+        dirty |= x != 0;
+    }
+    !dirty
 }

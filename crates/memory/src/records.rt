@@ -2,6 +2,8 @@
 ghost use Rattle.std.specs.Prelude.{◌≡◌, ◌+◌, ◌*◌, ◌≤◌, length, take, drop};
 ghost use Rattle.theory.specs.Records.{class_width, to_bytes, of_bytes, record_bytes};
 
+use super::numbers::bytes_at;
+
 // Record i of an area of records of a size.
 pub fn record_at(area: &[u8], i: usize, size: usize) -> &[u8]
     requires { i * size + size ≤ length area.now }
@@ -27,7 +29,7 @@ pub fn class_at(area: &[u8], at: usize) -> u32
     requires { at + class_width ≤ length area.now }
     ensures { result ≡ of_bytes (take class_width (drop at area.now)) }
 {
-    u32::from_be_bytes(area[at..at + 4].try_into().unwrap())
+    u32::from_be_bytes(bytes_at(area, at))
 }
 
 // A class in the four bytes of a part.
