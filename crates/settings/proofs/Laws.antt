@@ -11,29 +11,30 @@ use Rattle.theory.specs.Settings.{allowed, card_of, record_size, bucket_size, le
 use Rattle.theory.specs.Settings.{work_length, ipv6_width, KeyWidth}
 use Rattle.theory.specs.Records.{class_width}
 use Rattle.theory.proofs.SettingsLaws.{ranges, sound}
+use Rattle.std.specs.Prelude.{Result, Ok, Err}
+use Rattle.memory.specs.declared.refusals.Refusal.{Refusal}
+use Rattle.memory.specs.declared.refusals.Refusal.TheVariants.{SettingOutOfRange}
 use Rattle.settings.specs.declared.Settings.{Settings}
-use Rattle.settings.specs.declared.Checked.{Checked}
-use Rattle.settings.specs.declared.Checked.TheVariants.{Allowed, Refused}
 use Rattle.settings.specs.Checked.{paper, code, checked_of}
 
--- ---- the constructor's two arms
-module _ (t : plain.Settings) (r : Checked) (answered : r ≡ checked_of t) where
-  pub allowed_arm : (c : Settings) → r ≡ Allowed c → (allowed t ≡ true) × (paper c ≡ t)
+-- ---- the constructor's two answers
+module _ (t : plain.Settings) (r : Result Settings Refusal) (answered : r ≡ checked_of t) where
+  pub allowed_arm : (c : Settings) → r ≡ Ok c → (allowed t ≡ true) × (paper c ≡ t)
   allowed_arm c arm = go (allowed t) (sym arm ∙ answered)
     where
-      go : (b : Bool) → Allowed c ≡ cond b (Allowed (code t)) Refused → (b ≡ true) × (paper c ≡ t)
+      go : (b : Bool) → Ok c ≡ cond b (Ok (code t)) (Err SettingOutOfRange) → (b ≡ true) × (paper c ≡ t)
       go true e = let same : c ≡ code t = cc in (refl, ap paper same)
-      go false e = let z : ◌≡◌ {A = ℕ} 0 1 = cc in absurd (omega arith)
+      go false e = cc
 
-  pub refused_arm : r ≡ Refused → allowed t ≡ false
-  refused_arm arm = go (allowed t) (sym arm ∙ answered)
+  pub refused_arm : (x : Refusal) → r ≡ Err x → (allowed t ≡ false) × (x ≡ SettingOutOfRange)
+  refused_arm x arm = go (allowed t) (sym arm ∙ answered)
     where
-      go : (b : Bool) → Refused ≡ cond b (Allowed (code t)) Refused → b ≡ false
-      go true e = let z : ◌≡◌ {A = ℕ} 0 1 = cc in absurd (omega arith)
-      go false e = refl
+      go : (b : Bool) → Err x ≡ cond b (Ok (code t)) (Err SettingOutOfRange) → (b ≡ false) × (x ≡ SettingOutOfRange)
+      go true e = cc
+      go false e = (refl, cc)
 
   -- what each method requires
-  pub allowed_settings : (c : Settings) → r ≡ Allowed c → allowed (paper c) ≡ true
+  pub allowed_settings : (c : Settings) → r ≡ Ok c → allowed (paper c) ≡ true
   allowed_settings c arm = let l = allowed_arm c arm in ap allowed l.1 ∙ l.0
 
 -- ---- the card of settings, its sizes and its lengths

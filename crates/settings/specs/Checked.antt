@@ -1,10 +1,10 @@
 -- The settings of the code and those of the paper, field by field, and what checking seven numbers answers.
-use Rattle.std.specs.Prelude.{cond, ℕ}
+use Rattle.std.specs.Prelude.{cond, Result, Ok, Err}
 use Rattle.theory.specs.Settings as plain
+use Rattle.memory.specs.declared.refusals.Refusal.{Refusal}
+use Rattle.memory.specs.declared.refusals.Refusal.TheVariants.{SettingOutOfRange}
 use Rattle.settings.specs.declared.Settings.{Settings}
 use Rattle.settings.specs.declared.Given.{Given}
-use Rattle.settings.specs.declared.Checked.{Checked}
-use Rattle.settings.specs.declared.Checked.TheVariants.{Allowed, Refused}
 
 abbrev pub paper : Settings → plain.Settings
 paper c = record { p = c.p; k = c.k; room = c.room; top = c.top; capacity = c.capacity; side_places = c.side_places; width = c.width }
@@ -21,10 +21,5 @@ abbrev pub given_of : Given → plain.Settings
 given_of g = record { p = g.p; k = g.k; room = g.room; top = g.top; capacity = g.capacity; side_places = g.side_places; width = g.width }
 
 -- settings in their ranges are handed over; others are refusal 1
-abbrev pub checked_of : plain.Settings → Checked
-checked_of t = cond (plain.allowed t) (Allowed (code t)) Refused
-
--- the paper's number of what is answered: "An accepted call answers 0"; "1, a setting out of range"
-abbrev pub number_of : Checked → ℕ
-number_of (Allowed c) = 0
-number_of Refused = 1
+abbrev pub checked_of : plain.Settings → Result Settings Refusal
+checked_of t = cond (plain.allowed t) (Ok (code t)) (Err SettingOutOfRange)

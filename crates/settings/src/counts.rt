@@ -2,8 +2,7 @@
 // number.
 ghost use Rattle.std.specs.Prelude.{◌≡◌, cond, ◌+◌, ◌*◌, ◌/◌, ◌%◌, ◌<◌, ◌≤◌, min, eqb, ltb};
 
-use memory::numbers::wide64;
-use memory::picks::pick64;
+use memory::picks::pick;
 
 // The lower of a true count and the top count: four bits. It is held in a wide number, so that searching ranks it with no cut between.
 #[derive(Clone, Copy)]
@@ -12,13 +11,6 @@ pub struct ClippedCount(u64);
 // How many held keys name a bucket.
 #[derive(Clone, Copy)]
 pub struct TrueCount(u16);
-
-// The lower of two ranks (below): no branch.
-pub fn lower(a: u64, b: u64) -> u64
-    ensures { result ≡ min a b }
-{
-    if a < b { a } else { b }
-}
 
 impl ClippedCount {
     // The count of a bucket that no key names.
@@ -32,8 +24,8 @@ impl ClippedCount {
     pub fn of_byte(byte: u8, b: usize) -> ClippedCount
         ensures { (result.0 ≡ cond (eqb (b % 2) 0) (byte % 16) (byte / 16)) × (result.0 < 16) }
     {
-        let wide = wide64(byte);
-        ClippedCount(pick64(b % 2 == 0, wide % 16, wide / 16))
+        let wide = u64::from(byte);
+        ClippedCount(pick(b % 2 == 0, wide % 16, wide / 16))
     }
 
     // The byte of two neighbours, an even bucket's count and the next one's.
@@ -63,9 +55,7 @@ impl ClippedCount {
     pub fn higher(self, other: ClippedCount) -> ClippedCount
         ensures { result.0 ≡ cond (ltb self.0 other.0) other.0 self.0 }
     {
-        let mine = self.0;
-        let theirs = other.0;
-        ClippedCount(if mine < theirs { theirs } else { mine })
+        ClippedCount(self.0.max(other.0))
     }
 
     // Above the top count, which no clipped count is.
@@ -101,12 +91,7 @@ impl TrueCount {
         requires { top ≤ 15 }
         ensures { result.0 ≡ min self.0 top }
     {
-        let count = self.0 as usize;
-        if count < top {
-            ClippedCount(count as u64)
-        } else {
-            ClippedCount(top as u64)
-        }
+        ClippedCount(u64::from(self.0).min(top as u64))
     }
 
     // As of a clipped count: count and bucket as one number.
@@ -114,7 +99,7 @@ impl TrueCount {
         requires { bucket < 65536 }
         ensures { result ≡ self.0 * 65536 + bucket }
     {
-        (self.0 as u64) * 65536 + bucket
+        u64::from(self.0) * 65536 + bucket
     }
 
     pub fn raised(self, more: u16) -> TrueCount

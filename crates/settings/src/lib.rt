@@ -6,6 +6,8 @@ ghost use Rattle.theory.specs.Settings.{allowed, record_size, bucket_size, ledge
 ghost use Rattle.theory.specs.Settings.{width_allowed, work_length, settings_in};
 ghost use Rattle.settings.specs.Checked.{paper, given_of, checked_of, card};
 
+use memory::refusals::Refusal;
+
 pub mod counts; // counts.rt: true counts and clipped counts, each a type of its own
 pub mod lengths; // lengths.rt: the lengths of the areas that a call is lent
 
@@ -22,7 +24,7 @@ pub struct Settings {
 }
 
 // The same as a caller gives them, or as a file says them: 64 bits each, so that no number is cut off before its range is judged.
-#[derive(Clone, Copy)]
+#[derive(Clone, Copy, Default)]
 pub struct Given {
     pub p: u64,
     pub k: u64,
@@ -34,41 +36,40 @@ pub struct Given {
 }
 
 impl Given {
-    // How many numbers a caller lends.
-    pub const COUNT: usize = 7;
-
     // The numbers of a lent area, in their order; zeros for an area of another length, which are out of range.
     pub fn of_area(area: &[u64]) -> Given
         ensures { given_of result ≡ settings_in area.now }
     {
-        if area.len() != Given::COUNT {
-            return Given {
-                p: 0,
-                k: 0,
-                room: 0,
-                top: 0,
-                capacity: 0,
-                side_places: 0,
-                width: 0,
-            };
-        }
+        let &[p, k, room, top, capacity, side_places, width] = area else {
+            return Given::default();
+        };
         Given {
-            p: area[0],
-            k: area[1],
-            room: area[2],
-            top: area[3],
-            capacity: area[4],
-            side_places: area[5],
-            width: area[6],
+            p,
+            k,
+            room,
+            top,
+            capacity,
+            side_places,
+            width,
         }
     }
 }
 
-#[derive(Clone, Copy)]
-pub enum Checked {
-    Allowed(Settings),
-    // "1, a setting out of range"
-    Refused,
+// "hands them back": the same seven numbers, as a caller has them.
+impl From<Settings> for Given {
+    ghost from_gives = { λ s given. given_of given ≡ paper s };
+
+    fn from(s: Settings) -> Given {
+        Given {
+            p: s.p as u64,
+            k: s.k as u64,
+            room: s.room as u64,
+            top: s.top as u64,
+            capacity: s.capacity as u64,
+            side_places: s.side_places as u64,
+            width: s.width as u64,
+        }
+    }
 }
 
 impl Settings {
@@ -115,16 +116,22 @@ impl Settings {
         width == Settings::IPV6_WIDTH as u64
     }
 
-    pub fn new(given: Given) -> Checked
+    pub fn new(given: Given) -> Result<Settings, Refusal>
         ensures { result ≡ checked_of (given_of given) }
     {
-        let p = given.p;
-        let k = given.k;
-        let room = given.room;
-        let top = given.top;
-        let capacity = given.capacity;
-        let side_places = given.side_places;
-        let width = given.width;
+        let Given {
+            p,
+            k,
+            room,
+            top,
+            capacity,
+            side_places,
+            width,
+        } = given;
+        // by itself, and not as one more of the tests below, so that the compiler makes a branch of it
+        if !Settings::width_allowed(width) {
+            return Err(Refusal::SettingOutOfRange);
+        }
         let p_within = (Settings::P_LEAST <= p) & (p <= Settings::P_MOST);
         let k_within = (Settings::K_LEAST <= k) & (k <= Settings::K_MOST);
         let room_within = (Settings::ROOM_LEAST <= room) & (room <= Settings::ROOM_MOST);
@@ -133,40 +140,20 @@ impl Settings {
             & (capacity <= Settings::CAPACITY_MOST);
         let side_places_within = (Settings::SIDE_PLACES_LEAST <= side_places)
             & (side_places <= Settings::SIDE_PLACES_MOST);
-        // by itself, and not as one more of the tests below, so that the compiler makes a branch of it
-        if !Settings::width_allowed(width) {
-            return Checked::Refused;
-        }
-        if p_within
-            & (k_within & (room_within & (top_within & (capacity_within & side_places_within))))
+        if !(p_within
+            & (k_within & (room_within & (top_within & (capacity_within & side_places_within)))))
         {
-            Checked::Allowed(Settings {
-                p: p as usize,
-                k: k as usize,
-                room: room as usize,
-                top: top as usize,
-                capacity: capacity as usize,
-                side_places: side_places as usize,
-                width: width as usize,
-            })
-        } else {
-            Checked::Refused
+            return Err(Refusal::SettingOutOfRange);
         }
-    }
-
-    // "hands them back": the same seven numbers, as a caller has them.
-    pub fn given(self) -> Given
-        ensures { given_of result ≡ paper self }
-    {
-        Given {
-            p: self.p as u64,
-            k: self.k as u64,
-            room: self.room as u64,
-            top: self.top as u64,
-            capacity: self.capacity as u64,
-            side_places: self.side_places as u64,
-            width: self.width as u64,
-        }
+        Ok(Settings {
+            p: p as usize,
+            k: k as usize,
+            room: room as usize,
+            top: top as usize,
+            capacity: capacity as usize,
+            side_places: side_places as usize,
+            width: width as usize,
+        })
     }
 
     // m = 2^p
