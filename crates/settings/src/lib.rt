@@ -8,8 +8,8 @@ ghost use Rattle.settings.specs.Checked.{paper, given_of, checked_of, card};
 
 use memory::refusals::Refusal;
 
+pub mod areas; // areas.rt: the areas that a call is lent
 pub mod counts; // counts.rt: true counts and clipped counts, each a type of its own
-pub mod lengths; // lengths.rt: the lengths of the areas that a call is lent
 
 // In the paper's order and letters: p, k, B, T, N, S, the key width.
 #[derive(Clone, Copy)]
