@@ -1,70 +1,56 @@
 -- What judging a packet gives: the facts that reading counts on, and the answer at each outcome.
-use mathlib.Core.Path.{◌≡◌, ap}
+use mathlib.Core.Path.{◌≡◌, sym, ap}
 use mathlib.Core.Bool.{Bool, false}
 use mathlib.Core.List.{List}
 use mathlib.Core.Logic.{◌≢◌}
-use Prim.Native.Nat.{ℕ, ◌-◌, ◌≤◌}
+use Prim.Native.Nat.{ℕ}
 use native.Mathlib.Omega.{arith}
-use lib.ListN.{length, take, drop}
+use lib.ListN.{length}
 use borrow.Author.Tests.{ltb-false, eq-eqb, ne_eqb}
-use Rattle.theory.specs.Packet.{header_length, has_ports, header_wrong, after_header, ports_cut, cut_in, reading, Reading, Keyed, keyed}
-use Rattle.theory.specs.Packet6.{has_ports6, ports6_cut, reading6}
+use Rattle.theory.specs.Packet.{cut_in, Reading, Keyed, keyed}
 use Rattle.theory.proofs.ListLaws.{by_test}
-use Rattle.theory.proofs.PacketLaws.{fixed_there, header_within, header6_there}
-use Rattle.memory.proofs.SliceLaws.{tail_is}
-use Rattle.packet.specs.Judging.{refusal_of, PortsThere, HeaderRight, Right, Right6}
+use Rattle.memory.specs.Refusals.{number_of}
+use Rattle.memory.specs.declared.refusals.Refusal.{Refusal}
+use Rattle.packet.specs.Judging.{Said, after_header, reading_of, refusal_of, PortsThere}
 
 -- an answer, and the buffer with it
 abbrev pub kept : ℕ → List ℕ → Keyed
 kept n buffer = record { number = n; buffer = buffer }
 
--- ---- any packet, by what is read of it
+-- no refusal has the number 0
+numbered : (e : Refusal) → number_of e ≢ 0
+numbered e none = absurd (grind arith)
+
 ports_there : (has : Bool) (after : List ℕ) → cut_in has after ≡ false → PortsThere has after
 ports_there has after whole some = ltb-false (length after) 4 (rw some at whole)
 
-module _ (r : Reading) where
+-- any packet, by what is read of it
+module _ (width : ℕ) (e : Refusal) (said : Said) (q : List ℕ) where
+  abbrev r : Reading
+  r = reading_of width (number_of e) said q
+
   -- no refusal: neither test holds
-  neither : r.header_number ≢ 0 → refusal_of r ≡ 0 → (r.wrong ≡ false) × (r.cut ≡ false)
+  neither : 0 ≡ refusal_of r → (r.wrong ≡ false) × (r.cut ≡ false)
   unfolding refusal_of
-  neither some zero =
-      by_test r.wrong (λ e. absurd (some (rw e at zero)))
-      (λ right. by_test r.cut (λ e. absurd (omega (arith, rw (right, e) at zero))) (λ whole. (right, whole)))
+  neither zero =
+      by_test r.wrong (λ wrong. absurd (numbered e (sym (rw wrong at zero))))
+      (λ right. by_test r.cut (λ cut. absurd (omega (arith, rw (right, cut) at zero))) (λ whole. (right, whole)))
+
+  pub unrefused : 0 ≡ refusal_of r → (said.header_wrong ≡ false) × PortsThere said.has_ports (after_header said q)
+  unrefused zero = let told = neither zero in (told.0, ports_there said.has_ports (after_header said q) told.1)
 
   module _ (buffer : List ℕ) where
-    pub keyed_3 : length buffer ≢ r.width → kept 3 buffer ≡ keyed r buffer
-    keyed_3 other = rw (ne_eqb (length buffer) r.width other)
+    pub keyed_3 : length buffer ≢ width → kept 3 buffer ≡ keyed r buffer
+    keyed_3 other = rw (ne_eqb (length buffer) width other)
 
-    module _ (right_length : length buffer ≡ r.width) where
-      pub keyed_refused : (n : ℕ) → n ≡ refusal_of r → n ≢ 0 → kept n buffer ≡ keyed r buffer
+    module _ (right_length : length buffer ≡ width) where
+      pub keyed_refused : (told : Refusal) → number_of told ≡ refusal_of r → kept (number_of told) buffer ≡ keyed r buffer
       unfolding refusal_of
-      keyed_refused n e some =
-          rw (eq-eqb (length buffer) r.width right_length)
-          (by_test r.wrong (λ wrong. rw wrong (ap (λ (m : ℕ). kept m buffer) (rw wrong at e)))
-          (λ right. by_test r.cut (λ cut. rw (right, cut) (ap (λ (m : ℕ). kept m buffer) (rw (right, cut) at e)))
-          (λ whole. absurd (some (rw (right, whole) at e)))))
+      keyed_refused told is =
+          rw (eq-eqb (length buffer) width right_length)
+          (by_test r.wrong (λ wrong. rw wrong (ap (λ (m : ℕ). kept m buffer) (rw wrong at is)))
+          (λ right. by_test r.cut (λ cut. rw (right, cut) (ap (λ (m : ℕ). kept m buffer) (rw (right, cut) at is)))
+          (λ whole. absurd (numbered told (rw (right, whole) at is)))))
 
-      pub keyed_0 : r.header_number ≢ 0 → refusal_of r ≡ 0 → kept 0 r.key ≡ keyed r buffer
-      keyed_0 some zero = let told = neither some zero in rw (eq-eqb (length buffer) r.width right_length, told.0, told.1)
-
--- ---- IPv4
-module _ (q : List ℕ) where
-  pub header_right : header_wrong q ≡ false → HeaderRight q
-  header_right e = record { fixed = fixed_there q e; within = header_within q e }
-
-  pub unrefused_right : refusal_of (reading q) ≡ 0 → Right q
-  unfolding ports_cut
-  unrefused_right zero =
-      let told = neither (reading q) (omega arith) zero in
-      record { header = header_right told.0; ports = ports_there (has_ports q) (after_header q) told.1 }
-
-  -- what is lent to the port reader, from the header's end on
-  pub after_lent : (end : ℕ) → end ≡ header_length q → header_length q ≤ length q → take (length q - end) (drop end q) ≡ after_header q
-  unfolding after_header
-  after_lent end is-end within = rw is-end (tail_is (header_length q) q within)
-
--- ---- IPv6
-pub unrefused_right6 : (q : List ℕ) → refusal_of (reading6 q) ≡ 0 → Right6 q
-unfolding ports6_cut
-unrefused_right6 q zero =
-    let told = neither (reading6 q) (omega arith) zero in
-    record { header = header6_there q told.0; ports = ports_there (has_ports6 q) (drop 40 q) told.1 }
+      pub keyed_0 : 0 ≡ refusal_of r → kept 0 r.key ≡ keyed r buffer
+      keyed_0 zero = let told = neither zero in rw (eq-eqb (length buffer) width right_length, told.0, told.1)

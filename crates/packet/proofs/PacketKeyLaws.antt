@@ -1,7 +1,7 @@
 -- A key written part by part: each part goes behind what is written already. Addresses of w bytes, four bytes of ports, one of the protocol.
 use mathlib.Core.Path.{◌≡◌, sym, ap, ◌∙◌}
 use mathlib.Core.List.{List, [], ◌∷◌, ◌++◌, append_assoc}
-use Prim.Native.Nat.{ℕ, suc, ◌+◌, ◌≤◌}
+use Prim.Native.Nat.{ℕ, suc, ◌+◌, ◌-◌, ◌*◌, ◌≤◌}
 use native.Mathlib.Omega.{arith}
 use lib.ListN.{length, drop, set, get_or, length-append, length-drop, drop_of_length-le}
 use lib.Seq.{take_at, drop_at, drop-cons, set_at}
@@ -26,15 +26,19 @@ pub record KeyParts (w : ℕ) (key source destination ports : List ℕ) : Type 0
   pub ports_long : length ports ≡ 4
 
 pub key_written : {w : ℕ} {key source destination ports : List ℕ} → KeyParts w key source destination ports → (x : ℕ)
-    → set (back (w + w) 4 (back w w (source ++ drop w key) destination) ports) (w + w + 4) x ≡ source ++ destination ++ ports ++ (x ∷ [])
+    → set (back (2 * w) (2 * w + 4 - 2 * w) (back w (2 * w - w) (source ++ drop w key) destination) ports) (2 * w + 4) x
+    ≡ source ++ destination ++ ports ++ (x ∷ [])
 key_written {w} {key} {source} {destination} {ports} p x =
-    let both_long : length (source ++ destination) ≡ w + w = rw length-append (omega arith) in
-    let all_long : length ((source ++ destination) ++ ports) ≡ w + w + 4 = rw (length-append, both_long) (omega arith) in
-    let left : List ℕ = drop w (drop w key) in
-    let one_left : drop 4 left ≡ get_or left 4 0 ∷ [] = last_place 4 left (simp length-drop (omega arith)) in
-    rw (next_part w w source (drop w key) destination p.source_long, next_part (w + w) 4 (source ++ destination) left ports both_long)
-    (ap (λ (end : List ℕ). set (((source ++ destination) ++ ports) ++ end) (w + w + 4) x) one_left
-    ∙ set_at ((source ++ destination) ++ ports) (get_or left 4 0) [] x (w + w + 4) all_long ∙ simp append_assoc)
+    let both_long : length (source ++ destination) ≡ 2 * w = rw length-append (omega arith) in
+    let all_long : length ((source ++ destination) ++ ports) ≡ 2 * w + 4 = rw (length-append, both_long) (omega arith) in
+    let left : List ℕ = drop (2 * w - w) (drop w key) in
+    let four : 2 * w + 4 - 2 * w ≡ 4 = omega arith in
+    let one_left : drop (2 * w + 4 - 2 * w) left ≡ get_or left 4 0 ∷ [] =
+    ap (λ (n : ℕ). drop n left) four ∙ last_place 4 left (simp length-drop (omega arith)) in
+    rw (next_part w (2 * w - w) source (drop w key) destination p.source_long)
+    (rw (next_part (2 * w) (2 * w + 4 - 2 * w) (source ++ destination) left ports both_long)
+    (ap (λ (end : List ℕ). set (((source ++ destination) ++ ports) ++ end) (2 * w + 4) x) one_left
+    ∙ set_at ((source ++ destination) ++ ports) (get_or left 4 0) [] x (2 * w + 4) all_long ∙ simp append_assoc))
 
 -- what is written is what each part should be
 pub parts_are : {source destination ports a b p : List ℕ} {x y : ℕ} → source ≡ a → destination ≡ b → ports ≡ p → x ≡ y

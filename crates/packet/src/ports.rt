@@ -3,8 +3,6 @@ ghost use Rattle.std.specs.Prelude.{◌≡◌, length};
 ghost use Rattle.theory.specs.Packet.{protocol_has_ports, ports_in};
 ghost use Rattle.packet.specs.Judging.{PortsThere};
 
-use memory::parts::{copy, zero_fill};
-
 // Protocols 6 and 17.
 pub fn protocol_has_ports(protocol: u8) -> bool
     ensures { result ≡ protocol_has_ports protocol }
@@ -14,12 +12,13 @@ pub fn protocol_has_ports(protocol: u8) -> bool
 
 // Both ports of the part after a header; "for others they are zero".
 pub fn read_ports(after: &[u8], has: bool, to: &mut [u8])
-    requires { PortsThere has after.now × (length to.old ≡ 4) }
+    requires there { PortsThere has after.now }
+    requires room { length to.old ≡ 4 }
     ensures { to.new ≡ ports_in has after.now }
 {
-    if !has {
-        zero_fill(to);
-        return;
+    if has {
+        to.copy_from_slice(&after[..4]);
+    } else {
+        to.fill(0);
     }
-    copy(to, &after[..4]);
 }
