@@ -1,15 +1,18 @@
 -- What the loops over bytes ask: each test of two keys, or of the bytes of a part, from one place on, by the byte there and the test from the next;
 -- and of two keys by words of eight bytes.
 use mathlib.Core.Path.{◌≡◌, refl, sym, ap, ap₂, ◌∙◌}
-use mathlib.Core.Bool.{Bool, true, false, ◌&&◌, ◌||◌, true≢false}
+use mathlib.Core.Bool.{Bool, true, false, ◌&&◌, true≢false}
 use mathlib.Core.List.{List, [], ◌∷◌, ◌++◌}
-use Prim.Native.Nat.{ℕ, ◌+◌, ◌≤◌, ◌<◌}
-use native.Mathlib.Numerals.{add-one}
+use Prim.Native.Nat.{ℕ, ◌+◌, ◌≤◌}
 use native.Mathlib.Omega.{arith}
 use lib.Dec.{eqb, ltb}
+use lib.Pointwise.{pointwise}
 use borrow.Author.Tests.{eq-eqb, ne_eqb}
-use lib.ListN.{length, take, drop, get_or, length-drop, drop_of_length-le, take-append-drop}
-use lib.Seq.{drop-cons, length-take-le, take-add, take_all, take-take}
+use lib.ListN.{length, take, drop, length-drop, take-append-drop}
+use lib.Seq.{length-take-le, take-add, take_all, take-take}
+use Rattle.std.proofs.Common.{Some}
+use Rattle.std.specs.Ordering.{nat_cmp, partial_lt}
+use Rattle.std.specs.Cmp.Lexicographic.{slice_partial_cmp}
 use Rattle.theory.specs.Records.{same_key, key_below}
 use Rattle.theory.proofs.ListLaws.{by_test, and_left, and_right, All, all_take, all_drop}
 use Rattle.theory.proofs.ByteLaws.{Byte}
@@ -84,18 +87,16 @@ module _ (a b : List ℕ) (n : length a ≡ length b) where
         (λ q. rw q (false_by (same_key (take i a) (take i b) && same_key (word a last) (word b last))
         (λ p. true≢false (sym (rw (equal_keys p) (same_self b)) ∙ q))))
 
--- ---- two keys from a place on
-module _ (a b : List ℕ) (i : ℕ) where
-  pub same_from : i < length a → i < length b
-      → same_key (drop i a) (drop i b) ≡ (eqb (get_or a i 0) (get_or b i 0) && same_key (drop (i + 1) a) (drop (i + 1) b))
-  same_from ha hb = rw (add-one, drop-cons a i 0 ha, drop-cons b i 0 hb)
+-- ---- std's comparisons of two slices of bytes
+pub same_by_pairs : (a b : List ℕ) → pointwise eqb a b ≡ same_key a b
+same_by_pairs [] [] = refl
+same_by_pairs [] (y ∷ ys) = refl
+same_by_pairs (x ∷ xs) [] = refl
+same_by_pairs (x ∷ xs) (y ∷ ys) = rw (same_by_pairs xs ys)
 
-  pub same_end : length a ≤ i → length b ≤ i → same_key (drop i a) (drop i b) ≡ true
-  same_end ha hb = rw (drop_of_length-le a ha, drop_of_length-le b hb)
-
-  pub below_from : i < length a → i < length b
-      → key_below (drop i a) (drop i b) ≡ (ltb (get_or a i 0) (get_or b i 0) || (eqb (get_or a i 0) (get_or b i 0) && key_below (drop (i + 1) a) (drop (i + 1) b)))
-  below_from ha hb = rw (add-one, drop-cons a i 0 ha, drop-cons b i 0 hb)
-
-  pub below_end : length a ≤ i → length b ≤ i → key_below (drop i a) (drop i b) ≡ false
-  below_end ha hb = rw (drop_of_length-le a ha, drop_of_length-le b hb)
+pub below_by_order : (a b : List ℕ) → partial_lt (slice_partial_cmp (λ x y. Some (nat_cmp x y))) a b ≡ key_below a b
+below_by_order [] [] = refl
+below_by_order [] (y ∷ ys) = refl
+below_by_order (x ∷ xs) [] = refl
+below_by_order (x ∷ xs) (y ∷ ys) =
+    by_test (ltb x y) (λ e. rw e) (λ e. rw e (by_test (eqb x y) (λ q. rw q (below_by_order xs ys)) (λ q. rw q)))

@@ -2,17 +2,22 @@
 use mathlib.Core.Path.{◌≡◌, ◌∙◌}
 use mathlib.Core.Bool.{true, false, not, ◌||◌}
 use mathlib.Core.List.{List}
-use Prim.Native.Nat.{ℕ, ◌+◌, ◌*◌, ◌≤◌, ◌<◌}
-use native.Mathlib.Nat.{mul_comm, mul-le-mul_right}
+use Prim.Native.Nat.{ℕ, ◌+◌, ◌-◌, ◌*◌, ◌≤◌, ◌<◌}
+use native.Mathlib.Nat.{mul_comm, mul-le-mul, mul-le-mul_right}
 use native.Mathlib.Omega.{arith}
 use lib.Dec.{eqb, ltb}
 use borrow.Author.Tests.{lt-ltb, le-ltb}
-use lib.ListN.{length, drop, length-drop}
+use lib.ListN.{length, take, drop, length-drop}
 use Rattle.theory.specs.Lists.{any}
 use Rattle.theory.specs.Records.{count_of, records, rising}
-use Rattle.theory.specs.Settings.{Card, record_size, ledger_length}
+use Rattle.theory.specs.Settings.{Card, allowed, card_of, record_size, ledger_length}
 use Rattle.theory.specs.Calls.{ledger_records, ledger_invalid}
 use Rattle.theory.proofs.CallLaws.{valid}
+use Rattle.theory.proofs.SettingsLaws.{ranges}
+use Rattle.memory.proofs.SliceLaws.{tail_is}
+use Rattle.settings.specs.declared.Settings.{Settings}
+use Rattle.settings.specs.Checked.{paper, card}
+use Rattle.settings.proofs.Laws.{bounds}
 
 module _ (c : Card) (a : List ℕ) where
   -- ---- its length
@@ -28,6 +33,10 @@ module _ (c : Card) (a : List ℕ) where
     pub records_room : (n : ℕ) → n ≤ c.capacity → n * (c.width + 4) ≤ length (drop 2 a)
     unfolding record_size
     records_room n h = rw length-drop (omega (arith, room_for n h, mul_comm (c.width + 4) n))
+
+    -- its keys rise, as they are judged in the part after the count
+    pub rises_lent : (w n : ℕ) → w ≡ c.width → rising (records w n (take (length a - 2) (drop 2 a))) ≡ rising (records c.width n (drop 2 a))
+    rises_lent w n e = rw (tail_is 2 a has_count, e)
 
   -- ---- its rules, where n is its count
   module _ (n : ℕ) (count : n ≡ count_of a) where
@@ -53,3 +62,10 @@ module _ (c : Card) (a : List ℕ) where
 
     pub records_rise : ledger_invalid c a ≡ false → rising (records c.width n (drop 2 a)) ≡ true
     records_rise rules = rw records_are (valid c a rules).order
+
+-- ---- so many bytes as its records have at most
+pub places_most : (s : Settings) (size n : ℕ) → allowed (paper s) ≡ true → n ≤ (card s).capacity → size ≡ record_size (card s) → size * n ≤ 41 * 4096
+unfolding card_of
+places_most s size n permitted few e =
+    let many : n ≤ 4096 = omega (arith, few, (ranges (paper s) permitted).capacity_high) in
+    rw e (mul-le-mul (bounds (paper s) permitted).record_most many)

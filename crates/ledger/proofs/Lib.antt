@@ -2,5 +2,4 @@ pub mod KeyCompareLaws
 pub mod RisingLaws
 pub mod LedgerLaws
 pub mod SpotLaws
-pub mod ShiftLaws
 pub mod LedgerEditLaws

@@ -1,6 +1,6 @@
 -- What the loops over records in bytes ask: the next record, room for one, the key of record i, and whether keys rise from record i on.
 use mathlib.Core.Path.{◌≡◌, refl, sym, ◌∙◌}
-use mathlib.Core.Bool.{true, ◌&&◌}
+use mathlib.Core.Bool.{Bool, true, ◌&&◌}
 use mathlib.Core.List.{List, [], ◌∷◌}
 use Prim.Native.Nat.{ℕ, zero, suc, ◌+◌, ◌-◌, ◌*◌, ◌≤◌, ◌<◌}
 use native.Mathlib.Nat.{le_of_suc-le-suc, suc-mul, zero-mul, add_comm, mul-le-mul_right}
@@ -50,26 +50,34 @@ module _ {w n : ℕ} {a : List ℕ} {i : ℕ} (r : Row w n a i) where
   pub row_key : key_in w a i ≡ (get_or (records w n a) i no_record).key
   row_key = sym (key_here w n i a r.listed)
 
--- ---- keys that rise, two records at a time, and room for both
-pub room_two : (at left z n : ℕ) → at + left * z ≤ n → 1 < left → at + z + z ≤ n
-room_two at left z n h p = (room_next (at + z) (left - 1) z n (room_next at left z n h (omega arith)).1 (omega arith)).0
+-- ---- keys that rise, of the records from the one before record i on
+rising_one : (w n : ℕ) (a : List ℕ) → n ≤ 1 → rising (records w n a) ≡ true
+unfolding records entries
+rising_one w zero a h = refl
+rising_one w (suc zero) a h = refl
+rising_one w (suc (suc n)) a h = absurd (omega arith)
 
-module _ (w : ℕ) where
-  key_is : (a : List ℕ) → (record_at w a).key ≡ take w a
+module _ (w n : ℕ) (a : List ℕ) where
+  abbrev pub records_before : ℕ → List Record
+  records_before i = records w (n - (i - 1)) (drop ((i - 1) * (w + 4)) a)
+
+  rising_turn : (i : ℕ) → 1 ≤ i → i < n
+      → rising (records_before i) ≡ (key_below (key_in w a (i - 1)) (key_in w a i) && rising (records_before (i + 1)))
   unfolding record_at
-  key_is a = refl
+  rising_turn zero h l = absurd (omega arith)
+  rising_turn (suc i) h l =
+      let here : suc i - 1 ≡ i = omega arith in
+      let there : suc i + 1 - 1 ≡ suc i = omega arith in
+      let next : i * (w + 4) + (w + 4) ≡ suc i * (w + 4) = omega arith in
+      let fewer : n - i - 1 ≡ n - suc i = omega arith in
+      let first = records_next w (n - i) (drop (i * (w + 4)) a) (omega arith) in
+      let second = records_next w (n - suc i) (drop (suc i * (w + 4)) a) (omega arith) in
+      rw (here, there, first, drop-drop (w + 4) (i * (w + 4)) a, next, fewer, second)
 
-  pub rising_next : (n at : ℕ) (a : List ℕ) → 1 < n → rising (records w n (drop at a))
-      ≡ (key_below (take w (drop at a)) (take w (drop (at + (w + 4)) a)) && rising (records w (n - 1) (drop (at + (w + 4)) a)))
-  rising_next n at a h =
-      let e = records_next w n (drop at a) (omega arith) in
-      let f = records_next w (n - 1) (drop (at + (w + 4)) a) (omega arith) in
-      rw (e, drop-drop (w + 4) at a, f, key_is (drop at a), key_is (drop (at + (w + 4)) a))
+  -- as the code compares the keys of the two, with what test t gave
+  pub rising_by : (i : ℕ) → 1 ≤ i → i < n → (k next : List ℕ) → k ≡ key_in w a (i - 1) → next ≡ key_in w a i → (t b : Bool) → t ≡ key_below k next → t ≡ b
+      → rising (records_before i) ≡ (b && rising (records_before (i + 1)))
+  rising_by i h l k next e f t b g q = rising_turn i h l ∙ rw (← e, ← f, ← g, q)
 
-  pub rising_one : (at : ℕ) (a : List ℕ) → rising (records w 1 (drop at a)) ≡ true
-  unfolding records entries
-  rising_one at a = refl
-
-  pub rising_none : (a : List ℕ) → rising (records w 0 a) ≡ true
-  unfolding records entries
-  rising_none a = refl
+  pub rising_end : (i : ℕ) → n ≤ i → rising (records_before i) ≡ true
+  rising_end i h = rising_one w (n - (i - 1)) (drop ((i - 1) * (w + 4)) a) (omega arith)

@@ -14,14 +14,15 @@ use lib.Seq.{drop-cons}
 use Rattle.theory.specs.Lists.{filter}
 use Rattle.theory.specs.Records.{Record, count_of, records, same_key, key_below, below_first, rising}
 use Rattle.theory.specs.Settings.{Card, ledger_length}
-use Rattle.theory.specs.Ledger.{held, replace, without}
+use Rattle.theory.specs.Ledger.{held, insert, replace, without}
 use Rattle.theory.specs.Calls.{ledger_records, ledger_invalid}
 use Rattle.theory.proofs.ListLaws.{and_left, and_right, All, all_map, all_at, any_false}
 use Rattle.theory.proofs.OrderLaws.{key_below_trans, key_below_total, below_first_far}
 use Rattle.theory.proofs.PlacingLaws.{same_key_eq}
 use Rattle.theory.proofs.CallLaws.{valid}
-use Rattle.ledger.specs.declared.spots.Spot.{Spot}
-use Rattle.ledger.specs.Spots.{SpotOf}
+use Rattle.std.proofs.Common.{Result}
+use Rattle.ledger.specs.Edits.{inserted_at, removed_at, replaced_at}
+use Rattle.ledger.specs.Spots.{StandsAt, BelongsAt, SpotOf}
 use Rattle.memory.proofs.SliceLaws.{tail_is}
 use Rattle.ledger.proofs.KeyCompareLaws.{false_by, same_self}
 use Rattle.ledger.proofs.RisingLaws.{no_record}
@@ -73,6 +74,21 @@ Below k r = key_below r.key k ≡ true
 abbrev NotBelow : List ℕ → Record → Type 0
 NotBelow k r = key_below r.key k ≡ false
 
+-- a list cut at a place, where a test t says whether the key is held
+record Cut (l : List Record) (k : List ℕ) (t : Bool) (at : ℕ) : Type 0 where
+  within : at ≤ length l
+  says : t ≡ held k l
+  inserted : t ≡ false → (x : Record) → x.key ≡ k → insert x l ≡ inserted_at at x l
+  stands : t ≡ true → at < length l
+  removed : t ≡ true → without k l ≡ removed_at at l
+  replaced : t ≡ true → (x : Record) → x.key ≡ k → replace x l ≡ replaced_at at x l
+
+stands_by : {l : List Record} {k : List ℕ} {at : ℕ} → Cut l k true at → StandsAt l k at
+stands_by c = record { listed = c.stands refl; says = sym c.says; removed = c.removed refl; replaced = c.replaced refl }
+
+belongs_by : {l : List Record} {k : List ℕ} {at : ℕ} → Cut l k false at → BelongsAt l k at
+belongs_by c = record { within = c.within; says = sym c.says; inserted = c.inserted refl }
+
 module _ (k : List ℕ) where
   -- a record x of the key is compared as the key is
   below_by : (x : Record) → x.key ≡ k → (r : Record) (b : Bool) → key_below k r.key ≡ b → key_below x.key r.key ≡ b
@@ -109,7 +125,7 @@ module _ (k : List ℕ) where
     unfolding held
     held_first = rw (any_false (λ r. same_key k r.key) ys others, or-false)
 
-    spot_first : (t : Bool) → t ≡ same_key k y.key → SpotOf (y ∷ ys) k (record { held = t; at = 0 })
+    spot_first : (t : Bool) → t ≡ same_key k y.key → Cut (y ∷ ys) k t 0
     unfolding replace without
     spot_first t is =
         record {
@@ -124,8 +140,7 @@ module _ (k : List ℕ) where
         }
 
   -- ---- one record more before the place, below the key
-  spot_next : (y : Record) (ys : List Record) (t : Bool) (at : ℕ) → Below k y → SpotOf ys k (record { held = t; at = at })
-      → SpotOf (y ∷ ys) k (record { held = t; at = suc at })
+  spot_next : (y : Record) (ys : List Record) (t : Bool) (at : ℕ) → Below k y → Cut ys k t at → Cut (y ∷ ys) k t (suc at)
   unfolding held replace without
   spot_next y ys t at b spot =
       let other = below_other k y.key b in
@@ -140,7 +155,7 @@ module _ (k : List ℕ) where
 
   -- ---- a list cut at a place
   cut_spot : (t : Bool) (l : List Record) (at : ℕ) → at ≤ length l → rising l ≡ true → All (Below k) (take at l) → All (NotBelow k) (drop at l)
-      → t ≡ held k (drop at l) → SpotOf l k (record { held = t; at = at })
+      → t ≡ held k (drop at l) → Cut l k t at
   unfolding held
   cut_spot t [] zero h up before after is =
       record {
@@ -185,19 +200,25 @@ module _ {l : List Record} {k : List ℕ} {low high : ℕ} (g : Halving l k low 
   cut : All (NotBelow k) (drop low l)
   cut = let e : high ≡ low = omega (arith, g.order) in subst (λ (i : ℕ). All (NotBelow k) (drop i l)) e g.after
 
-  spot_met : (t : Bool) → t ≡ held k (drop low l) → SpotOf l k (record { held = t; at = low })
+  spot_met : (t : Bool) → t ≡ held k (drop low l) → Cut l k t low
   spot_met t e = cut_spot k t l low (omega (arith, g.order, g.within)) g.up g.before cut e
 
-  pub found_end : length l ≤ low → SpotOf l k (record { held = false; at = low })
+  pub found_end : length l ≤ low → BelongsAt l k low
   unfolding held
-  found_end past = spot_met false (rw (drop_of_length-le l past))
+  found_end past = belongs_by (spot_met false (rw (drop_of_length-le l past)))
 
-  pub found_here : low < length l → (t : Bool) → t ≡ same_key k (get_or l low no_record).key → SpotOf l k (record { held = t; at = low })
-  found_here listed t e =
+  found_by : low < length l → (t : Bool) → t ≡ same_key k (get_or l low no_record).key → Cut l k t low
+  found_by listed t e =
       let here : drop low l ≡ get_or l low no_record ∷ drop (suc low) l = drop-cons l low no_record listed in
       let up : rising (get_or l low no_record ∷ drop (suc low) l) ≡ true = rw here at (rising_drop low l g.up) in
       let first : All (NotBelow k) (get_or l low no_record ∷ drop (suc low) l) = rw here at cut in
       spot_met t (rw here (e ∙ sym (held_first k (get_or l low no_record) (drop (suc low) l) up first.0)))
+
+  pub found_stands : low < length l → true ≡ same_key k (get_or l low no_record).key → StandsAt l k low
+  found_stands listed e = stands_by (found_by listed true e)
+
+  pub found_belongs : low < length l → false ≡ same_key k (get_or l low no_record).key → BelongsAt l k low
+  found_belongs listed e = belongs_by (found_by listed false e)
 
 -- ---- a search among the places of a ledger area within the rules, lent from its third byte on, where n is its count
 module _ (c : Card) (a : List ℕ) (whole : length a ≡ ledger_length c) (rules : ledger_invalid c a ≡ false) (n : ℕ) (count : n ≡ count_of a) (k : List ℕ)
@@ -211,7 +232,7 @@ module _ (c : Card) (a : List ℕ) (whole : length a ≡ ledger_length c) (rules
   pub search_rises : rising (records (length k) n (take (length a - 2) (drop 2 a))) ≡ true
   search_rises = rw (lent, wide) (records_rise c a n count rules)
 
-  pub ledger_spot : (r : Spot) → SpotOf (records (length k) n (take (length a - 2) (drop 2 a))) k r → SpotOf (ledger_records c a) k r
+  pub ledger_spot : (r : Result ℕ ℕ) → SpotOf (records (length k) n (take (length a - 2) (drop 2 a))) k r → SpotOf (ledger_records c a) k r
   ledger_spot r found =
       subst (λ (l : List Record). SpotOf l k r)
       (ap (λ (l : List ℕ). records (length k) n l) lent ∙ ap (λ (w : ℕ). records w n (drop 2 a)) wide ∙ records_are c a n count) found

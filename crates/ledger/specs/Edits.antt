@@ -1,5 +1,5 @@
 -- What the three edits are given and what they make: a ledger area within the rules, and a list of records with one more, one less or one other at a place.
-use Rattle.std.specs.Prelude.{◌≡◌, true, false, List, ◌∷◌, ◌++◌, ℕ, ◌+◌, ◌-◌, length, take, drop}
+use Rattle.std.specs.Prelude.{◌≡◌, true, false, List, ◌∷◌, ◌++◌, ℕ, ◌+◌, ◌-◌, length, take, drop, replicate}
 use Rattle.theory.specs.Records.{Record}
 use Rattle.theory.specs.Settings.{allowed, ledger_length}
 use Rattle.theory.specs.Layout.{counted_places}
@@ -23,12 +23,12 @@ removed_at at l = take at l ++ drop (at + 1) l
 abbrev pub replaced_at : ℕ → Record → List Record → List Record
 replaced_at at x l = take at l ++ (x ∷ drop (at + 1) l)
 
--- an area whose bytes between two places have moved up by a size, and one whose bytes have moved down by a size onto those between two places
-abbrev pub moved_up : ℕ → ℕ → ℕ → List ℕ → List ℕ
-moved_up size from to a = take (from + size) a ++ (take (to - from) (drop from a) ++ drop (to + size) a)
+-- bytes put in at a place, before those from there to an end; and those from a place to the next taken out, with zeros after what follows to an end
+abbrev pub with_bytes : ℕ → ℕ → List ℕ → List ℕ → List ℕ
+with_bytes place end new a = take place a ++ (new ++ (take (end - place) (drop place a) ++ drop (end + length new) a))
 
-abbrev pub moved_down : ℕ → ℕ → ℕ → List ℕ → List ℕ
-moved_down size from to a = take from a ++ (take (to - from) (drop (from + size) a) ++ drop to a)
+abbrev pub without_bytes : ℕ → ℕ → ℕ → List ℕ → List ℕ
+without_bytes place next end a = take place a ++ (take (end - next) (drop next a) ++ (replicate (next - place) 0 ++ drop end a))
 
 -- allowed settings, and a ledger area of their length that is within the rules
 pub record ValidLedger (s : Settings) (a : List ℕ) : Type 0 where

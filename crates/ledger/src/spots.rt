@@ -7,21 +7,16 @@ use super::keys::{below_key, same_key};
 use memory::records::key_at;
 use settings::Settings;
 
-// Whether the key is held, and how many records stand before its place.
-#[derive(Clone, Copy)]
-pub struct Spot {
-    pub held: bool,
-    pub at: usize,
-}
-
-// By halves: every record before low is below the key, and none from high on is.
-pub fn find_spot(places: &[u8], n: usize, key: &[u8]) -> Spot
-    requires { (n * (length key.now + class_width) ≤ length places.now) × (rising (records (length key.now) n places.now) ≡ true) }
+// As std's `binary_search` answers, which searches a slice of elements, where here are records in bytes: Ok of the place where the key's record stands,
+// or Err of the place where it belongs. By halves: every record before low is below the key, and none from high on is. A `while`, since two bounds meet.
+pub fn find_spot(places: &[u8], n: usize, key: &[u8]) -> Result<usize, usize>
+    requires room { n * (length key.now + class_width) ≤ length places.now }
+    requires rising { rising (records (length key.now) n places.now) ≡ true }
     ensures { SpotOf (records (length key.now) n places.now) key.now result }
 {
     let width = key.len();
     let size = width + Settings::CLASS_WIDTH;
-    let mut low: usize = 0;
+    let mut low = 0;
     let mut high = n;
     while low < high {
         let middle = low + (high - low) / 2;
@@ -32,13 +27,11 @@ pub fn find_spot(places: &[u8], n: usize, key: &[u8]) -> Spot
         }
     }
     if low == n {
-        return Spot {
-            held: false,
-            at: low,
-        };
+        return Err(low);
     }
-    Spot {
-        held: same_key(key, key_at(places, low, size, width)),
-        at: low,
+    if same_key(key, key_at(places, low, size, width)) {
+        Ok(low)
+    } else {
+        Err(low)
     }
 }
