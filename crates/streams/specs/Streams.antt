@@ -1,19 +1,7 @@
 -- What the contracts of reads say of their answers.
-use Rattle.std.specs.Prelude.{ℕ, ◌≤◌, ◌<◌}
-use Rattle.streams.specs.declared.Got.{Got}
-use Rattle.streams.specs.declared.Got.TheVariants.{Bytes, End, Failed}
-use Rattle.streams.specs.declared.Tried.{Tried}
-use Rattle.streams.specs.declared.Tried.TheVariants.{Moved, Nothing, Again, Failed as FailedTry}
+use Rattle.std.specs.Prelude.{ℕ, ◌≤◌, ◌<◌, Option, Result, IfOk, IfSome}
+use Rattle.streams.specs.declared.Failed.{Failed}
 
--- a read of at most so many bytes: one or more of them, the end, or nothing
-abbrev pub Within : Got → ℕ → Type 0
-Within (Bytes n) most = (0 < n) × (n ≤ most)
-Within End most = Unit
-Within Failed most = Unit
-
--- a call on so many bytes
-abbrev pub Moves : Tried → ℕ → Type 0
-Moves (Moved n) most = (0 < n) × (n ≤ most)
-Moves Nothing most = Unit
-Moves Again most = Unit
-Moves FailedTry most = Unit
+-- a read of at most so many bytes: one or more of them, None at the end, or an error
+abbrev pub Within : Result (Option ℕ) Failed → ℕ → Type 0
+Within r most = IfOk r (λ got. IfSome got (λ n. (0 < n) × (n ≤ most)))

@@ -2,37 +2,22 @@
 // A call that a signal broke off is made again. So is one on a pipe that is set to not wait, over and over.
 #![tactic(auto)]
 
-ghost use Rattle.std.specs.Prelude.{◌≡◌, ℕ, ◌-◌, ◌≤◌, length, take, drop};
-ghost use Rattle.streams.specs.Streams.{Within, Moves};
+ghost use Rattle.std.specs.Prelude.{◌≡◌, ◌-◌, ◌≤◌, ◌<◌, length, take, drop, IfOk, IfSome};
+ghost use Rattle.streams.specs.Streams.{Within};
 
-use memory::parts::copy;
 use std::io::{Cursor, ErrorKind, Read, Write};
 use std::{io, str};
 
-// What a read gives: 1 or more bytes, the end of the input, or nothing, since it failed, which is said.
+// A read or a write failed, which is said.
 #[derive(Clone, Copy)]
-pub enum Got {
-    Bytes(usize),
-    End,
-    Failed,
-}
-
-// What one call came to: so many bytes moved, none moved, to be made again, failed.
-#[derive(Clone, Copy)]
-enum Tried {
-    Moved(usize),
-    Nothing,
-    Again,
-    Failed,
-}
+pub struct Failed;
 
 // No run comes to so many calls that are made again: a proved loop has to end.
 const MOST_TURNS: u64 = 1152921504606846976;
 
 // Whether a call that failed is to be made again.
 fn to_try_again(error: &io::Error) -> bool {
-    let kind = error.kind();
-    (kind == ErrorKind::WouldBlock) | (kind == ErrorKind::Interrupted)
+    matches!(error.kind(), ErrorKind::WouldBlock | ErrorKind::Interrupted)
 }
 
 // The reason of the system in a text of std's, which puts the number of the error behind it.
@@ -59,127 +44,105 @@ fn say(rt: &HostRuntime, stream: &str, error: &io::Error) {
     let _ = eprintln!(rt; "{stream}: {reason}");
 }
 
-// So many bytes moved, of at most so many.
-fn moved(count: usize, most: usize) -> Tried
-    ensures { Moves result most }
+// Makes a call on a stream until it comes to something: how many bytes it moved, of at most so many.
+fn settled<F: FnMut() -> io::Result<usize>>(
+    rt: &HostRuntime,
+    stream: &str,
+    most: usize,
+    mut call: F,
+) -> Result<usize, Failed>
+    requires { F.IsAlwaysCallable call }
+    ensures { IfOk result (λ n. n ≤ most) }
 {
-    let within = count.min(most);
-    if within == 0 {
-        return Tried::Nothing;
-    }
-    Tried::Moved(within)
-}
-
-// What a call on a buffer came to, by its answer. Where it failed, that is said.
-fn judge(rt: &HostRuntime, stream: &str, answer: io::Result<usize>, buffer: &[u8]) -> Tried
-    ensures { Moves result (length buffer.now) }
-{
-    match answer {
-        Ok(count) => moved(count, buffer.len()),
-        Err(error) => {
-            if to_try_again(&error) {
-                return Tried::Again;
+    for _ in 0..MOST_TURNS {
+        match call() {
+            Ok(count) => return Ok(count.min(most)),
+            Err(error) if to_try_again(&error) => {}
+            Err(error) => {
+                say(rt, stream, &error);
+                return Err(Failed);
             }
-            say(rt, stream, &error);
-            Tried::Failed
         }
     }
+    Err(Failed)
 }
 
-// One read that came to something, into a buffer that has room.
-pub fn read_some(rt: &HostRuntime, buffer: &mut [u8]) -> Got
+// So many bytes that a read gave, or the end of the input where there are none.
+fn bytes_or_end(count: usize) -> Option<usize>
+    ensures { IfSome result (λ n. (n ≡ count) × (0 < n)) }
+{
+    if count == 0 { None } else { Some(count) }
+}
+
+// One read that came to something, into a buffer that has room: 1 or more bytes, or None at the end of the input.
+pub fn read_some(rt: &HostRuntime, buffer: &mut [u8]) -> Result<Option<usize>, Failed>
     ensures { Within result (length buffer.old) }
 {
-    let mut turns: u64 = 0;
-    while turns < MOST_TURNS {
-        let answer = rt.stdin().read(buffer);
-        match judge(rt, "standard input", answer, buffer) {
-            Tried::Moved(n) => return Got::Bytes(n),
-            Tried::Nothing => return Got::End,
-            Tried::Failed => return Got::Failed,
-            Tried::Again => turns += 1,
-        }
-    }
-    Got::Failed
+    let most = buffer.len();
+    let count = settled(rt, "standard input", most, || rt.stdin().read(buffer))?;
+    Ok(bytes_or_end(count))
 }
 
 // The same behind the bytes that stand at the start of a buffer already, which stay.
-pub fn read_after(rt: &HostRuntime, buffer: &mut [u8], from: usize) -> Got
+pub fn read_after(rt: &HostRuntime, buffer: &mut [u8], from: usize) -> Result<Option<usize>, Failed>
     requires { from ≤ length buffer.old }
-    ensures { Within result (length buffer.old - from) × (take from buffer.new ≡ take from buffer.old) }
+    ensures read { Within result (length buffer.old - from) }
+    ensures kept { take from buffer.new ≡ take from buffer.old }
 {
     read_some(rt, &mut buffer[from..])
 }
 
-// So many bytes, or the end of the input where there is none.
-fn filled(done: usize) -> Got
-    ensures { (most : ℕ) → done ≤ most → Within result most }
-{
-    if done == 0 {
-        return Got::End;
-    }
-    Got::Bytes(done)
-}
-
-// Reads until a buffer is full or the input ends.
-pub fn read_full(rt: &HostRuntime, buffer: &mut [u8]) -> Got
+// Reads until a buffer is full or the input ends. No `for`: how far a read comes is not known before it.
+pub fn read_full(rt: &HostRuntime, buffer: &mut [u8]) -> Result<Option<usize>, Failed>
     ensures { Within result (length buffer.new) }
 {
     let mut done: usize = 0;
     while done < buffer.len() {
-        match read_after(rt, buffer, done) {
-            Got::Bytes(n) => done += n,
-            Got::Failed => return Got::Failed,
-            Got::End => return filled(done),
+        match read_after(rt, buffer, done)? {
+            Some(n) => done += n,
+            None => break,
         }
     }
-    filled(done)
+    Ok(bytes_or_end(done))
 }
 
-// Moves the bytes from one place of a buffer to another to its start, where they wait for the bytes of the next read.
+// Moves the bytes from one place of a buffer to another, fewer than a call's, to its start, where they wait for the bytes of the next read.
 pub fn keep_rest(buffer: &mut [u8], from: usize, to: usize)
-    requires { (from ≤ to) × (to ≤ length buffer.old) × (to - from ≤ 18) }
+    requires order { from ≤ to }
+    requires inside { to ≤ length buffer.old }
+    requires few { to - from ≤ 18 }
     ensures { take (to - from) buffer.new ≡ take (to - from) (drop from buffer.old) }
 {
-    let count = to - from;
-    let mut kept = [0u8; 18];
-    copy(&mut kept[..count], &buffer[from..to]);
-    copy(&mut buffer[..count], &kept[..count]);
+    buffer.copy_within(from..to, 0);
 }
 
-// One write that came to something: how many bytes it took, none where it failed.
-fn write_some(rt: &HostRuntime, bytes: &[u8]) -> usize
-    ensures { result ≤ length bytes.now }
+// One write that came to something: how many bytes it took, 1 or more.
+fn write_some(rt: &HostRuntime, bytes: &[u8]) -> Result<usize, Failed>
+    ensures { IfOk result (λ n. (0 < n) × (n ≤ length bytes.now)) }
 {
-    let mut turns: u64 = 0;
-    while turns < MOST_TURNS {
-        let answer = rt.stdout().write(bytes);
-        match judge(rt, "standard output", answer, bytes) {
-            Tried::Moved(n) => return n,
-            Tried::Again => turns += 1,
-            Tried::Failed => return 0,
-            Tried::Nothing => {
-                say(
-                    rt,
-                    "standard output",
-                    &io::Error::from(ErrorKind::WriteZero),
-                );
-                return 0;
-            }
-        }
+    let taken = settled(
+        rt,
+        "standard output",
+        bytes.len(),
+        || rt.stdout().write(bytes),
+    )?;
+    if taken == 0 {
+        say(
+            rt,
+            "standard output",
+            &io::Error::from(ErrorKind::WriteZero),
+        );
+        return Err(Failed);
     }
-    0
+    Ok(taken)
 }
 
-// Writes all bytes; whether they were taken.
-pub fn write_all(rt: &HostRuntime, bytes: &[u8]) -> bool {
-    let mut done: usize = 0;
-    while done < bytes.len() {
-        let taken = write_some(rt, &bytes[done..]);
-        if taken == 0 {
-            return false;
-        }
-        done += taken;
+// Writes all bytes. No `for`: how many a write takes is not known before it.
+pub fn write_all(rt: &HostRuntime, bytes: &[u8]) -> Result<(), Failed> {
+    let mut rest = bytes;
+    while !rest.is_empty() {
+        let taken = write_some(rt, rest)?;
+        rest = &rest[taken..];
     }
-    true
+    Ok(())
 }
