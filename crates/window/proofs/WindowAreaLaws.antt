@@ -1,20 +1,26 @@
 -- What the code leaves in the area and answers is what the definitions say.
 use mathlib.Core.Path.{◌≡◌, refl, ap, ◌∙◌}
-use mathlib.Core.Logic.{◌≢◌}
-use mathlib.Core.Bool.{Bool, true, false, cond, not, ◌&&◌}
+use mathlib.Core.Logic.{◌≢◌, ◌⊎◌, inl, inr}
+use mathlib.Core.Bool.{Bool, true, false, cond, not, ◌&&◌, and-false}
 use mathlib.Core.List.{List, [], ◌∷◌, ◌++◌}
 use Prim.Native.Nat.{ℕ, zero, suc, ◌+◌, ◌-◌, ◌/◌, ◌%◌, ◌^◌, ◌≤◌, ◌<◌, max}
 use native.Mathlib.Omega.{arith}
+use mir.Val.{bool_byte}
 use lib.Dec.{eqb}
-use borrow.Author.Tests.{eqb-true, eq-eqb, ne_eqb, le-leb, lt-leb}
+use borrow.Author.Tests.{eq-eqb, ne_eqb, le-leb, lt-leb}
 use lib.ListN.{length, get_or, set, replicate}
 use Rattle.theory.specs.Lists.{filter, upto}
 use Rattle.theory.specs.Window.{Entry, window_size, oldest_at, many_at, held_at, side_at, compared_at, ring_at, entry_word, word_entry}
 use Rattle.theory.specs.Window.{window_length, greatest, counts_told, told_answer, entry_of, words_after, raised, counted, oldest_out, put_in, put_for_oldest}
 use Rattle.theory.specs.Lookup.{accepted}
-use Rattle.theory.proofs.ListLaws.{by_test, and_left, and_right, all_stored}
+use Rattle.theory.proofs.ListLaws.{by_test, all_stored}
 use Rattle.theory.proofs.GrowingLaws.{upto_more, filter_append}
 use Rattle.window.specs.Windows.{Written, clear_of, enter_of, remove_of, counts_of}
+
+-- a flag as a number
+pub flag_is : (b : Bool) {n : ℕ} → n ≡ bool_byte b → n ≡ cond b 1 0
+flag_is true e = e
+flag_is false e = e
 
 -- ---- what the code leaves, step by step: four counts; an entry taken out; one put in; one put in for another
 module _ (words : List ℕ) where
@@ -99,11 +105,10 @@ pub record Right (words counts : List ℕ) : Type 0 where
   pub long : length words ≡ window_length
   pub three : length counts ≡ 3
 
-pub right_by : (words counts : List ℕ) → both_right words counts ≡ true → Right words counts
-right_by words counts t =
-    let first = eqb (length words) window_length in
-    let second = eqb (length counts) 3 in
-    record { long = eqb-true _ _ (and_left first second t); three = eqb-true _ _ (and_right first second t) }
+pub not_right : (words counts : List ℕ) → (length words ≢ window_length) ⊎ ((length words ≡ window_length) × (length counts ≢ 3))
+    → both_right words counts ≡ false
+not_right words counts (inl other) = rw (ne_eqb (length words) window_length other)
+not_right words counts (inr other) = rw (ne_eqb (length counts) 3 other.1, and-false)
 
 -- two counts as the area tells them
 held_told : (words : List ℕ) → (counts_told words).held ≡ get_or words held_at 0

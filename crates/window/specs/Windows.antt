@@ -2,16 +2,11 @@
 use Rattle.std.specs.Prelude.{Bool, cond, ◌&&◌, List, [], ◌∷◌, ℕ, ◌^◌, ◌≤◌, eqb, length}
 use Rattle.theory.specs.Window as plain
 use Rattle.theory.specs.Window.{WindowCounts, enter, clear_window, remove_oldest, window_length, words_after, counts_told, told_answer}
-use Rattle.window.specs.declared.Entry.{Entry}
+use Rattle.window.specs.declared.entry.Entry.{Entry}
 
--- an entry as the definition has it, and the numbers that one holds
+-- an entry as the definition has it
 abbrev pub entry_in : Entry → plain.Entry
-entry_in e = record { held = e.held; side_compared = e.side_compared; records_compared = e.records_compared }
-
-pub record EntryFits (e : Entry) : Type 0 where
-  pub held : e.held ≤ 1
-  pub side : e.side_compared ≤ 1
-  pub compared : e.records_compared ≤ plain.most_compared
+entry_in e = record { held = cond e.held 1 0; side_compared = cond e.side_compared 1 0; records_compared = e.records_compared }
 
 -- numbers that one entry adds to the counts, or takes off
 pub record Countable (one held side compared : ℕ) : Type 0 where
