@@ -2,24 +2,20 @@
 use mathlib.Core.Path.{◌≡◌, sym, ap}
 use mathlib.Core.Bool.{Bool, false}
 use mathlib.Core.List.{List}
-use mathlib.Core.Logic.{◌≢◌}
 use Prim.Native.Nat.{ℕ}
 use native.Mathlib.Omega.{arith}
 use lib.ListN.{length}
-use borrow.Author.Tests.{ltb-false, eq-eqb, ne_eqb}
+use borrow.Author.Tests.{ltb-false, eq-eqb}
 use Rattle.theory.specs.Packet.{cut_in, Reading, Keyed, keyed}
 use Rattle.theory.proofs.ListLaws.{by_test}
 use Rattle.memory.specs.Refusals.{number_of}
 use Rattle.memory.specs.declared.refusals.Refusal.{Refusal}
+use Rattle.memory.proofs.RefusalLaws.{refused_number}
 use Rattle.packet.specs.Judging.{Said, after_header, reading_of, refusal_of, PortsThere}
 
 -- an answer, and the buffer with it
 abbrev pub kept : ℕ → List ℕ → Keyed
 kept n buffer = record { number = n; buffer = buffer }
-
--- no refusal has the number 0
-numbered : (e : Refusal) → number_of e ≢ 0
-numbered e none = absurd (grind arith)
 
 ports_there : (has : Bool) (after : List ℕ) → cut_in has after ≡ false → PortsThere has after
 ports_there has after whole some = ltb-false (length after) 4 (rw some at whole)
@@ -33,24 +29,20 @@ module _ (width : ℕ) (e : Refusal) (said : Said) (q : List ℕ) where
   neither : 0 ≡ refusal_of r → (r.wrong ≡ false) × (r.cut ≡ false)
   unfolding refusal_of
   neither zero =
-      by_test r.wrong (λ wrong. absurd (numbered e (sym (rw wrong at zero))))
+      by_test r.wrong (λ wrong. absurd (refused_number e (sym (rw wrong at zero))))
       (λ right. by_test r.cut (λ cut. absurd (omega (arith, rw (right, cut) at zero))) (λ whole. (right, whole)))
 
   pub unrefused : 0 ≡ refusal_of r → (said.header_wrong ≡ false) × PortsThere said.has_ports (after_header said q)
   unrefused zero = let told = neither zero in (told.0, ports_there said.has_ports (after_header said q) told.1)
 
-  module _ (buffer : List ℕ) where
-    pub keyed_3 : length buffer ≢ width → kept 3 buffer ≡ keyed r buffer
-    keyed_3 other = rw (ne_eqb (length buffer) width other)
+  module _ (buffer : List ℕ) (right_length : length buffer ≡ width) where
+    pub keyed_refused : (told : Refusal) → number_of told ≡ refusal_of r → kept (number_of told) buffer ≡ keyed r buffer
+    unfolding refusal_of
+    keyed_refused told is =
+        rw (eq-eqb (length buffer) width right_length)
+        (by_test r.wrong (λ wrong. rw wrong (ap (λ (m : ℕ). kept m buffer) (rw wrong at is)))
+        (λ right. by_test r.cut (λ cut. rw (right, cut) (ap (λ (m : ℕ). kept m buffer) (rw (right, cut) at is)))
+        (λ whole. absurd (refused_number told (rw (right, whole) at is)))))
 
-    module _ (right_length : length buffer ≡ width) where
-      pub keyed_refused : (told : Refusal) → number_of told ≡ refusal_of r → kept (number_of told) buffer ≡ keyed r buffer
-      unfolding refusal_of
-      keyed_refused told is =
-          rw (eq-eqb (length buffer) width right_length)
-          (by_test r.wrong (λ wrong. rw wrong (ap (λ (m : ℕ). kept m buffer) (rw wrong at is)))
-          (λ right. by_test r.cut (λ cut. rw (right, cut) (ap (λ (m : ℕ). kept m buffer) (rw (right, cut) at is)))
-          (λ whole. absurd (numbered told (rw (right, whole) at is)))))
-
-      pub keyed_0 : 0 ≡ refusal_of r → kept 0 r.key ≡ keyed r buffer
-      keyed_0 zero = let told = neither zero in rw (eq-eqb (length buffer) width right_length, told.0, told.1)
+    pub keyed_0 : 0 ≡ refusal_of r → kept 0 r.key ≡ keyed r buffer
+    keyed_0 zero = let told = neither zero in rw (eq-eqb (length buffer) width right_length, told.0, told.1)
