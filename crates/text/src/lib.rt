@@ -1,45 +1,47 @@
-// Fields of a line of text, one after another in a lent buffer.
+// Fields of a line of text, one after another in lent bytes.
 #![tactic(auto)]
 
-ghost use Rattle.std.specs.Prelude.{[], ◌∷◌, ◌++◌, ◌+◌, ◌≤◌, length};
+ghost use Rattle.std.specs.Prelude.{◌≡◌, [], ◌∷◌, ◌++◌, ◌+◌, ◌≤◌, length};
 ghost use Rattle.theory.specs.Flowrun.{decimal};
-ghost use Rattle.text.specs.Writing.{Writes, Appends};
+ghost use Rattle.text.specs.Writing.{Grows};
 
-use memory::parts::copy;
-
-// A number in decimal, and the byte after it, at the start of a buffer; how many bytes.
-fn write_decimal(to: &mut [u8], n: u64, after: u8) -> usize
-    requires { 21 ≤ length to.old }
-    ensures { Writes (decimal n ++ (after ∷ [])) to.old to.new result × (result ≤ 21) }
-{
-    let mut digits = [0u8; 20];
-    let k = io::decimal(n, &mut digits);
-    copy(&mut to[..k], &digits[..k]);
-    to[k] = after;
-    k + 1
+// Text at the start of lent bytes, and where it ends. std's `write!` into lent bytes can fail, and these can not.
+#[derive(Drop)]
+pub struct Text<'a> {
+    pub bytes: &'a mut [u8],
+    pub end: usize,
 }
 
-// A letter, and the byte after it, at the start of a buffer; how many bytes.
-fn write_letter(to: &mut [u8], letter: u8, after: u8) -> usize
-    requires { 2 ≤ length to.old }
-    ensures { Writes (letter ∷ after ∷ []) to.old to.new result × (result ≤ 2) }
-{
-    to[0] = letter;
-    to[1] = after;
-    2
-}
+impl Text<'_> {
+    // So many bytes more.
+    fn push(&mut self, more: &[u8])
+        requires { self.old.end + length more.now ≤ length self.old.bytes.now }
+        ensures { Grows more.now self.old self.new }
+    {
+        let at = self.end;
+        let end = at + more.len();
+        self.bytes[at..end].copy_from_slice(more);
+        self.end = end;
+    }
 
-// The same after text that ends at a place; where the text ends now.
-pub fn append_decimal(to: &mut [u8], at: usize, n: u64, after: u8) -> usize
-    requires { at + 21 ≤ length to.old }
-    ensures { Appends (decimal n ++ (after ∷ [])) to.old at to.new result × (at ≤ result) × (result ≤ at + 21) }
-{
-    at + write_decimal(&mut to[at..], n, after)
-}
+    // A number in decimal, and the byte after it.
+    pub fn push_decimal(&mut self, n: u64, after: u8)
+        requires { self.old.end + 21 ≤ length self.old.bytes.now }
+        ensures grows { Grows (decimal n ++ (after ∷ [])) self.old self.new }
+        ensures few { self.new.end ≤ self.old.end + 21 }
+    {
+        let mut digits = [0u8; 20];
+        let k = io::decimal(n, &mut digits);
+        self.push(&digits[..k]);
+        self.push(&[after]);
+    }
 
-pub fn append_letter(to: &mut [u8], at: usize, letter: u8, after: u8) -> usize
-    requires { at + 2 ≤ length to.old }
-    ensures { Appends (letter ∷ after ∷ []) to.old at to.new result × (at ≤ result) × (result ≤ at + 2) }
-{
-    at + write_letter(&mut to[at..], letter, after)
+    // A letter, and the byte after it.
+    pub fn push_letter(&mut self, letter: u8, after: u8)
+        requires { self.old.end + 2 ≤ length self.old.bytes.now }
+        ensures grows { Grows (letter ∷ after ∷ []) self.old self.new }
+        ensures few { self.new.end ≤ self.old.end + 2 }
+    {
+        self.push(&[letter, after]);
+    }
 }
