@@ -1,4 +1,4 @@
--- H byte by byte: what a loop up the key's bytes with a table asks, and what straight code down the bytes with the constant rows asks.
+-- H byte by byte: what a loop up the key's bytes asks, with a table and with the rows.
 use mathlib.Core.Path.{◌≡◌, refl, sym, ap, ap₂, ◌∙◌}
 use mathlib.Core.Bool.{true}
 use mathlib.Core.Logic.{⊎_elim}
@@ -12,15 +12,13 @@ use lib.ListN.{length, get_or, take, drop, drop_of_length-le}
 use lib.Seq.{drop-cons, take_all}
 use borrow.Author.Tests.{eqb-true, eqb-false, eq-eqb, ne_eqb}
 use Rattle.theory.specs.Lists.{has}
-use Rattle.theory.specs.Hash.{rows_of, H_from, H}
+use Rattle.theory.specs.Hash.{if_set, rows_of, H_from, H}
 use Rattle.theory.specs.Settings.{ipv4_width}
 use Rattle.theory.proofs.ListLaws.{by_test}
 use Rattle.hash.specs.Digits.{TableRight, table_length}
 use Rattle.hash.specs.Table.{table_lengths, TableFor, halves, H_by_from, H_by, xor_set}
-use Rattle.hash.proofs.Constants.{rows}
 use Rattle.hash.proofs.Xor.{xor_assoc}
 use Rattle.hash.proofs.SplitLaws.{rows_split}
-use Rattle.hash.proofs.RowLaws.{byte_is}
 use Rattle.hash.proofs.LentTableLaws.{lent_length, half_length}
 
 -- ---- a loop up the key: h is of the digits before digit a, of all of which the table gives `all`
@@ -121,16 +119,26 @@ module _ (w : ℕ) (t : List ℕ) where
       let half = (half_length (length t) w allowed (rw e at other)).1 in
       by_half_is t key other ∙ halves_right (right.by_half half) 0 key longest bytes)
 
--- ---- H from the last byte to the first by the constant rows, of a part of n bytes whose byte i is byte a + i of the key:
--- b is of byte i by its eight rows, and h of the bytes after it
-module _ (a n : ℕ) (part : List ℕ) (e : length part ≡ n) (within : 8 * (a + n) ≤ length rows) where
-  pub byte_more : (i : ℕ) → i < n → {b h : ℕ} → b ≡ xor_set (take 8 (drop (8 * (a + i)) rows)) (get_or part i 0)
-      → h ≡ H_from (suc (a + i)) (drop (suc i) part) → bit_xor b h ≡ H_from (a + i) (drop i part)
-  unfolding H_from
-  byte_more i hi eb eh =
-      ap₂ bit_xor (eb ∙ byte_is (a + i) (omega arith) (get_or part i 0)) eh ∙ ap (H_from (a + i)) (sym (drop-cons part i 0 (omega arith)))
+-- ---- a loop up the rows: h is of the rows before row i, and `bits` are those of v from bit i on
+module _ (rs : List ℕ) (i h bits all : ℕ) where
+  pub set_more : i < length rs → bit_xor h (xor_set (drop i rs) bits) ≡ all → {r : ℕ} → r ≡ if_set (bits % 2) (get_or rs i 0)
+      → bit_xor (bit_xor h r) (xor_set (drop (i + 1) rs) (bits / 2)) ≡ all
+  unfolding xor_set
+  set_more hi e is =
+      rw (is, add-one i) (xor_assoc h (if_set (bits % 2) (get_or rs i 0)) (xor_set (drop (suc i) rs) (bits / 2)) ∙ rw (drop-cons rs i 0 hi) at e)
 
-  pub byte_last : (i : ℕ) → n ≡ suc i → {b : ℕ} → b ≡ xor_set (take 8 (drop (8 * (a + i)) rows)) (get_or part i 0) → b ≡ H_from (a + i) (drop i part)
+  pub set_end : length rs ≤ i → bit_xor h (xor_set (drop i rs) bits) ≡ all → h ≡ all
+  unfolding xor_set
+  set_end hi e = sym (xor_zero_r h) ∙ rw (drop_of_length-le rs hi) at e
+
+-- ---- a loop up the key by the rows: h is of the bytes before byte i
+module _ (key : List ℕ) (i h all : ℕ) where
+  pub byte_more : i < length key → bit_xor h (H_from i (drop i key)) ≡ all → {b : ℕ} → b ≡ rows_of 8 (8 * i) (get_or key i 0)
+      → bit_xor (bit_xor h b) (H_from (i + 1) (drop (i + 1) key)) ≡ all
   unfolding H_from
-  byte_last i last {b} eb =
-      sym (xor_zero_r b) ∙ byte_more i (omega arith) eb (sym (ap (H_from (suc (a + i))) (drop_of_length-le part {i = suc i} (omega arith))))
+  byte_more hi e is =
+      rw (is, add-one i) (xor_assoc h (rows_of 8 (8 * i) (get_or key i 0)) (H_from (suc i) (drop (suc i) key)) ∙ rw (drop-cons key i 0 hi) at e)
+
+  pub byte_end : length key ≤ i → bit_xor h (H_from i (drop i key)) ≡ all → h ≡ all
+  unfolding H_from
+  byte_end hi e = sym (xor_zero_r h) ∙ rw (drop_of_length-le key hi) at e

@@ -1,23 +1,26 @@
 -- What the loops that look for a number and gather bucket numbers ask: repeats dropped with one number more, and zeros after the numbers.
-use mathlib.Core.Path.{◌≡◌, refl}
+use mathlib.Core.Path.{◌≡◌, refl, sym}
 use mathlib.Core.Bool.{Bool, true, false, cond, ◌||◌, or-false}
 use mathlib.Core.List.{List, [], ◌∷◌, ◌++◌, map, map-append, append-nil}
-use Prim.Native.Nat.{ℕ, zero, suc, ◌+◌, ◌-◌, ◌<◌, ◌≤◌}
+use Prim.Native.Nat.{ℕ, zero, suc, ◌+◌, ◌-◌, ◌<◌}
 use native.Mathlib.Numerals.{add-one}
 use native.Mathlib.Omega.{arith}
 use lib.Dec.{eqb}
-use lib.ListN.{length, take, drop, get_or, set, replicate, drop_of_length-le}
-use lib.Seq.{drop-cons, take-suc-set}
+use borrow.Author.Tests.{eqb-true, eqb-false, eq-eqb, ne_eqb}
+use lib.ListN.{length, take, drop, set, replicate}
+use lib.Seq.{take-suc-set}
+use Rattle.std.specs.List.{list_any}
 use Rattle.theory.specs.Lists.{upto, has, fresh}
 use Rattle.theory.proofs.ListLaws.{by_test}
 use Rattle.theory.proofs.GrowingLaws.{upto_more}
 
--- ---- a loop that looks for a number
-pub has_from : (x : ℕ) (l : List ℕ) (i : ℕ) → i < length l → has x (drop i l) ≡ (eqb x (get_or l i 0) || has x (drop (i + 1) l))
-has_from x l i h = rw (add-one, drop-cons l i 0 h)
+-- ---- std's test whether a list holds a number
+eqb_swap : (x y : ℕ) → eqb y x ≡ eqb x y
+eqb_swap x y = by_test (eqb x y) (λ e. rw (e, eq-eqb y x (sym (eqb-true x y e)))) (λ e. rw (e, ne_eqb y x (λ q. eqb-false x y e (sym q))))
 
-pub has_end : (x : ℕ) (l : List ℕ) (i : ℕ) → length l ≤ i → has x (drop i l) ≡ false
-has_end x l i h = rw (drop_of_length-le l h)
+pub has_by_any : (x : ℕ) (l : List ℕ) → list_any (λ y. eqb y x) l ≡ has x l
+has_by_any x [] = refl
+has_by_any x (y ∷ ys) = rw (eqb_swap x y, has_by_any x ys)
 
 -- ---- repeats dropped, with one number more
 or_swap : (a b c : Bool) → ((a || b) || c) ≡ (b || (a || c))

@@ -2,7 +2,7 @@
 use mathlib.Core.Path.{◌≡◌, refl, sym, ap, ap₂, ◌∙◌, subst}
 use mathlib.Core.Bool.{Bool, true, ◌&&◌}
 use mathlib.Core.List.{List, [], ◌∷◌, map}
-use Prim.Native.Nat.{ℕ, zero, suc, ◌+◌, ◌*◌, ◌/◌, ◌%◌, ◌≤◌}
+use Prim.Native.Nat.{ℕ, zero, suc, ◌+◌, ◌-◌, ◌*◌, ◌/◌, ◌%◌, ◌≤◌, ◌<◌}
 use native.Mathlib.Nat.{le_of_suc-le-suc, zero-add, add-zero, suc-add, add-suc}
 use native.Mathlib.Omega.{arith}
 use lib.Dec.{eqb}
@@ -79,3 +79,11 @@ byte_is a within v =
     let eight : 8 ≤ length (drop (8 * a) rows) = rw length-drop (omega arith) in
     let here : From (8 * a) (drop (8 * a) rows) = rw zero-add at (from_drop (8 * a) 0 rows (omega arith) rows_from) in
     xor_set_rows 8 (8 * a) (drop (8 * a) rows) eight here v
+
+-- as code lends them, out of the rows of the longest key
+pub lent_rows : (rs : List ℕ) → rs ≡ map row (upto 0 (8 * ipv6_width)) → (a : ℕ) → a < ipv6_width → (v : ℕ)
+    → xor_set (take (8 * a + 8 - 8 * a) (drop (8 * a) rs)) v ≡ rows_of 8 (8 * a) v
+lent_rows rs e a h v =
+    let eight : 8 * a + 8 - 8 * a ≡ 8 = omega arith in
+    let within : 8 * a + 8 ≤ length rows = rw length_rows (omega arith) in
+    rw eight (ap (λ (l : List ℕ). xor_set (take 8 (drop (8 * a) l)) v) (e ∙ sym rows_are) ∙ byte_is a within v)

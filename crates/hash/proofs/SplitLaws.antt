@@ -1,15 +1,14 @@
 -- H splits at any byte, and the rows of a digit at any bit; zeros give nothing.
 use mathlib.Core.Path.{◌≡◌, refl, sym, ap, ap₂, ◌∙◌}
-use mathlib.Core.List.{List, [], ◌∷◌}
-use Prim.Native.Nat.{ℕ, zero, suc, ◌+◌, ◌*◌, ◌/◌, ◌%◌, ◌^◌, ◌≤◌}
+use mathlib.Core.List.{[], ◌∷◌}
+use Prim.Native.Nat.{ℕ, zero, suc, ◌+◌, ◌*◌, ◌/◌, ◌%◌, ◌^◌}
 use native.Mathlib.Nat.{add-zero, suc-add, zero-add, add-suc, pow-suc, pow-succ', div-one, div-div-eq-div-mul}
 use native.Mathlib.Omega.{arith}
 use lib.Arith.{mod-mul}
 use lib.Dec.{lit<}
 use lib.Pow.{pow_pos}
 use lib.Bits.{bit_xor, xor_zero_l, xor_zero_r}
-use lib.ListN.{length, take, drop, replicate, take-append-drop}
-use lib.Seq.{length-take-le}
+use lib.ListN.{length, replicate}
 use Rattle.theory.specs.Hash.{row, if_set, rows_of, H_from, H}
 use Rattle.hash.specs.Widths.{HSplits, HZeros}
 use Rattle.hash.proofs.Xor.{xor_assoc}
@@ -21,11 +20,6 @@ h_splits a (x ∷ xs) ys =
     let next : suc a + length xs ≡ a + suc (length xs) = suc-add a (length xs) ∙ sym (add-suc a (length xs)) in
     rw (h_splits (suc a) xs ys, next)
     (sym (xor_assoc (rows_of 8 (8 * a) x) (H_from (suc a) xs) (H_from (a + suc (length xs)) ys)))
-
-pub h_cut : (a n : ℕ) (key : List ℕ) → n ≤ length key → H_from a key ≡ bit_xor (H_from a (take n key)) (H_from (a + n) (drop n key))
-h_cut a n key h =
-    ap (H_from a) (sym (take-append-drop n key)) ∙ h_splits a (take n key) (drop n key)
-    ∙ ap (λ (m : ℕ). bit_xor (H_from a (take n key)) (H_from (a + m) (drop n key))) (length-take-le n key h)
 
 zero_rows : (n i : ℕ) → rows_of n i 0 ≡ 0
 unfolding rows_of if_set

@@ -4,19 +4,15 @@ ghost use Rattle.theory.specs.Hash.{H as H_of};
 ghost use Rattle.hash.specs.Digits.{TableRight, table_length};
 ghost use Rattle.hash.specs.Table.{halves, H_by_from};
 
-use memory::numbers::wide;
-
 // One read a byte; a right table gives H.
 pub fn by_bytes(table: &[u64], key: &[u8]) -> u64
     requires { table_length 8 (length key.now) ≤ length table.now }
-    ensures { (result ≡ H_by_from 8 table.now 0 key.now)
-        × (TableRight 8 (length key.now) table.now → result ≡ H_of key.now) }
+    ensures entries { result ≡ H_by_from 8 table.now 0 key.now }
+    ensures right { TableRight 8 (length key.now) table.now → result ≡ H_of key.now }
 {
     let mut h: u64 = 0;
-    let mut i: usize = 0;
-    while i < key.len() {
-        h = h ^ table[i * 256 + wide(key[i])];
-        i += 1;
+    for (i, &v) in key.iter().enumerate() {
+        h ^= table[i * 256 + usize::from(v)];
     }
     h
 }
@@ -27,11 +23,9 @@ pub fn by_halves(table: &[u64], key: &[u8]) -> u64
     ensures { result ≡ H_by_from 4 table.now 0 (halves key.now) }
 {
     let mut h: u64 = 0;
-    let mut i: usize = 0;
-    while i < key.len() {
-        let v = wide(key[i]);
+    for (i, &byte) in key.iter().enumerate() {
+        let v = usize::from(byte);
         h = h ^ table[i * 32 + v % 16] ^ table[i * 32 + 16 + v / 16];
-        i += 1;
     }
     h
 }

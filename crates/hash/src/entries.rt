@@ -1,5 +1,5 @@
 // Written by bin/hash-constants. Entry a * 256 + v: the xor of the rows of the set bits of byte value v at byte position a.
-pub const TABLE: [u64; 3328] = [
+pub static TABLE: [u64; 3328] = [
     0,
     8748534153485358512,
     3040900993826735515,

@@ -1,5 +1,5 @@
 // Written by bin/hash-constants. Entry h * 16 + v: the xor of the rows of the set bits of value v at half-byte h; the low half of byte a is 2 a.
-pub const HALF_TABLE: [u64; 1184] = [
+pub static HALF_TABLE: [u64; 1184] = [
     0,
     8748534153485358512,
     3040900993826735515,

@@ -17,11 +17,12 @@ ghost use Rattle.hash.specs.Digits.{TableRight, table_length, table_entries};
 ghost use Rattle.hash.specs.Table.{table_lengths, TableFor, lent_table, H_by};
 ghost use Rattle.hash.specs.Numbering.{Holds};
 
-use by_rows::{fill_by_byte, first_bytes, last_bytes, middle_bytes};
+use by_rows::{fill_by_byte, key_by_rows};
 use by_table::{by_bytes, by_halves};
 use settings::Settings;
 
 // A step of xorshift64 (Marsaglia, 2003).
+#[tactic(auto, unfolding(theory::specs::Hash::xorshift64))]
 pub fn step(s: u64) -> u64
     ensures { result ≡ xorshift64 s }
 {
@@ -33,19 +34,21 @@ pub fn step(s: u64) -> u64
 // "an entry for each of 13 byte positions and 256 byte values"
 pub const TABLE_LENGTH: usize = 3328;
 
+// An entry for each of 74 half-bytes and 16 values.
+const HALF_TABLE_LENGTH: usize = 1184;
+
 // The table of H for keys of 13 bytes.
-// Today's compiler rebuilds a constant array on the stack at each read, so callers make the table once here and lend it.
-pub fn table() -> [u64; 3328]
-    ensures { TableRight 8 ipv4_width result }
+pub fn table() -> &'static [u64; 3328]
+    ensures { TableRight 8 ipv4_width result.now }
 {
-    entries::TABLE
+    &entries::TABLE
 }
 
-// The table of H for keys of 37 bytes, with an entry for each of 74 half-bytes and 16 values.
-pub fn half_table() -> [u64; 1184]
-    ensures { TableRight 4 (2 * ipv6_width) result }
+// The table of H for keys of 37 bytes, by half-byte.
+pub fn half_table() -> &'static [u64; 1184]
+    ensures { TableRight 4 (2 * ipv6_width) result.now }
 {
-    half_entries::HALF_TABLE
+    &half_entries::HALF_TABLE
 }
 
 // A lent table of this length is allowed for keys of this width.
@@ -59,36 +62,24 @@ pub fn table_length_right(length: usize, width: usize) -> bool
     (length == width * 256) | (length == width * 32)
 }
 
-// Writes the table by half-byte, made once, to a lent slice.
-fn fill_by_half(out: &mut [u64])
-    requires { length out.old ≡ table_length 4 (2 * ipv6_width) }
-    ensures { out.new ≡ table_entries 4 (2 * ipv6_width) }
-{
-    let t = half_table();
-    let mut i: usize = 0;
-    while i < out.len() {
-        out[i] = t[i];
-        i += 1;
-    }
-}
-
 // Writes the right table of a lent slice's length.
 pub fn fill_table(width: usize, out: &mut [u64])
-    requires { KeyWidth width × (has (length out.old) (table_lengths width) ≡ true) }
+    requires width { KeyWidth width }
+    requires size { has (length out.old) (table_lengths width) ≡ true }
     ensures { out.new ≡ lent_table width (length out.old) }
 {
-    if out.len() == width * 256 {
-        fill_by_byte(width, out);
+    if out.len() == HALF_TABLE_LENGTH {
+        out.copy_from_slice(half_table());
     } else {
-        fill_by_half(out);
+        fill_by_byte(width, out);
     }
 }
 
 // The xor of a lent table's entries for a key, with one read a byte or two by the table's length; a right table gives H.
 pub fn h_with_table(table: &[u64], key: &[u8]) -> u64
     requires { has (length table.now) (table_lengths (length key.now)) ≡ true }
-    ensures { (result ≡ H_by table.now key.now)
-        × (TableFor (length key.now) table.now → result ≡ H_of key.now) }
+    ensures entries { result ≡ H_by table.now key.now }
+    ensures right { TableFor (length key.now) table.now → result ≡ H_of key.now }
 {
     if table.len() == key.len() * 256 {
         by_bytes(table, key)
@@ -102,16 +93,13 @@ pub fn h_rows(key: &[u8]) -> u64
     requires { KeyWidth (length key.now) }
     ensures { result ≡ H_of key.now }
 {
-    let first = first_bytes(&key[..Settings::IPV4_WIDTH]);
-    if key.len() < Settings::IPV6_WIDTH {
-        return first;
-    }
-    first ^ (middle_bytes(&key[Settings::IPV4_WIDTH..25]) ^ last_bytes(&key[25..]))
+    key_by_rows(key)
 }
 
 // Hash j of a key whose H is h, for 2^p buckets.
 pub fn hash_at(h: u64, j: usize, p: usize) -> u16
-    requires { (j < 4) × (p ≤ 12) }
+    requires few { j < 4 }
+    requires power { p ≤ 12 }
     ensures { result ≡ hash (2 ^ p) h j }
 {
     ((h >> (16 * j)) % (1 << p)) as u16
@@ -125,11 +113,9 @@ pub fn repeats(h: u64, j: usize, m: u64, b: u64) -> bool
     // H from hash i on
     let mut rest = h;
     let mut seen = false;
-    let mut i: usize = 0;
-    while i < j {
+    for _ in 0..j {
         seen = seen | (b == rest % m);
-        rest = rest / 65536;
-        i += 1;
+        rest /= 65536;
     }
     seen
 }
@@ -141,35 +127,20 @@ pub struct Numbers {
     pub count: usize,
 }
 
-// x is one of the numbers.
-fn among(l: &[u16], x: u16) -> bool
-    ensures { result ≡ has x l.now }
-{
-    let mut i: usize = 0;
-    while i < l.len() {
-        if l[i] == x {
-            return true;
-        }
-        i += 1;
-    }
-    false
-}
-
 // The bucket numbers of a key whose H is h: its first k hashes, repeats dropped. Both ways to H share it.
 pub fn numbers_of(h: u64, p: usize, k: usize) -> Numbers
-    requires { (p ≤ 12) × (k ≤ 4) }
+    requires power { p ≤ 12 }
+    requires few { k ≤ 4 }
     ensures { Holds result (numbers_of (2 ^ p) k h) }
 {
     let mut at = [0u16; 4];
     let mut count: usize = 0;
-    let mut j: usize = 0;
-    while j < k {
+    for j in 0..k {
         let x = hash_at(h, j, p);
-        if !among(&at[..count], x) {
+        if !at[..count].contains(&x) {
             at[count] = x;
             count += 1;
         }
-        j += 1;
     }
     Numbers { at, count }
 }

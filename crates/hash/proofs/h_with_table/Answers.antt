@@ -1,9 +1,5 @@
--- `hash::h_with_table` meets its contract: the table's length says which way it is read.
-use mathlib.Core.Path.{refl, sym, ◌∙◌}
-use mathlib.Core.Logic.{⊎_elim}
-use native.Mathlib.Omega.{arith}
-use borrow.Author.Rules.{rules}
-use lib.ListN.{length}
+-- The table's length says which way it is read.
+use Rattle.std.proofs.Common.{length, refl, sym, ◌∙◌, ⊎_elim, arith, rules}
 use Rattle.hash.proofs.LentTableLaws.{lent_length, half_length}
 use Rattle.hash.proofs.KeyHashLaws.{by_byte_is, by_half_is, by_right}
 use Rattle.hash.proofs.h_with_table.Goals as goal
@@ -14,12 +10,13 @@ overflow_mul-key c = ⊎_elim (λ e. search rules) (λ e. search rules) (lent_le
 pub by_halves-requires : goal.by_halves-requires
 by_halves-requires c = let e = half_length (length c.args.table.now) (length c.args.key.now) c.requires c.if-table-key.false in omega arith
 
-pub returns-then-table-key : goal.returns-then-table-key
-returns-then-table-key c =
-    let e = c.by_bytes.ensures.0 ∙ sym (by_byte_is c.args.table.now c.args.key.now c.if-table-key.true) in
-    (e, λ right. e ∙ by_right (length c.args.key.now) c.args.table.now right c.requires c.args.key.now refl (λ j. omega (arith, c.type_inv.key j)))
+pub returns-then-table-key-clause-entries : goal.returns-then-table-key-clause-entries
+returns-then-table-key-clause-entries c = c.by_bytes.ensures.entries ∙ sym (by_byte_is c.args.table.now c.args.key.now c.if-table-key.true)
 
-pub returns-else-table-key : goal.returns-else-table-key
-returns-else-table-key c =
-    let e = c.by_halves.ensures ∙ sym (by_half_is c.args.table.now c.args.key.now c.if-table-key.false) in
-    (e, λ right. e ∙ by_right (length c.args.key.now) c.args.table.now right c.requires c.args.key.now refl (λ j. omega (arith, c.type_inv.key j)))
+pub returns-else-table-key-clause-entries : goal.returns-else-table-key-clause-entries
+returns-else-table-key-clause-entries c = c.by_halves.ensures ∙ sym (by_half_is c.args.table.now c.args.key.now c.if-table-key.false)
+
+pub returns-else-table-key-clause-right : goal.returns-else-table-key-clause-right
+returns-else-table-key-clause-right c = λ right.
+    c.by_halves.ensures ∙ sym (by_half_is c.args.table.now c.args.key.now c.if-table-key.false)
+    ∙ by_right (length c.args.key.now) c.args.table.now right c.requires c.args.key.now refl (λ j. omega (arith, c.type_inv.key j))
