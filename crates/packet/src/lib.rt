@@ -33,7 +33,7 @@ pub trait Version {
 
     ghost WRONG_HEADER: { Refusal };
 
-    // Bytes that each header has, what a packet says, and what its reader is answered.
+    // Bytes of a header's fixed part, what a packet says, and what its reader is answered.
     ghost fixed: { ℕ };
 
     ghost said: { List ℕ → Said };
@@ -65,6 +65,8 @@ pub trait Version {
         requires { fixed ≤ length packet.now }
         ensures { result ≡ (said packet.now).protocol };
 
+    // What each version shows: the fixed part of a header that is not wrong is there, and the header ends within the packet; a key has two addresses and five
+    // bytes more; and its reader is answered by what the packet says.
     ghost fixed_there: { (q : List ℕ) → (said q).header_wrong ≡ false → fixed ≤ length q };
 
     ghost end_within: { (q : List ℕ) → (said q).header_wrong ≡ false → (said q).header_length ≤ length q };
