@@ -6,13 +6,11 @@ use Rattle.theory.specs.Records.{to_bytes, record_bytes}
 use Rattle.theory.specs.Settings.{in_range, ipv4_width}
 use Rattle.theory.specs.BenchLoad.{Generator, draw, after_call, load_class, call_letter, load_key, load_call, call_bytes}
 use Rattle.theory.specs.BenchLoad.{draws, load_bytes, after_calls, load_in, load_asked, load_written}
-use Rattle.theory.proofs.BenchLoadLaws.{length_call, length_load, bytes_more, after_more, load_right, flows_allowed}
+use Rattle.theory.proofs.BenchLoadLaws.{length_call, length_load, bytes_more, after_more, load_right}
 use Rattle.memory.proofs.SliceLaws.{back, length_back, take_back, tail_back, length_tail, front_length, front_take}
 use Rattle.bench_load.specs.declared.Generator as code
 use Rattle.bench_load.specs.declared.BenchLoad.{BenchLoad}
-use Rattle.bench_load.specs.declared.Asked.{Asked}
-use Rattle.bench_load.specs.declared.Asked.TheVariants.{Load}
-use Rattle.bench_load.specs.Loads.{generator_of, load_of, asked_of, drawn, Cut}
+use Rattle.bench_load.specs.Loads.{generator_of, load_of, drawn, Cut}
 
 -- a first number that is none of 0, 1, 2 modulo 4 asks for a search
 pub search_letter : (flows first second : ℕ) → first % 4 ≢ 0 → first % 4 ≢ 1 → first % 4 ≢ 2 → 83 ≡ call_letter (load_call flows (drawn first second))
@@ -66,17 +64,15 @@ module _ (to : List ℕ) (letter : ℕ) (size : length to ≡ 18) where
         rw (tail_back 14 (keyed to letter key) class (omega (arith, keyed_long)))
         (rw (take_back 1 ipv4_width (lettered to letter) key (omega (arith, lettered_long)) e, letter_first to size, append_assoc))
 
--- ---- a buffer of n bytes up to `at`: so many calls from g, and the generator after them
-pub record Filled (flows : ℕ) (g : Generator) (n : ℕ) (to : List ℕ) (now : Generator) (at : ℕ) : Type 0 where
+-- ---- the first i calls from g in a buffer of n bytes, and the generator after them
+pub record Filled (flows : ℕ) (g : Generator) (n : ℕ) (to : List ℕ) (now : Generator) (i : ℕ) : Type 0 where
   pub long : length to ≡ n
-  pub inside : at ≤ n
-  pub whole : at ≡ 18 * (at / 18)
-  pub front : take at to ≡ load_bytes flows (at / 18) g
-  pub after : now ≡ after_calls (at / 18) g
+  pub front : take (i * 18) to ≡ load_bytes flows i g
+  pub after : now ≡ after_calls i g
 
 pub filled_none : (flows : ℕ) (g : Generator) (to : List ℕ) → Filled flows g (length to) to g 0
 unfolding load_bytes draws after_calls
-filled_none flows g to = record { long = refl; inside = omega arith; whole = refl; front = refl; after = refl }
+filled_none flows g to = record { long = refl; front = refl; after = refl }
 
 -- one call more
 one_call : (flows : ℕ) (g : Generator) → load_bytes flows 1 g ≡ call_bytes flows (draw g)
@@ -87,40 +83,28 @@ one_after : (g : Generator) → after_calls 1 g ≡ after_call g
 unfolding after_calls
 one_after g = refl
 
-module _ {flows : ℕ} {g : Generator} {n : ℕ} {to : List ℕ} {now : Generator} {at : ℕ} (x : Filled flows g n to now at) where
-  -- before the end there is room for a call
-  pub room_for_call : n % 18 ≡ 0 → at < n → at + 18 ≤ n
-  room_for_call e h = omega (arith, x.whole)
-
-  pub filled_more : at + 18 ≤ n → (call : List ℕ) (later : Generator) → call ≡ call_bytes flows (draw now) → later ≡ after_call now
-      → Filled flows g n (back at (at + 18 - at) to call) later (at + 18)
-  filled_more fits call later e f =
-      let more : (at + 18) / 18 ≡ at / 18 + 1 = omega (arith, x.whole) in
+module _ {flows : ℕ} {g : Generator} {n : ℕ} {to : List ℕ} {now : Generator} {i : ℕ} (x : Filled flows g n to now i) where
+  pub filled_more : i < n / 18 → (call : List ℕ) (later : Generator) → call ≡ call_bytes flows (draw now) → later ≡ after_call now
+      → Filled flows g n (back (i * 18) (i * 18 + 18 - i * 18) to call) later (i + 1)
+  filled_more h call later e f =
       let size : length call ≡ 18 = rw (e, length_call flows (draw now)) in
-      let room : at + 18 ≤ length to = omega (arith, x.long) in
+      let room : i * 18 + 18 ≤ length to = omega (arith, x.long) in
+      let next : (i + 1) * 18 ≡ i * 18 + 18 = omega arith in
       record {
-        long = rw add-sub_cancel_left (length_back at 18 to call room size ∙ x.long);
-        inside = fits;
-        whole = omega (arith, x.whole, more);
-        front = rw (add-sub_cancel_left, take_back at 18 to call room size, x.front, more, bytes_more flows (at / 18) 1 g, ← x.after, one_call flows now, e);
-        after = rw (f, more, after_more (at / 18) 1 g, ← x.after, one_after now);
+        long = rw add-sub_cancel_left (length_back (i * 18) 18 to call room size ∙ x.long);
+        front = rw (next, add-sub_cancel_left, take_back (i * 18) 18 to call room size, x.front, bytes_more flows i 1 g, ← x.after, one_call flows now, e);
+        after = rw (f, after_more i 1 g, ← x.after, one_after now);
       }
 
-  pub filled_all : n ≤ at → (to ≡ load_bytes flows (n / 18) g) × (now ≡ after_calls (n / 18) g)
-  filled_all ended =
-      let end : n ≡ at = omega (arith, x.inside) in
-      let all : take at to ≡ to = take_all at to (omega (arith, x.long)) in
-      (rw (← all, end) x.front, rw end x.after)
+  -- all calls that the buffer holds
+  pub filled_all : n % 18 ≡ 0 → i ≡ n / 18 → to ≡ load_bytes flows (n / 18) g
+  filled_all whole e = sym (take_all (i * 18) to (omega (arith, x.long))) ∙ (x.front ∙ ap (λ k. load_bytes flows k g) e)
 
 -- ---- the load of an input, by its four numbers
 pub asked_is : (b : List ℕ) (s w flows count : ℕ) → s ≡ (load_in b).generator.s → w ≡ (load_in b).generator.w → flows ≡ (load_in b).flows
     → count ≡ (load_in b).count → length b ≡ 32 → s ≢ 0 → in_range 1 4096 flows ≡ true
     → some (load_of (record { generator = record { s = s; w = w }; flows = flows; count = count })) ≡ load_asked b
 asked_is b s w flows count e f g h long nonzero allowed = rw (e, f, g, h) (sym (load_right b long (rw e at nonzero) (rw g at allowed)))
-
--- a load that was read has a flow
-pub flows_read : (b : List ℕ) (r : Asked) → asked_of r ≡ load_asked b → (x : BenchLoad) → r ≡ Load x → 0 < x.flows
-flows_read b r e x arm = (flows_allowed b (load_of x) (sym e ∙ ap asked_of arm)).0
 
 -- ---- a load cut in two: n of its calls in a buffer, as many as it holds or all of them, and the load that is left
 pub cut_by : (x : BenchLoad) (to : List ℕ) (n : ℕ) (piece : List ℕ) (later : code.Generator) → n ≡ min (length to / 18) x.count
