@@ -2,37 +2,35 @@
 // 3,640 calls; crate bench_load judges the input and makes the calls, and crate streams reads and writes.
 #![tactic(auto)]
 
-ghost use Rattle.std.specs.Prelude.{◌<◌, ◌≤◌, length};
+ghost use Rattle.std.specs.Prelude.{◌≤◌, length};
 
-use bench_load::{Asked, BenchLoad};
-use streams::Got;
+use bench_load::BenchLoad;
+use streams::Failed;
 
-// Writes the calls of a load, as many at a time as the buffer holds. It stops where they are not taken.
-fn write_calls(rt: &HostRuntime, load: BenchLoad, buffer: &mut [u8])
-    requires { (0 < load.flows) × (18 ≤ length buffer.old) }
+// Writes the calls of a load, as many at a time as the buffer holds. It stops where they are not taken. No `for`: the load says when none is left.
+fn write_calls(rt: &HostRuntime, load: BenchLoad, buffer: &mut [u8]) -> Result<(), Failed>
+    requires { 18 ≤ length buffer.old }
 {
     let mut left = load;
     while left.count > 0 {
-        let piece = bench_load::next_piece(buffer, left);
-        let bytes = piece.bytes;
-        if !streams::write_all(rt, &buffer[..bytes]) {
-            return;
-        }
-        left = piece.rest;
+        let bytes = left.next_piece(buffer);
+        streams::write_all(rt, &buffer[..bytes])?;
     }
+    Ok(())
 }
 
 // "15 ..; nothing is then written": one byte more than a load has is asked for, so that a longer input is seen.
-fn main(rt: HostRuntime) {
+fn write_load(rt: &HostRuntime) -> Result<(), Failed> {
     let mut input = [0u8; 33];
-    let read = streams::read_full(&rt, &mut input);
-    let Got::Bytes(got) = read else {
-        return;
-    };
-    let asked = bench_load::read_load(&input[..got]);
-    let Asked::Load(load) = asked else {
-        return;
+    let got = streams::read_full(rt, &mut input)?.unwrap_or(0);
+    let Ok(load) = bench_load::read_load(&input[..got]) else {
+        return Ok(());
     };
     let mut buffer = io::large_buffer();
-    write_calls(&rt, load, &mut buffer);
+    write_calls(rt, load, &mut buffer)
+}
+
+// What fails is said where it fails.
+fn main(rt: HostRuntime) {
+    let _ = write_load(&rt);
 }
