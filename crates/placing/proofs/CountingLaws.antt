@@ -1,9 +1,9 @@
 -- What the loops that count ask: what passes a test, with one element more, and a count raised once for each bucket number of a key.
 -- By the last element of a list that grows at its end.
 use mathlib.Core.Path.{◌≡◌}
-use mathlib.Core.Bool.{Bool, true, false, cond, ◌||◌, or-false}
+use mathlib.Core.Bool.{cond, ◌||◌, or-false}
 use mathlib.Core.List.{List, map, map-append}
-use Prim.Native.Nat.{ℕ, ◌+◌, ◌-◌, ◌<◌, ◌≤◌}
+use Prim.Native.Nat.{ℕ, ◌+◌, ◌-◌, ◌<◌}
 use native.Mathlib.Nat.{add-zero}
 use native.Mathlib.Omega.{arith}
 use lib.Dec.{eqb}
@@ -15,14 +15,6 @@ use Rattle.theory.specs.Hash.{hash, hashes}
 use Rattle.theory.proofs.ListLaws.{by_test}
 use Rattle.theory.proofs.GrowingLaws.{upto_more, any_last}
 use Rattle.placing.specs.Worked.{nth}
-
-pub one_bound : (t : Bool) → cond {A = ℕ} t 1 0 ≤ 1
-one_bound true = omega arith
-one_bound false = omega arith
-
-pub zero_bound : (t : Bool) → cond {A = ℕ} t 0 1 ≤ 1
-zero_bound true = omega arith
-zero_bound false = omega arith
 
 -- ---- a count raised
 pub raise : (c : List ℕ) (x v : ℕ) → x < length c → (b : ℕ) → nth (set c x (nth c x + v)) b ≡ nth c b + cond (eqb b x) v 0
@@ -41,9 +33,6 @@ pub record Raised (m h j : ℕ) (old c : List ℕ) : Type 0 where
   pub each : (b : ℕ) → nth c b ≡ nth old b + cond (has b (hashes m h 0 j)) 1 0
 
 module _ {m h j : ℕ} {old c : List ℕ} (so_far : Raised m h j old c) where
-  pub raised_few : (b : ℕ) → nth c b ≤ nth old b + 1
-  raised_few b = omega (arith, so_far.each b, one_bound (has b (hashes m h 0 j)))
-
   -- hash j, x, adds v: 0 where it repeats an earlier one
   pub raise_next : (x v w : ℕ) → x ≡ hash m h j → v ≡ cond (has x (hashes m h 0 j)) 0 1 → w ≡ nth c x + v → x < length c
       → Raised m h (j + 1) old (set c x w)

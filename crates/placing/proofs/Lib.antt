@@ -1,5 +1,5 @@
 pub mod CountingLaws
+pub mod PartLaws
 pub mod RecordCountLaws
 pub mod WorkLaws
 pub mod ReadyLaws
-pub mod PassedLaws

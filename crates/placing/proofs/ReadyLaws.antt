@@ -1,10 +1,10 @@
 -- What allowed settings and the right table give: the card is sound, and a key's bucket numbers and its choice are those of its hashes.
 -- From the laws of settings.
 use mathlib.Core.Path.{◌≡◌, sym, ◌∙◌}
-use mathlib.Core.Bool.{true, false}
+use mathlib.Core.Bool.{true}
 use mathlib.Core.Logic.{⊎_elim}
 use mathlib.Core.List.{List, map}
-use Prim.Native.Nat.{ℕ, ◌+◌, ◌*◌, ◌/◌, ◌%◌, ◌<◌, ◌≤◌}
+use Prim.Native.Nat.{ℕ, ◌+◌, ◌*◌, ◌/◌, ◌%◌, ◌≤◌}
 use native.Mathlib.Omega.{arith}
 use lib.Dec.{eqb}
 use lib.ListN.{length, take}
@@ -16,7 +16,7 @@ use Rattle.theory.specs.Settings.{ipv4_width, ipv6_width, allowed, card_of}
 use Rattle.theory.specs.Placing.{all_top, chosen}
 use Rattle.theory.proofs.RankLaws.{any_numbers, rank, rank_least, rank_chosen}
 use Rattle.theory.proofs.SettingsLaws.{ranges, Sound, sound}
-use Rattle.theory.proofs.PlacingLaws.{all_top_least, chosen_below}
+use Rattle.theory.proofs.PlacingLaws.{all_top_least}
 use Rattle.settings.specs.declared.Settings.{Settings}
 use Rattle.settings.specs.Checked.{paper, card}
 use Rattle.settings.proofs.Laws.{width_is, top_is, bounds}
@@ -24,7 +24,11 @@ use Rattle.hash.specs.Digits.{TableRight, table_length}
 use Rattle.hash.specs.Table.{table_lengths, TableFor}
 use Rattle.hash.specs.Made.{made_length, MadeFor}
 use Rattle.hash.proofs.LentTableLaws.{byte_length_allowed, half_length_allowed, table_for, half_table_for}
+use borrow.Author.Tests.{eq-eqb, ne_eqb}
+use Rattle.std.proofs.Common.{Some, None}
 use Rattle.placing.specs.Ready.{Ready}
+use Rattle.placing.specs.Worked.{choice_of}
+use Rattle.placing.proofs.RecordCountLaws.{none_chosen, some_chosen}
 
 -- ---- a key's bucket numbers are its hashes, repeats dropped
 module _ (t : plain.Settings) (h : ℕ) (key : List ℕ) (e : h ≡ H key) where
@@ -46,6 +50,31 @@ choice_by_rank t ok c m h best m_is is_least key e =
     let low = rank_least s c t.k h best (omega arith) (omega arith) least_is key (numbers_by t h key e) in
     (rw low (sym (all_top_least s c key ∙ rw (top_is t))), rank_chosen s c t.k h best (omega arith) (omega arith) least_is key (numbers_by t h key e))
 
+-- the key goes to the side, or else to the bucket
+module _ (t : plain.Settings) (ok : allowed t ≡ true) (c : ℕ → ℕ) (m h best : ℕ) (m_is : m ≡ (card_of t).buckets)
+    (is_least : best ≡ least (t.top * 65536 + m) (map (rank c) (hashes m h 0 t.k))) (key : List ℕ) (e : h ≡ H key) where
+  pub side_by_rank : best / 65536 ≡ t.top → None ≡ choice_of (card_of t) c key
+  side_by_rank top =
+      none_chosen (card_of t) c key (sym (choice_by_rank t ok c m h best m_is is_least key e).0 ∙ eq-eqb (best / 65536) t.top top)
+
+  pub bucket_by_rank : (best / 65536 ≡ t.top → ⊥) → Some (best % 65536) ≡ choice_of (card_of t) c key
+  bucket_by_rank other =
+      let by_rank = choice_by_rank t ok c m h best m_is is_least key e in
+      some_chosen (card_of t) c key (best % 65536) (sym by_rank.0 ∙ ne_eqb (best / 65536) t.top other) by_rank.1
+
+-- the numbers of a loop over a key's hashes are small
+pub record Few (s : Settings) (m : ℕ) : Type 0 where
+  pub some : 16 ≤ m
+  pub few : m ≤ 4096
+  pub hashes_few : s.k ≤ 4
+  pub top_few : s.top ≤ 15
+
+pub few : (s : Settings) → allowed (paper s) ≡ true → (m : ℕ) → m ≡ (card s).buckets → Few s m
+few s ok m m_is =
+    let b = bounds (paper s) ok in
+    let r = ranges (paper s) ok in
+    record { some = omega (arith, b.buckets_least); few = omega (arith, b.buckets_most); hashes_few = r.k_high; top_few = r.top_high }
+
 module _ (s : Settings) (t : List ℕ) (ready : Ready s t) where
   pub sound_card : Sound (card s)
   sound_card = sound (paper s) ready.ok
@@ -57,9 +86,6 @@ module _ (s : Settings) (t : List ℕ) (ready : Ready s t) where
 
     pub long_for : has (length t) (table_lengths (length k)) ≡ true
     long_for = rw wide ready.long
-
-  pub chosen_within : (c : ℕ → ℕ) (k : List ℕ) → all_top (card s) c k ≡ false → chosen (card s) c k < (card s).buckets
-  chosen_within c k e = chosen_below (card s) sound_card c k e
 
 -- ---- the table that a call makes: its entries are there, as many as it has
 module _ {w n : ℕ} (n_is : n ≡ made_length w) {t : List ℕ} (made : MadeFor w t) where

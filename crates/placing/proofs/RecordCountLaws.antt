@@ -1,23 +1,29 @@
 -- What the loops over the records of an area ask: the next record and its key, and what is counted of the records, with one record more.
 -- By the last record of a list that grows at its end.
-use mathlib.Core.Path.{◌≡◌, refl, sym, ◌∙◌}
-use mathlib.Core.Bool.{Bool, cond, not, ◌&&◌}
+use mathlib.Core.Path.{◌≡◌, refl, sym, ap, ◌∙◌}
+use mathlib.Core.Bool.{Bool, true, false, cond}
 use mathlib.Core.List.{List, [], ◌∷◌, ◌++◌, map-append}
 use Prim.Native.Nat.{ℕ, ◌+◌, ◌*◌, ◌<◌, ◌≤◌}
 use native.Mathlib.Nat.{add-zero}
 use native.Mathlib.Numerals.{add-one}
 use native.Mathlib.Omega.{arith}
-use lib.Dec.{eqb}
-use lib.ListN.{length, take, drop, set}
+use lib.ListN.{length, take, drop, set, replicate}
 use lib.Seq.{take-suc-set, take_all}
 use Rattle.theory.specs.Lists.{filter, has}
 use Rattle.theory.specs.Records.{Record, entries, record_at, records}
 use Rattle.theory.specs.Settings.{Card}
 use Rattle.theory.specs.Placing.{true_count, all_top, chosen, chooses, choosers}
-use Rattle.theory.proofs.ListLaws.{filter_len}
+use Rattle.theory.proofs.ListLaws.{by_test, filter_len}
 use Rattle.theory.proofs.GrowingLaws.{count_append, count_end, records_more}
 use Rattle.theory.proofs.ByteLaws.{length_records}
-use Rattle.placing.specs.Worked.{nth, choice_by, choices_by, Chose}
+use Rattle.memory.proofs.SliceLaws.{zero_at}
+use Rattle.std.proofs.Common.{Option, Some, None}
+use Rattle.std.specs.Option.{unwrap_or}
+use Rattle.placing.specs.Worked.{nth, choice_of, is_choice, choice_by, choices_by, Chose}
+
+-- ---- a slice that was filled with zeros
+pub zero : (n : ℕ) {l : List ℕ} → (((y : ℕ) → y ≡ 0 → y ≡ 0) → l ≡ replicate n 0) → (b : ℕ) → nth l b ≡ 0
+zero n filled b = rw (filled (λ y e. e)) (zero_at n b)
 
 -- ---- how many records pass a test of their key
 module _ (p : List ℕ → Bool) where
@@ -38,6 +44,24 @@ module _ (p : List ℕ → Bool) where
   pub kept_append : (l m : List Record) → kept (l ++ m) ≡ kept l + kept m
   kept_append l m = count_append (λ (r : Record). p r.key) l m
 
+-- ---- a key's choice, and which bucket it is
+module _ (s : Card) (c : ℕ → ℕ) (k : List ℕ) where
+  pub none_chosen : all_top s c k ≡ true → None ≡ choice_of s c k
+  unfolding choice_of
+  none_chosen e = rw e
+
+  pub some_chosen : (x : ℕ) → all_top s c k ≡ false → x ≡ chosen s c k → Some x ≡ choice_of s c k
+  unfolding choice_of
+  some_chosen x e f = rw (e, f)
+
+  chooses_is : (b : ℕ) → is_choice b (choice_of s c k) ≡ chooses s c b k
+  unfolding choice_of chooses
+  chooses_is b = by_test (all_top s c k) (λ e. rw e) (λ e. rw e)
+
+  pub choice_number : unwrap_or (choice_of s c k) s.buckets ≡ choice_by s c k
+  unfolding choice_of choice_by
+  choice_number = by_test (all_top s c k) (λ e. rw e) (λ e. rw e)
+
 -- ---- true counts
 module _ (s : Card) where
   pub count_none : (w : ℕ) (a : List ℕ) (b : ℕ) → true_count s (records w 0 a) b ≡ 0
@@ -52,12 +76,29 @@ module _ (s : Card) where
   unfolding true_count
   true_count_append l m b = kept_append (λ k. has b (s.numbers k)) l m
 
-  -- one record counted
-  pub count_more : (w i : ℕ) (a old c d : List ℕ) → ((b : ℕ) → nth c b ≡ nth old b + true_count s (records w i a) b)
-      → ((b : ℕ) → nth d b ≡ nth c b + cond (has b (s.numbers (take w (drop (i * (w + 4)) a)))) 1 0)
-      → (b : ℕ) → nth d b ≡ nth old b + true_count s (records w (i + 1) a) b
-  unfolding true_count
-  count_more w i a old c d f g b = rw (kept_more (λ k. has b (s.numbers k)) w i a) (omega (arith, f b, g b))
+  -- the counts after i records
+  pub record Counted (old part : List ℕ) (i : ℕ) (counts : List ℕ) : Type 0 where
+    pub same : length counts ≡ length old
+    pub each : (b : ℕ) → nth counts b ≡ nth old b + true_count s (records s.width i part) b
+
+  module _ (old part : List ℕ) where
+    pub counted_none : Counted old part 0 old
+    counted_none = record { same = refl; each = λ b. sym (rw (count_none s.width part b) (add-zero _)) }
+
+    -- one record counted
+    pub counted_more : (i : ℕ) (counts new : List ℕ) → Counted old part i counts → length new ≡ length counts
+        → ((b : ℕ) → nth new b ≡ nth counts b + cond (has b (s.numbers (take s.width (drop (i * (s.width + 4)) part)))) 1 0)
+        → Counted old part (i + 1) new
+    unfolding true_count
+    counted_more i counts new f long g =
+        record {
+          same = long ∙ f.same;
+          each = λ b. rw (kept_more (λ k. has b (s.numbers k)) s.width i part) (omega (arith, f.each b, g b));
+        }
+
+    -- the counts have room for as many as there are records
+    pub counted_few : (i n : ℕ) (counts : List ℕ) → Counted old part i counts → i ≤ n → ((b : ℕ) → nth old b + n ≤ 60000) → (b : ℕ) → nth counts b ≤ 60000
+    counted_few i n counts f le few b = omega (arith, f.each b, few b, count_bound s.width i part b)
 
   -- ---- choosers, by counts c
   module _ (c : ℕ → ℕ) where
@@ -74,44 +115,45 @@ module _ (s : Card) where
     unfolding record_at
     choices_more w i a = rw (records_more w i a, map-append)
 
-  pub chose_none : (m w : ℕ) (a work kept : List ℕ) → Chose s m (records w 0 a) work work (take 0 kept)
-  unfolding records entries choosers
-  chose_none m w a work kept = record { same = refl; more = λ b. sym (add-zero _); choices = refl }
+  module _ (counts : List ℕ) where
+    abbrev c : ℕ → ℕ
+    c = nth counts
 
-  pub chose_all : (m w i n : ℕ) (a old work kept : List ℕ) → Chose s m (records w i a) old work (take i kept) → i ≡ n → length kept ≡ n
-      → Chose s m (records w n a) old work kept
-  chose_all m w i n a old work kept chose e long = rw (e, take_all n kept (omega arith)) at chose
+    pub chose_none : (w : ℕ) (a old kept : List ℕ) → Chose s counts (records w 0 a) old old (take 0 kept)
+    unfolding records entries choosers
+    chose_none w a old kept = record { more = λ b. sym (add-zero _); kept = refl }
 
-  -- two lists that choose one after the other
-  pub chose_append : (m : ℕ) (l r : List Record) (old work new ys zs : List ℕ) → Chose s m l old work ys → Chose s m r work new zs
-      → Chose s m (l ++ r) old new (ys ++ zs)
-  chose_append m l r old work new ys zs f g =
-      record {
-        same = g.same ∙ f.same;
-        more = λ b. omega (arith, f.more b, rw f.same at (g.more b), choosers_append (nth (take m old)) l r b);
-        choices = rw (f.choices, g.choices, f.same, map-append);
-      }
+    pub chose_all : (w i n : ℕ) (a old new kept : List ℕ) → Chose s counts (records w i a) old new (take i kept) → i ≡ n → length kept ≡ n
+        → Chose s counts (records w n a) old new kept
+    chose_all w i n a old new kept chose e long = rw (e, take_all n kept (omega arith)) at chose
 
-  -- from zeros
-  pub chose_few : (m : ℕ) (l : List Record) (old work ys : List ℕ) → Chose s m l old work ys → ((b : ℕ) → nth (drop m old) b ≡ 0)
-      → (b : ℕ) → nth (drop m work) b ≤ length l
-  unfolding choosers
-  chose_few m l old work ys f zeros b = omega (arith, f.more b, zeros b, filter_len (λ r. chooses s (nth (take m old)) b r.key) l)
+    -- two lists that choose one after the other
+    pub chose_append : (l r : List Record) (old mid new ys zs : List ℕ) → Chose s counts l old mid ys → Chose s counts r mid new zs
+        → Chose s counts (l ++ r) old new (ys ++ zs)
+    chose_append l r old mid new ys zs f g =
+        record { more = λ b. omega (arith, f.more b, g.more b, choosers_append c l r b); kept = rw (f.kept, g.kept, map-append) }
 
-  -- one record's choice: f, all counts are top or more, else bucket x
-  module _ (m w i : ℕ) (a old work kept : List ℕ) (so_far : Chose s m (records w i a) old work (take i kept)) (f : Bool) (x : ℕ)
-      (top : f ≡ all_top s (nth (take m work)) (take w (drop (i * (w + 4)) a)))
-      (choice : x ≡ chosen s (nth (take m work)) (take w (drop (i * (w + 4)) a))) where
-    pub chose_more : (new : List ℕ) → take m new ≡ take m work → ((b : ℕ) → nth (drop m new) b ≡ nth (drop m work) b + cond (not f && eqb b x) 1 0)
-        → (v : ℕ) → v ≡ cond f s.buckets x → i < length kept → Chose s m (records w (i + 1) a) old new (take (i + 1) (set kept i v))
-    unfolding choosers chooses choice_by
-    chose_more new same more v v-is there =
-        let c = nth (take m old) in
-        let top_is = rw so_far.same at top in
-        let choice_is = rw so_far.same at choice in
-        let stored : take (i + 1) (set kept i v) ≡ take i kept ++ (v ∷ []) = rw (add-one i) (take-suc-set kept i v there) in
-        record {
-          same = same ∙ so_far.same;
-          more = λ b. rw (kept_more (chooses s c b) w i a, ← top_is, ← choice_is) (omega (arith, so_far.more b, more b));
-          choices = rw (stored, v-is, choices_more c w i a, so_far.choices, ← top_is, ← choice_is);
-        }
+    -- the choosers of a list that has chosen
+    pub chose_few : (l : List Record) (old new ys : List ℕ) → Chose s counts l old new ys → (b : ℕ) → nth new b ≤ nth old b + length l
+    unfolding choosers
+    chose_few l old new ys f b = omega (arith, f.more b, filter_len (λ r. chooses s c b r.key) l)
+
+    -- the choosers of the first records of a part, where there is room for as many as it has records
+    pub chose_bound : (w i n : ℕ) (a old new ys : List ℕ) → Chose s counts (records w i a) old new ys → i ≤ n → ((b : ℕ) → nth old b + n ≤ 60000)
+        → (b : ℕ) → nth new b ≤ 60000
+    chose_bound w i n a old new ys f le few b = omega (arith, f.more b, few b, choosers_bound c w i a b)
+
+    -- one record's choice
+    module _ (w i : ℕ) (a old mid kept : List ℕ) (so_far : Chose s counts (records w i a) old mid (take i kept)) (choice : Option ℕ)
+        (choice_is : choice ≡ choice_of s c (take w (drop (i * (w + 4)) a))) where
+      pub chose_more : (new : List ℕ) → ((b : ℕ) → nth new b ≡ nth mid b + cond (is_choice b choice) 1 0) → (v : ℕ) → v ≡ unwrap_or choice s.buckets
+          → i < length kept → Chose s counts (records w (i + 1) a) old new (take (i + 1) (set kept i v))
+      unfolding choosers
+      chose_more new more v v-is there =
+          let key = take w (drop (i * (w + 4)) a) in
+          let stored : take (i + 1) (set kept i v) ≡ take i kept ++ (v ∷ []) = rw (add-one i) (take-suc-set kept i v there) in
+          let number : v ≡ choice_by s c key = v-is ∙ ap (λ (o : Option ℕ). unwrap_or o s.buckets) choice_is ∙ choice_number s c key in
+          record {
+            more = λ b. rw (kept_more (chooses s c b) w i a, ← chooses_is s c key b, ← choice_is) (omega (arith, so_far.more b, more b));
+            kept = rw (stored, number, choices_more c w i a, so_far.kept);
+          }

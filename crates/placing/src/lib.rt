@@ -1,95 +1,98 @@
 // Document 01, 'Placing': how many keys have a bucket among theirs, which bucket a key chooses, and which keys belong to the side.
 #![tactic(auto)]
 
-ghost use Rattle.std.specs.Prelude.{◌≡◌, true, List, ℕ, ◌+◌, ◌≤◌, length, drop};
+ghost use Rattle.std.specs.Prelude.{◌≡◌, true, List, ℕ, ◌≤◌, length};
 ghost use Rattle.theory.specs.Records.{Record};
 ghost use Rattle.theory.specs.Settings.{allowed};
+ghost use Rattle.theory.specs.Hash.{H as H_of};
 ghost use Rattle.theory.specs.Ledger.{side_need_of};
 ghost use Rattle.settings.specs.Checked.{paper, card};
-ghost use Rattle.placing.specs.Ready.{Placing};
-ghost use Rattle.placing.specs.Worked.{nth, Placed, side_by_choice, parts};
+ghost use Rattle.placing.specs.Ready.{Ready, Placing};
+ghost use Rattle.placing.specs.Worked.{nth, Placed, side_by_choice, list_of};
 
 use choosing::choose_parts;
 use counting::count_parts;
-use memory::numbers::wide_count;
-use memory::parts::zero_counts;
-use memory::picks::pick;
+use hash::by_table::by_bytes;
+use hash::h_with_table;
 use settings::Settings;
 
 pub mod choosing; // choosing.rt: the bucket that each key chooses
 pub mod counting; // counting.rt: true counts
 
-// The list that a call would make, placed: work gets its true counts, then its choosers, and kept the choice of each record.
-// The list lies in three areas: the records before the edit's place, those between (the new record or none), and those after.
-pub fn place_parts(
-    s: Settings,
-    table: &[u64],
-    m: usize,
-    work: &mut [u16],
-    before: &[u8],
-    before_count: usize,
-    between: &[u8],
-    between_count: usize,
-    after: &[u8],
-    after_count: usize,
-    kept: &mut [u16],
-)
-    requires { Placing s table.now m work.old before.now before_count between.now between_count after.now after_count kept.old }
-    ensures { Placed (card s) m
-        (parts (card s).width before.now before_count between.now between_count after.now after_count)
-        work.new kept.new }
-{
-    zero_counts(work);
-    count_parts(
-        s,
-        table,
-        &mut work[..m],
-        before,
-        before_count,
-        between,
-        between_count,
-        after,
-        after_count,
-    );
-    choose_parts(
-        s,
-        table,
-        m,
-        work,
-        before,
-        before_count,
-        between,
-        between_count,
-        after,
-        after_count,
-        kept,
-    );
+// A list that lies in three parts, each of whole records: those before the edit's place, those between (the new record or none), and those after.
+#[derive(Clone, Copy)]
+pub struct Parts<'a> {
+    pub before: &'a [u8],
+    pub between: &'a [u8],
+    pub after: &'a [u8],
 }
 
-// A key belongs to the side, by its choice and the choosers in work.
-pub fn aside(s: Settings, m: usize, work: &[u16], choice: u16) -> bool
-    requires { (m ≡ (card s).buckets) × (length work.now ≡ m + m) × (choice ≤ m) }
-    ensures { result ≡ side_by_choice (card s) m (nth (drop m work.now)) choice }
+// What placing a list leaves behind: its true counts, how many keys choose each bucket, and the choice of each record, which is the number of
+// buckets where all its counts are top or more.
+#[derive(Clone, Copy)]
+pub struct Placement<'a> {
+    pub counts: &'a [u16],
+    pub choosers: &'a [u16],
+    pub choices: &'a [u16],
+}
+
+// H of a key of the card's width.
+fn h_of(s: Settings, table: &[u64], key: &[u8]) -> u64
+    requires ready { Ready s table.now }
+    requires wide { length key.now ≡ (card s).width }
+    ensures { result ≡ H_of key.now }
 {
-    let bucket = wide_count(choice);
-    if bucket == m {
-        return true;
+    // the width of an IPv4 flow's key as a constant, which the compiler knows
+    if s.width == Settings::IPV4_WIDTH {
+        by_bytes(table, &key[..Settings::IPV4_WIDTH])
+    } else {
+        h_with_table(table, key)
     }
-    let at = m + bucket;
-    let choosers = wide_count(work[at]);
-    s.room < choosers
+}
+
+// The list that a call would make, placed: work holds its true counts, then its choosers.
+pub fn place_parts<'a>(
+    s: Settings,
+    table: &[u64],
+    parts: Parts<'_>,
+    work: &'a mut [u16],
+    choices: &'a mut [u16],
+) -> Placement<'a>
+    requires { Placing s table.now parts work.old choices.old }
+    ensures { Placed (card s) (list_of (card s).width parts.entry) result }
+{
+    let (counts, choosers) = work.split_at_mut(s.buckets());
+    count_parts(s, table, counts, parts);
+    choose_parts(s, table, counts, choosers, parts, choices);
+    Placement {
+        counts: &*counts,
+        choosers: &*choosers,
+        choices: &*choices,
+    }
+}
+
+// A key with this choice belongs to the side.
+pub fn aside(s: Settings, placement: Placement<'_>, choice: u16) -> bool
+    requires places { length placement.choosers.now ≡ (card s).buckets }
+    requires within { choice ≤ (card s).buckets }
+    ensures { result ≡ side_by_choice (card s) (nth placement.entry.choosers.now) choice }
+{
+    match placement.choosers.get(usize::from(choice)) {
+        Some(&choosers) => s.room < usize::from(choosers),
+        None => true,
+    }
 }
 
 // "Side need is how many keys belong there."
-pub fn side_need(s: Settings, m: usize, work: &[u16], kept: &[u16]) -> usize
-    requires { (allowed (paper s) ≡ true) × (m ≡ (card s).buckets) × (length work.now ≡ m + m) × ((i : ℕ) → nth kept.now i ≤ m) }
-    ensures { (l : List Record) → Placed (card s) m l work.now kept.now → result ≡ side_need_of (card s) l }
+pub fn side_need(s: Settings, placement: Placement<'_>) -> usize
+    requires ok { allowed (paper s) ≡ true }
+    requires places { length placement.choosers.now ≡ (card s).buckets }
+    requires within { (i : ℕ) → nth placement.choices.now i ≤ (card s).buckets }
+    ensures { (l : List Record) → Placed (card s) l placement.entry → result ≡ side_need_of (card s) l }
 {
     let mut need: usize = 0;
-    let mut i: usize = 0;
-    while i < kept.len() {
-        need = need + pick(aside(s, m, work, kept[i]), 1, 0);
-        i += 1;
+    for &choice in placement.choices {
+        need += usize::from(aside(s, placement, choice));
     }
     need
 }

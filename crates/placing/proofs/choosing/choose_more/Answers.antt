@@ -1,119 +1,68 @@
--- `placing::choosing::choose_more` meets its contract: after i records these have chosen, and the first i places of kept hold their choices.
-use mathlib.Core.Path.{◌≡◌, sym, ap, ◌∙◌}
-use mathlib.Core.Bool.{cond, not, ◌&&◌}
-use mathlib.Core.List.{List, ◌++◌}
-use Prim.Native.Nat.{ℕ, ◌+◌, ◌-◌, ◌*◌, ◌≤◌}
+-- `placing::choosing::choose_more` meets its contract: after i records these have chosen, and the first i places of choices hold their choices.
+use mathlib.Core.Path.{◌≡◌, ap, ◌∙◌}
 use native.Mathlib.Omega.{arith}
-use lib.Dec.{eqb}
-use lib.ListN.{length, take, drop, length-drop, length-set}
-use lib.Seq.{length-take-le}
-use Rattle.theory.specs.Settings.{Card}
-use Rattle.theory.specs.Placing.{all_top, chosen}
-use Rattle.memory.proofs.SliceLaws.{tail_is, length_tail, tail_length, tail_take, tail_drop}
-use Rattle.settings.specs.Checked.{paper, card}
+use lib.ListN.{length}
+use Rattle.std.proofs.Common.{ℕ, ◌+◌, ◌*◌, ◌/◌, ◌≤◌, List, Option}
+use Rattle.std.specs.Option.{unwrap_or}
+use Rattle.std.proofs.Math.Nat.{div-mul-le_self}
+use Rattle.theory.specs.Settings.{record_size}
+use Rattle.settings.specs.Checked.{card, paper}
 use Rattle.settings.specs.declared.Settings.{Settings}
 use Rattle.settings.proofs.Laws.{bounds}
-use Rattle.placing.specs.declared.choosing.Choice.{Choice}
-use Rattle.placing.specs.Worked.{nth}
 use Rattle.memory.proofs.RecordPartLaws.{Sizes, key_inside, key_length, key_is}
-use Rattle.placing.proofs.RecordCountLaws.{choosers_bound, chose_none, chose_more}
-use Rattle.placing.proofs.WorkLaws.{picked_within}
-use Rattle.placing.proofs.ReadyLaws.{sound_card, chosen_within}
+use Rattle.placing.specs.Worked.{nth, choice_of}
+use Rattle.placing.proofs.RecordCountLaws.{chose_none, chose_more, chose_all, chose_bound}
+use Rattle.placing.proofs.WorkLaws.{kept_within, choice_below}
+use Rattle.placing.proofs.ReadyLaws.{sound_card}
 use Rattle.placing.proofs.choosing.choose_more.Goals as goal
 
--- the choice of the key of record i, as it is kept
-record Chosen (s : Card) (counts : ℕ → ℕ) (key : List ℕ) (choice : Choice) (kept : ℕ) : Type 0 where
-  top_is : choice.all_top ≡ all_top s counts key
-  bucket_is : choice.bucket ≡ chosen s counts key
-  kept_is : kept ≡ cond choice.all_top s.buckets choice.bucket
+-- the choice that is kept as a number, by the number of buckets as it was computed
+kept_is : (choice : Option ℕ) (v m n : ℕ) → v ≡ unwrap_or choice m → m ≡ n → v ≡ unwrap_or choice n
+kept_is choice v m n e f = e ∙ ap (unwrap_or choice) f
 
-choice_of : (s : Settings) (m i size width : ℕ) (area key : List ℕ) (counts : ℕ → ℕ) (choice : Choice) (kept : ℕ) → m ≡ (card s).buckets
-    → Sizes (card s) size width → key ≡ take width (drop (i * size) area)
-    → (choice.all_top ≡ all_top (card s) counts key) × (choice.bucket ≡ chosen (card s) counts key) → kept ≡ cond choice.all_top m choice.bucket
-    → Chosen (card s) counts (take (card s).width (drop (i * ((card s).width + 4)) area)) choice kept
-choice_of s m i size width area key counts choice kept buckets sizes key_at chose picked =
-    let key_here = key_at ∙ key_is sizes i area in
-    record {
-      top_is = chose.0 ∙ ap (all_top (card s) counts) key_here;
-      bucket_is = chose.1 ∙ ap (chosen (card s) counts) key_here;
-      kept_is = picked ∙ ap (λ (x : ℕ). cond choice.all_top x choice.bucket) buckets;
-    }
+sizes : (s : Settings) {size width : ℕ} → size ≡ record_size (card s) → width ≡ (card s).width → Sizes (card s) size width
+sizes s e f = record { size_is = e; width_is = f }
+
+-- n choices are of the records that a part holds
+choices_fit : (w n : ℕ) (part : List ℕ) → n ≡ length part / (w + 4) → n * (w + 4) ≤ length part
+choices_fit w n part e = rw e (div-mul-le_self (length part) (w + 4))
 
 pub loop-i-init : goal.loop-i-init
-loop-i-init c =
-    record { within = omega arith; halves = c.requires.halves; places = c.requires.places; chose = chose_none _ _ _ _ _ c.args.kept.now }
+loop-i-init c = chose_none (card c.args.s) c.args.counts.now _ c.args.part.now c.args.choosers.now c.args.choices.now
 
 pub key_at-requires : goal.key_at-requires
 key_at-requires c =
-    let sizes : Sizes (card c.args.s) c.record_size-size.result c.width-width.result =
-    record { size_is = c.record_size-size.ensures; width_is = c.width-width.ensures } in
-    key_inside sizes _ _ c.args.area.now c.requires.there c.loop-i-test.true
+    key_inside (sizes c.args.s c.record_size-size.ensures c.width-width.ensures) _ _ c.args.part.now (choices_fit _ _ _ c.requires.places) c.loop-i-test.true
 
-pub choose-choice-requires : goal.choose-choice-requires
-choose-choice-requires c =
-    let sizes : Sizes (card c.args.s) c.record_size-size.result c.width-width.result =
-    record { size_is = c.record_size-size.ensures; width_is = c.width-width.ensures } in
-    let halved : c.args.m ≤ length c.loop-i.work = omega (arith, c.loop-i.invariant.halves) in (
-      c.requires.ready,
-      length-take-le c.args.m c.loop-i.work halved ∙ c.requires.buckets,
-      ap length c.key_at.ensures ∙ key_length sizes _ c.loop-i.i c.args.area.now c.requires.there c.loop-i-test.true,
-    )
+pub choose-choice-requires-clause-wide : goal.choose-choice-requires-clause-wide
+choose-choice-requires-clause-wide c =
+    ap length c.key_at.ensures
+    ∙ key_length (sizes c.args.s c.record_size-size.ensures c.width-width.ensures) _ c.loop-i.i c.args.part.now (choices_fit _ _ _ c.requires.places)
+    c.loop-i-test.true
 
-pub overflow_cast-kept : goal.overflow_cast-kept
-overflow_cast-kept c =
-    let sizes : Sizes (card c.args.s) c.record_size-size.result c.width-width.result =
-    record { size_is = c.record_size-size.ensures; width_is = c.width-width.ensures } in
-    let made =
-    choice_of c.args.s c.args.m c.loop-i.i _ _ c.args.area.now _ (nth (take c.args.m c.loop-i.work)) c.choose-choice.result c.pick.result c.requires.buckets
-    sizes c.key_at.ensures c.choose-choice.ensures c.pick.ensures in
-    let small =
-    picked_within (card c.args.s) (sound_card _ _ c.requires.ready) _ c.requires.buckets _ _ _ _ _ made.top_is made.bucket_is made.kept_is in
-    omega (arith, small, c.requires.buckets, (bounds (paper c.args.s) c.requires.ready.ok).buckets_most)
+pub overflow_cast-choices : goal.overflow_cast-choices
+overflow_cast-choices c =
+    let kept = kept_is c.choose-choice.result _ _ _ c.unwrap_or.ensures c.buckets-m.ensures in
+    let small = kept_within (card c.args.s) (sound_card _ _ c.requires.ready) (nth c.args.counts.now) _ _ _ c.choose-choice.ensures kept in
+    omega (arith, small, (bounds (paper c.args.s) c.requires.ready.ok).buckets_most)
 
-pub add_choice-requires : goal.add_choice-requires
-add_choice-requires c =
-    let s = card c.args.s in
-    let m = c.args.m in
-    let work = c.loop-i.work in
-    let loop = c.loop-i.invariant in
-    let counts : ℕ → ℕ = nth (take m work) in
-    let sizes : Sizes s c.record_size-size.result c.width-width.result =
-    record { size_is = c.record_size-size.ensures; width_is = c.width-width.ensures } in
-    let made =
-    choice_of c.args.s m c.loop-i.i _ _ c.args.area.now _ counts c.choose-choice.result c.pick.result c.requires.buckets sizes c.key_at.ensures
-    c.choose-choice.ensures c.pick.ensures in
-    let halved : m ≤ length work = omega (arith, loop.halves) in
-    let within = chosen_within _ _ c.requires.ready counts (take s.width (drop (c.loop-i.i * (s.width + 4)) c.args.area.now)) in
-    let bound = choosers_bound s (nth (take m c.args.work.now)) s.width c.loop-i.i c.args.area.now in
-    rw (tail_is m work halved) (
-      λ f. rw length-drop (omega (arith, made.bucket_is, c.requires.buckets, loop.halves, within (sym made.top_is ∙ f))),
-      λ b. omega (arith, loop.chose.more b, c.requires.few b, loop.within, bound b),
-    )
+pub add_choice-requires-clause-within : goal.add_choice-requires-clause-within
+add_choice-requires-clause-within c =
+    rw (c.loop-i.auto.choosers, c.requires.halves)
+    (choice_below (card c.args.s) (sound_card _ _ c.requires.ready) (nth c.args.counts.now) _ _ c.choose-choice.ensures)
+
+pub add_choice-requires-clause-few : goal.add_choice-requires-clause-few
+add_choice-requires-clause-few c =
+    chose_bound (card c.args.s) c.args.counts.now _ _ _ _ _ _ _ c.loop-i.invariant (omega (arith, c.requires.places)) c.requires.few
 
 pub loop-i-preserved : goal.loop-i-preserved
 loop-i-preserved c =
     let s = card c.args.s in
-    let m = c.args.m in
-    let work = c.loop-i.work in
-    let loop = c.loop-i.invariant in
-    let counts : ℕ → ℕ = nth (take m work) in
-    let choice = c.choose-choice.result in
-    let sizes : Sizes s c.record_size-size.result c.width-width.result =
-    record { size_is = c.record_size-size.ensures; width_is = c.width-width.ensures } in
-    let made =
-    choice_of c.args.s m c.loop-i.i _ _ c.args.area.now _ counts choice c.pick.result c.requires.buckets sizes c.key_at.ensures c.choose-choice.ensures
-    c.pick.ensures in
-    let halved : m ≤ length work = omega (arith, loop.halves) in
-    let ys = c.add_choice.new.choosers in
-    let long = c.add_choice.auto.choosers ∙ length_tail m work halved in
-    let new = take m work ++ (ys ++ drop (length work - m) (drop m work)) in
-    let added : (b : ℕ) → nth (drop m new) b ≡ nth (drop m work) b + cond {A = ℕ} (not choice.all_top && eqb b choice.bucket) 1 0 =
-    λ b. ap (λ (z : List ℕ). nth z b) (tail_drop m work halved ys) ∙ rw (tail_is m work halved) at (c.add_choice.ensures b) in
-    record {
-      within = omega (arith, c.loop-i-test.true);
-      halves = tail_length m work halved ys long ∙ loop.halves;
-      places = simp length-set loop.places;
-      chose =
-          chose_more s _ _ _ _ _ _ c.loop-i.kept loop.chose _ _ made.top_is made.bucket_is _ (tail_take m work halved ys) added _ made.kept_is
-          (omega (arith, loop.places, c.loop-i-test.true));
-    }
+    let key_here = c.key_at.ensures ∙ key_is (sizes c.args.s c.record_size-size.ensures c.width-width.ensures) c.loop-i.i c.args.part.now in
+    let choice_is = c.choose-choice.ensures ∙ ap (choice_of s (nth c.args.counts.now)) key_here in
+    let kept = kept_is c.choose-choice.result _ _ _ c.unwrap_or.ensures c.buckets-m.ensures in
+    chose_more s c.args.counts.now _ _ _ _ _ c.loop-i.choices c.loop-i.invariant _ choice_is _ c.add_choice.ensures _ kept (omega arith)
+
+pub returns : goal.returns
+returns c =
+    chose_all (card c.args.s) c.args.counts.now _ _ _ _ _ _ _ c.loop-i.invariant (omega (arith, c.requires.places)) (omega (arith, c.requires.places))

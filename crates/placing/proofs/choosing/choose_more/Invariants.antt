@@ -1,10 +1,9 @@
--- After i records these have chosen, and the first i places of kept hold their choices.
-use Prim.Native.Nat.{◌-◌}
-use Rattle.placing.proofs.PassedLaws.{PassedChoices}
+-- After i records these have chosen, and the first i places of choices hold their choices.
+use Rattle.std.proofs.Common.{take}
+use Rattle.theory.specs.Records.{records}
+use Rattle.settings.specs.Checked.{card}
+use Rattle.placing.specs.Worked.{Chose}
 use Rattle.placing.proofs.choosing.choose_more.Given as goal
 
 abbrev pub invariant-loop-i : goal.invariant-loop-i
-invariant-loop-i l = PassedChoices l.s l.m l.fn.work l.area l.n l.work l.kept l.i
-
-abbrev pub decreases-loop-i : goal.decreases-loop-i
-decreases-loop-i l = l.n - l.i
+invariant-loop-i l = Chose (card l.s) l.counts (records (card l.s).width l.i l.part) l.fn.choosers l.choosers (take l.i l.choices)

@@ -1,89 +1,63 @@
 -- `placing::counting::count_more` meets its contract: after i records each count is what it was and the true count of these.
-use mathlib.Core.Path.{◌≡◌, refl, sym, ap, ◌∙◌}
+use mathlib.Core.Path.{sym, ap, ◌∙◌}
 use mathlib.Core.Bool.{cond}
-use mathlib.Core.List.{List}
-use Prim.Native.Nat.{ℕ, ◌+◌}
-use native.Mathlib.Nat.{add-zero}
 use native.Mathlib.Omega.{arith}
-use lib.ListN.{length}
+use lib.Seq.{length-take-le}
+use Rattle.std.proofs.Common.{ℕ, ◌+◌, List}
+use Rattle.std.proofs.lemmas.List.{length_push}
 use Rattle.theory.specs.Lists.{has}
-use Rattle.theory.specs.Hash.{H}
+use Rattle.theory.specs.Settings.{record_size}
 use Rattle.settings.specs.Checked.{card}
-use Rattle.hash.proofs.KeyHashLaws.{ipv4_key, ipv4_fits, ipv4_hash}
 use Rattle.placing.specs.Worked.{nth}
-use Rattle.memory.proofs.RecordPartLaws.{Sizes, key_inside, key_length, key_is}
-use Rattle.placing.proofs.RecordCountLaws.{count_none, count_bound, count_more}
-use Rattle.placing.proofs.ReadyLaws.{right_for, long_for}
+use Rattle.placing.proofs.PartLaws.{chunks_start, chunk, chunks_end, chunks_few, chunk_key}
+use Rattle.placing.proofs.RecordCountLaws.{counted_none, counted_more, counted_few}
 use Rattle.placing.proofs.counting.count_more.Goals as goal
-use Rattle.placing.proofs.counting.count_more.Goals.{then-width-eq-IPV4_WIDTH, else-width-eq-IPV4_WIDTH}
 
-pub loop-i-init : goal.loop-i-init
-loop-i-init c =
-    let s = card c.args.s in record { within = omega arith; same = refl; counted = λ b. sym (rw (count_none s s.width c.args.area.now b) (add-zero _)) }
+pub chunks_exact-record-items-requires : goal.chunks_exact-record-items-requires
+unfolding record_size
+chunks_exact-record-items-requires c = omega (arith, c.record_size.ensures)
 
-pub key_at-key-requires : goal.key_at-key-requires
-key_at-key-requires c =
-    let sizes : Sizes (card c.args.s) c.record_size-size.result c.width-width.result =
-    record { size_is = c.record_size-size.ensures; width_is = c.width-width.ensures } in
-    key_inside sizes _ _ c.args.area.now c.requires.there c.loop-i-test.true
-
-pub slice_bounds-by_bytes-end : goal.slice_bounds-by_bytes-end
-slice_bounds-by_bytes-end c =
-    let sizes : Sizes (card c.args.s) c.record_size-size.result c.width-width.result =
-    record { size_is = c.record_size-size.ensures; width_is = c.width-width.ensures } in
-    let key = c.key_at-key.result.now in
-    let key_long = ap length c.key_at-key.ensures ∙ key_length sizes _ c.loop-i.i c.args.area.now c.requires.there c.loop-i-test.true in
-    let narrow = key_long ∙ sym c.width-width.ensures ∙ c.if-width-eq-IPV4_WIDTH.true in
-    sym (ap length (ipv4_key c.args.table.now key (long_for _ _ c.requires.ready key key_long) narrow) ∙ narrow)
-
-pub by_bytes-h-requires : goal.by_bytes-h-requires
-by_bytes-h-requires c =
-    let sizes : Sizes (card c.args.s) c.record_size-size.result c.width-width.result =
-    record { size_is = c.record_size-size.ensures; width_is = c.width-width.ensures } in
-    let key = c.key_at-key.result.now in
-    let key_long = ap length c.key_at-key.ensures ∙ key_length sizes _ c.loop-i.i c.args.area.now c.requires.there c.loop-i-test.true in
-    ipv4_fits c.args.table.now key (long_for _ _ c.requires.ready key key_long) (key_long ∙ sym c.width-width.ensures ∙ c.if-width-eq-IPV4_WIDTH.true)
-
-pub h_with_table-h-requires : goal.h_with_table-h-requires
-h_with_table-h-requires c =
-    let sizes : Sizes (card c.args.s) c.record_size-size.result c.width-width.result =
-    record { size_is = c.record_size-size.ensures; width_is = c.width-width.ensures } in
-    let key_long = ap length c.key_at-key.ensures ∙ key_length sizes _ c.loop-i.i c.args.area.now c.requires.there c.loop-i-test.true in
-    long_for _ _ c.requires.ready c.key_at-key.result.now key_long
-
-pub raise_at-requires : goal.raise_at-requires
-raise_at-requires c =
-    let s = card c.args.s in
-    let so_far = c.loop-i.invariant in (
-      c.requires.ready.ok,
-      so_far.same ∙ c.requires.buckets,
-      λ b. omega (arith, so_far.counted b, so_far.within, c.requires.few b, count_bound s s.width c.loop-i.i c.args.area.now b),
+pub loop-record-init : goal.loop-record-init
+unfolding record_size
+loop-record-init c =
+    let chunks = c.chunks_exact-record-items.ensures in (
+      chunks_start c.into_iter-record-iterator.ensures.into_iter_gives chunks.rest (chunks.size ∙ c.record_size.ensures),
+      counted_none (card c.args.s) c.args.counts.now c.args.part.now,
     )
 
-pub loop-i-preserved : goal.loop-i-preserved
-loop-i-preserved c =
+pub loop-record-init-derived : goal.loop-record-init-derived
+unfolding record_size
+loop-record-init-derived c =
+    (rw (c.into_iter-record-iterator.ensures.into_iter_gives, c.chunks_exact-record-items.ensures.size, c.record_size.ensures) (omega arith), tt)
+
+pub slice_bounds-h_of-end : goal.slice_bounds-h_of-end
+slice_bounds-h_of-end c =
+    let here = chunk {t = c.next.new.self} c.loop-record.invariant.0 c.in-Some.record c.in-Some.ensures.steps in
+    sym (length-take-le c.width-width.result c.in-Some.record.now (omega (arith, here.long, c.width-width.ensures)))
+
+pub h_of-requires-clause-wide : goal.h_of-requires-clause-wide
+h_of-requires-clause-wide c =
+    let here = chunk {t = c.next.new.self} c.loop-record.invariant.0 c.in-Some.record c.in-Some.ensures.steps in
+    length-take-le c.width-width.result c.in-Some.record.now (omega (arith, here.long, c.width-width.ensures)) ∙ c.width-width.ensures
+
+pub raise_at-requires-clause-few : goal.raise_at-requires-clause-few
+raise_at-requires-clause-few c =
+    let so_far = c.loop-record.invariant in
+    counted_few (card c.args.s) _ _ _ _ _ so_far.1 (chunks_few so_far.0 (omega arith)) c.requires.few
+
+pub loop-record-preserved : goal.loop-record-preserved
+loop-record-preserved c =
     let s = card c.args.s in
-    let area = c.args.area.now in
-    let table = c.args.table.now in
-    let so_far = c.loop-i.invariant in
-    let sizes : Sizes s c.record_size-size.result c.width-width.result =
-    record { size_is = c.record_size-size.ensures; width_is = c.width-width.ensures } in
-    let key = c.key_at-key.result.now in
-    let key_long = ap length c.key_at-key.ensures ∙ key_length sizes _ c.loop-i.i area c.requires.there c.loop-i-test.true in
-    let key_here = c.key_at-key.ensures ∙ key_is sizes c.loop-i.i area in
-    let right = right_for _ _ c.requires.ready key key_long in
-    let hashed : c.if-width-eq-IPV4_WIDTH.h ≡ H key =
-    elim c.if-width-eq-IPV4_WIDTH.branch [
-      | then-width-eq-IPV4_WIDTH w ↦ w.h-is
-          ∙ ipv4_hash table key (long_for _ _ c.requires.ready key key_long) (key_long ∙ sym c.width-width.ensures ∙ w.if-width-eq-IPV4_WIDTH.true) right
-          w.by_bytes-h.ensures.1
-      | else-width-eq-IPV4_WIDTH w ↦ w.h-is ∙ w.h_with_table-h.ensures.1 right
-    ] in
-    let by_key = c.raise_at.ensures key hashed in
-    record {
-      within = omega (arith, c.loop-i-test.true);
-      same = c.raise_at.auto.counts ∙ so_far.same;
-      counted =
-          count_more s _ c.loop-i.i area c.args.counts.now c.loop-i.counts c.raise_at.new.counts so_far.counted
-          (λ b. by_key b ∙ ap (λ (k : List ℕ). nth c.loop-i.counts b + cond {A = ℕ} (has b (s.numbers k)) 1 0) key_here);
-    }
+    let here = chunk {t = c.next.new.self} c.loop-record.invariant.0 c.in-Some.record c.in-Some.ensures.steps in
+    let key_is = chunk_key s.width c.in-Some.record.now here (omega arith) in
+    let by_key = c.raise_at.ensures _ c.h_of.ensures in
+    rw length_push (
+      here.next,
+      counted_more s _ _ _ _ _ c.loop-record.invariant.1 c.raise_at.auto.counts
+          (λ b. by_key b ∙ ap (λ (k : List ℕ). nth c.loop-record.counts b + cond {A = ℕ} (has b (s.numbers k)) 1 0) (rw c.width-width.ensures key_is)),
+    )
+
+pub returns : goal.returns
+returns c =
+    let all = chunks_end c.loop-record.invariant.0 (omega arith) c.in-None.ensures.steps in
+    λ b. rw (← all) (c.loop-record.invariant.1.each b)
