@@ -1,5 +1,4 @@
 pub mod Digits
 pub mod Table
 pub mod Widths
-pub mod Numbering
 pub mod Made
