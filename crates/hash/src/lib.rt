@@ -44,7 +44,7 @@ pub fn table() -> &'static [u64; 3328]
     &entries::TABLE
 }
 
-// The table of H for keys of 37 bytes, by half-byte.
+// The table of H for keys of 37 bytes, by half-byte. A function of its own, since the length of a static is part of its type, and callers lend either whole.
 pub fn half_table() -> &'static [u64; 1184]
     ensures { TableRight 4 (2 * ipv6_width) result.now }
 {

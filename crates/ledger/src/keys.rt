@@ -8,7 +8,8 @@ use settings::Settings;
 
 // The eight bytes of each from a place on.
 fn same_word(a: &[u8], b: &[u8], at: usize) -> bool
-    requires { (at + 8 ≤ length a.now) × (at + 8 ≤ length b.now) }
+    requires in_a { at + 8 ≤ length a.now }
+    requires in_b { at + 8 ≤ length b.now }
     ensures { result ≡ same_key (take 8 (drop at a.now)) (take 8 (drop at b.now)) }
 {
     low_word_at(a, at) == low_word_at(b, at)

@@ -9,4 +9,4 @@ returns c =
     let a = c.args.a.now in
     let b = c.args.b.now in
     ap₂ nat_eq c.low_word_at.ensures c.low_word_at-2.ensures
-    ∙ same_by_word a b c.args.at (bytes_of a c.type_inv.a) (bytes_of b c.type_inv.b) c.requires.0 c.requires.1
+    ∙ same_by_word a b c.args.at (bytes_of a c.type_inv.a) (bytes_of b c.type_inv.b) c.requires.in_a c.requires.in_b
