@@ -55,8 +55,8 @@ pub fn fill_by_byte(width: usize, out: &mut [u64])
     ensures { out.new ≡ table_entries 8 width }
 {
     let rows = rows();
-    for i in 0..out.len() {
+    for (i, entry) in out.iter_mut().enumerate() {
         let first = 8 * (i / 256);
-        out[i] = xor_set(&rows[first..first + 8], (i % 256) as u8);
+        *entry = xor_set(&rows[first..first + 8], (i % 256) as u8);
     }
 }
