@@ -1,5 +1,6 @@
 -- Laws of writing a load: the letter of a call, the parts of a call lent and back, and calls written one after the other.
-use Rattle.std.proofs.Common.{◌≡◌, ℕ, ◌+◌, ◌-◌, ◌*◌, ◌/◌, ◌%◌, ◌<◌, ◌≤◌, min, true, ◌≢◌, List, [], ◌∷◌, ◌++◌, length, take, drop, set, replicate, sym, refl, ap, ◌∙◌, append_assoc, append-nil, arith, length-set, length-take-le, take_all, ne_eqb}
+use Rattle.std.proofs.Common.{◌≡◌, ℕ, ◌+◌, ◌-◌, ◌*◌, ◌/◌, ◌%◌, ◌<◌, ◌≤◌, min, true, ◌≢◌, List, [], ◌∷◌, ◌++◌, length, take, drop, set, replicate}
+use Rattle.std.proofs.Common.{sym, refl, ap, ◌∙◌, append_assoc, append-nil, arith, length-set, length-take-le, take_all, ne_eqb}
 use mathlib.Core.Option.{some}
 use native.Mathlib.Nat.{add-sub_cancel_left}
 use Rattle.theory.specs.Records.{to_bytes, record_bytes}
