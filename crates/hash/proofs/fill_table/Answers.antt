@@ -1,5 +1,5 @@
 -- The lent length says which table it is.
-use Rattle.std.proofs.Common.{◌≡◌, ◌≢◌, true, ◌*◌, ℕ, rules, sym, ap, ◌∙◌, ⊎_elim, arith}
+use Rattle.std.proofs.Common.{◌≡◌, ◌≢◌, true, ◌*◌, ℕ, length, sym, ap, ◌∙◌, ⊎_elim, arith}
 use Rattle.theory.specs.Lists.{has}
 use Rattle.theory.specs.Settings.{ipv6_width}
 use Rattle.hash.specs.Digits.{table_length, table_entries}
@@ -24,7 +24,8 @@ fill_by_byte-requires-clause-size c = whole _ _ c.requires.size c.if-out-eq-HALF
 pub returns-then-out-eq-HALF_TABLE_LENGTH : goal.returns-then-out-eq-HALF_TABLE_LENGTH
 returns-then-out-eq-HALF_TABLE_LENGTH c =
     c.copy_from_slice.ensures.after
-    ∙ right_table_entries 4 (2 * ipv6_width) c.half_table.result.now c.half_table.ensures (search rules)
+    ∙ right_table_entries 4 (2 * ipv6_width) c.half_table.result.now c.half_table.ensures
+    (sym (ap length c.copy_from_slice.ensures.after) ∙ c.copy_from_slice.ensures.len ∙ c.if-out-eq-HALF_TABLE_LENGTH.true)
     ∙ sym (half _ _ c.requires.size c.if-out-eq-HALF_TABLE_LENGTH.true)
 
 pub returns-else-out-eq-HALF_TABLE_LENGTH : goal.returns-else-out-eq-HALF_TABLE_LENGTH
