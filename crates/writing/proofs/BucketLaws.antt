@@ -21,8 +21,9 @@ use Rattle.theory.proofs.ByteLaws.{Fit, length_record}
 use Rattle.theory.proofs.LayoutLaws.{length_places}
 use Rattle.theory.proofs.PlacingLaws.{chosen_below}
 use Rattle.theory.proofs.GrowingLaws.{flat_append, flat_cong, flat_more, filter_mono, filter_append, records_more}
-use Rattle.memory.proofs.SliceLaws.{back, length_lent, zeros, zeros_drop, length_back, take_back, lent_is, back_is, row_fits, flat_set}
-use Rattle.placing.specs.Worked.{nth, belongs_by, Worked, choice_by}
+use Rattle.memory.proofs.SliceLaws.{back, length_lent, zeros, zeros_drop, take_back, lent_is, back_is, row_fits, flat_set}
+use Rattle.placing.specs.declared.Placement.{Placement}
+use Rattle.placing.specs.Worked.{nth, belongs_by, Placed, choice_by}
 use Rattle.placing.proofs.WorkLaws.{counts_are}
 use Rattle.writing.specs.Buckets.{crowded_by, blank_bucket, blank_buckets, growing_bucket, growing_buckets, placed, appended}
 use Rattle.writing.proofs.TurnLaws.{Turn, turn_bytes, turn_record, turn_fit}
@@ -166,24 +167,21 @@ module _ (s : Card) (crowd : ℕ → Bool) (b at size : ℕ) (area part : List �
   length_opened : length part ≡ size
   length_opened = ap length opened ∙ simp (length-set, length-replicate) (length_lent at size area fits)
 
-  pub opened_length : length (back at (at + size - at) area part) ≡ length area
-  opened_length = rw (add-sub_cancel_left at size) (length_back at size area part fits length_opened)
-
   pub opened_more : take at area ≡ blank_buckets s crowd b → take (at + size) (back at (at + size - at) area part) ≡ blank_buckets s crowd (b + 1)
   opened_more before =
       let blank : part ≡ blank_bucket s crowd b = opened ∙ blank_is s crowd b _ crowded (length_lent at size area fits ∙ is_size) test in
       rw (add-sub_cancel_left at size, take_back at size area part fits length_opened, before, blank) (sym (blank_more s crowd b))
 
--- ---- the turn of record i, by what work holds
+-- ---- the turn of record i, by what placing left behind
 appended_is : (part bytes : List ℕ) (z k : ℕ) → length bytes ≡ z → get_or part 0 0 ≡ k → appended part bytes ≡ set (back (1 + z * k) z part bytes) 0 (k + 1)
 appended_is part bytes z k e f = rw (e, f)
 
-module _ {s : Card} {m n i : ℕ} {work area : List ℕ} (ok : Sound s) (h : Turn s.width n i area) (g : Worked s m (records s.width n area) work) where
+module _ {s : Card} {p : Placement} {n i : ℕ} {area : List ℕ} (ok : Sound s) (h : Turn s.width n i area) (g : Placed s (records s.width n area) p) where
   abbrev counts : ℕ → ℕ
-  counts = nth (take m work)
+  counts = nth p.counts.now
 
   abbrev crowd : ℕ → Bool
-  crowd = crowded_by s m work
+  crowd = crowded_by s p.choosers.now
 
   abbrev first : ℕ → List Record
   first k = records s.width k area
@@ -200,28 +198,28 @@ module _ {s : Card} {m n i : ℕ} {work area : List ℕ} (ok : Sound s) (h : Tur
   next_one : first (i + 1) ≡ first i ++ (this ∷ [])
   next_one = records_more s.width i area
 
-  choices : (b : ℕ) → nth (drop m work) b ≡ length (choosers s counts (first n) b)
-  choices b = g.choices b ∙ ap (λ (c : ℕ → ℕ). length (choosers s c (first n) b)) (sym (counts_are s m (first n) work g))
+  choosers_is : (b : ℕ) → nth p.choosers.now b ≡ length (choosers s counts (first n) b)
+  choosers_is b = g.choosers b ∙ ap (λ (c : ℕ → ℕ). length (choosers s c (first n) b)) (sym (counts_are g))
 
   fits_at : (k : ℕ) → k ≤ n → (b : ℕ) → crowd b ≡ false → length (choosers s counts (first k) b) ≤ s.room
   unfolding choosers
   fits_at k le b e =
-      omega (arith, ltb-false s.room (nth (drop m work) b) e, choices b, filter_mono s.width (λ r. chooses s counts b r.key) k n area le)
+      omega (arith, ltb-false s.room (nth p.choosers.now b) e, choosers_is b, filter_mono s.width (λ r. chooses s counts b r.key) k n area le)
 
-  skip_all_top : all_top s counts key ≡ true → placed s m work i area ≡ placed s m work (i + 1) area
+  skip_all_top : all_top s counts key ≡ true → placed s p i area ≡ placed s p (i + 1) area
   unfolding record_at
   skip_all_top e = stay_all_top s crowd counts (first i) this e ∙ ap (growing_buckets s crowd counts) (sym next_one)
 
-  skip_crowded : crowd (chosen s counts key) ≡ true → placed s m work i area ≡ placed s m work (i + 1) area
+  skip_crowded : crowd (chosen s counts key) ≡ true → placed s p i area ≡ placed s p (i + 1) area
   unfolding record_at
   skip_crowded e = stay_crowded s crowd counts (first i) this e ∙ ap (growing_buckets s crowd counts) (sym next_one)
 
   -- a record that belongs to the side leaves the buckets as they are
-  pub skip_side : belongs_by s counts (nth (drop m work)) key ≡ true → placed s m work i area ≡ placed s m work (i + 1) area
+  pub skip_side : belongs_by s counts (nth p.choosers.now) key ≡ true → placed s p i area ≡ placed s p (i + 1) area
   unfolding belongs_by
   skip_side e = by_test (all_top s counts key) skip_all_top (λ q. skip_crowded (rw q at e))
 
-  length_placed : length (placed s m work i area) ≡ buckets_length s
+  length_placed : length (placed s p i area) ≡ buckets_length s
   length_placed = length_all_growing s crowd counts (first i) (turn_fit h i (omega arith)) (fits_at i (omega arith))
 
   length_bytes : length bytes ≡ record_size s
@@ -229,7 +227,7 @@ module _ {s : Card} {m n i : ℕ} {work area : List ℕ} (ok : Sound s) (h : Tur
   length_bytes = turn_bytes h
 
   -- another is put into the part of the bucket that it chooses
-  module _ (stays : belongs_by s counts (nth (drop m work)) key ≡ false) where
+  module _ (stays : belongs_by s counts (nth p.choosers.now) key ≡ false) where
     abbrev here : ℕ
     here = chosen s counts key
 
@@ -246,13 +244,13 @@ module _ {s : Card} {m n i : ℕ} {work area : List ℕ} (ok : Sound s) (h : Tur
     choice_is = rw out
 
     abbrev part : List ℕ
-    part = take (bucket_size s) (drop (here * bucket_size s) (placed s m work i area))
+    part = take (bucket_size s) (drop (here * bucket_size s) (placed s p i area))
 
     below : here < s.buckets
     below = chosen_below s ok counts key out
 
     -- its part lies within the area
-    row : here * bucket_size s + bucket_size s ≤ length (placed s m work i area)
+    row : here * bucket_size s + bucket_size s ≤ length (placed s p i area)
     unfolding buckets_length
     row = rw length_placed (row_fits here s.buckets (bucket_size s) below)
 
@@ -273,7 +271,7 @@ module _ {s : Card} {m n i : ℕ} {work area : List ℕ} (ok : Sound s) (h : Tur
     mark_low : get_or part 0 0 < s.room
     mark_low = omega (arith, part_mark, room)
 
-    put : back (here * bucket_size s) (bucket_size s) (placed s m work i area) (appended part bytes) ≡ placed s m work (i + 1) area
+    put : back (here * bucket_size s) (bucket_size s) (placed s p i area) (appended part bytes) ≡ placed s p (i + 1) area
     unfolding record_at
     put =
         let fit = turn_fit h i (omega arith) in
@@ -285,7 +283,7 @@ module _ {s : Card} {m n i : ℕ} {work area : List ℕ} (ok : Sound s) (h : Tur
         ∙ ap (λ (p : List ℕ). set (back (1 + record_size s * length (choosers s counts (first i) here)) (record_size s)
         (growing_bucket s crowd counts (first i) here) p) 0 (length (choosers s counts (first i) here) + 1)) (sym (turn_record h))
         ∙ sym (put_here s crowd counts (first i) fit fits this out free room) in
-        ap (back (here * bucket_size s) (bucket_size s) (placed s m work i area)) one
+        ap (back (here * bucket_size s) (bucket_size s) (placed s p i area)) one
         ∙ put_among s crowd counts (first i) fit fits this out free room below ∙ ap (growing_buckets s crowd counts) (sym next_one)
 
 -- ---- the same in the code's numbers: row b of rows of z as it is lent; the chosen bucket's part lies in the area, its mark is low, and the area with one
@@ -293,34 +291,34 @@ module _ {s : Card} {m n i : ℕ} {work area : List ℕ} (ok : Sound s) (h : Tur
 abbrev pub row_lent : ℕ → ℕ → List ℕ → List ℕ
 row_lent b z xs = take (b * z + z - b * z) (drop (b * z) xs)
 
-pub record ChosenPart (s : Card) (m i : ℕ) (work area : List ℕ) (size part_size bucket : ℕ) (buckets : List ℕ) : Type 0 where
+pub record ChosenPart (s : Card) (p : Placement) (i : ℕ) (area : List ℕ) (size part_size bucket : ℕ) (buckets : List ℕ) : Type 0 where
   pub within : bucket * part_size + part_size ≤ length buckets
   pub mark_low : get_or (row_lent bucket part_size buckets) 0 0 < s.room
-  pub one_more : (ys : List ℕ) → ys ≡ appended (row_lent bucket part_size buckets) (row_lent i size area)
-      → back (bucket * part_size) (bucket * part_size + part_size - bucket * part_size) buckets ys ≡ placed s m work (i + 1) area
+  pub one_more : (ys : List ℕ) → ys ≡ appended (row_lent bucket part_size buckets) (take size (drop (i * size) area))
+      → back (bucket * part_size) (bucket * part_size + part_size - bucket * part_size) buckets ys ≡ placed s p (i + 1) area
 
-module _ {s : Card} {m n i : ℕ} {work area : List ℕ} (ok : Sound s) (h : Turn s.width n i area) (g : Worked s m (records s.width n area) work) where
+module _ {s : Card} {p : Placement} {n i : ℕ} {area : List ℕ} (ok : Sound s) (h : Turn s.width n i area) (g : Placed s (records s.width n area) p) where
   pub chosen_part : (size part_size bucket : ℕ) (buckets : List ℕ) → size ≡ s.width + 4 → part_size ≡ bucket_size s
-      → buckets ≡ placed s m work i area → bucket ≡ choice_by s (counts ok h g) (key ok h g)
-      → belongs_by s (counts ok h g) (nth (drop m work)) (key ok h g) ≡ false → ChosenPart s m i work area size part_size bucket buckets
+      → buckets ≡ placed s p i area → bucket ≡ choice_by s (counts ok h g) (key ok h g)
+      → belongs_by s (counts ok h g) (nth p.choosers.now) (key ok h g) ≡ false → ChosenPart s p i area size part_size bucket buckets
   chosen_part size part_size bucket buckets is_size is_part before is_choice stays =
       let start : bucket * part_size ≡ here ok h g stays * bucket_size s = rw (is_choice, choice_is ok h g stays, is_part) in
       let lent : row_lent bucket part_size buckets ≡ part ok h g stays =
-      lent_is (bucket * part_size) _ part_size _ buckets (placed s m work i area) start is_part before in
-      let lent_record : row_lent i size area ≡ bytes ok h g = lent_is (i * size) (i * (s.width + 4)) size (s.width + 4) area area (rw is_size) is_size refl in
+      lent_is (bucket * part_size) _ part_size _ buckets (placed s p i area) start is_part before in
+      let lent_record : take size (drop (i * size) area) ≡ bytes ok h g = rw is_size in
       record {
         within = rw (start, is_part, before) (row ok h g stays);
         mark_low = rw lent (mark_low ok h g stays);
         one_more = λ ys e.
-            back_is (bucket * part_size) _ part_size _ buckets (placed s m work i area) ys (appended (part ok h g stays) (bytes ok h g))
+            back_is (bucket * part_size) _ part_size _ buckets (placed s p i area) ys (appended (part ok h g stays) (bytes ok h g))
             start is_part before (e ∙ rw (lent, lent_record))
             ∙ put ok h g stays;
       }
 
 -- every record placed: the buckets of the layout
-pub placed_all : {s : Card} {m : ℕ} {work : List ℕ} (n : ℕ) (area : List ℕ) → Worked s m (records s.width n area) work
-    → placed s m work n area ≡ buckets_bytes s (true_count s (records s.width n area)) (records s.width n area)
-placed_all {s} {m} {work} n area g =
+pub placed_all : {s : Card} {p : Placement} (n : ℕ) (area : List ℕ) → Placed s (records s.width n area) p
+    → placed s p n area ≡ buckets_bytes s (true_count s (records s.width n area)) (records s.width n area)
+placed_all {s} {p} n area g =
     let l = records s.width n area in
-    ap (λ (c : ℕ → ℕ). growing_buckets s (crowded_by s m work) c l) (counts_are s m l work g)
-    ∙ growing_all s (crowded_by s m work) (true_count s l) l (λ b. unfold crowded in ap (ltb s.room) (g.choices b))
+    ap (λ (c : ℕ → ℕ). growing_buckets s (crowded_by s p.choosers.now) c l) (counts_are g)
+    ∙ growing_all s (crowded_by s p.choosers.now) (true_count s l) l (λ b. unfold crowded in ap (ltb s.room) (g.choosers b))

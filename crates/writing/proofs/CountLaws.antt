@@ -1,11 +1,11 @@
--- What the writers of true counts and of clipped counts ask: one byte of clipped counts more, all of them, and the true counts that work holds.
+-- What the writers of true counts and of clipped counts ask: one byte of clipped counts more, all of them, and the true counts of a placed list.
 use mathlib.Core.Path.{◌≡◌, refl, sym, ap, ◌∙◌}
 use mathlib.Core.List.{List, [], ◌∷◌, ◌++◌, map, map-append}
-use Prim.Native.Nat.{ℕ, ◌+◌, ◌*◌, ◌/◌, ◌<◌, ◌≤◌, min}
+use Prim.Native.Nat.{ℕ, ◌+◌, ◌*◌, ◌/◌, ◌<◌, min}
 use native.Mathlib.Nat.{zero-add}
 use native.Mathlib.Numerals.{add-one}
 use lib.ListN.{length, take, set, length-map}
-use lib.Seq.{take-suc-set, ext_get_or, length-take-le}
+use lib.Seq.{take-suc-set, ext_get_or}
 use Rattle.theory.specs.Lists.{upto}
 use Rattle.theory.specs.Records.{Record}
 use Rattle.theory.specs.Settings.{Card}
@@ -13,7 +13,9 @@ use Rattle.theory.specs.Placing.{clip, true_count}
 use Rattle.theory.specs.Layout.{counter_bytes}
 use Rattle.theory.proofs.ListLaws.{length_upto, getD_map_upto}
 use Rattle.theory.proofs.GrowingLaws.{upto_more}
-use Rattle.placing.specs.Worked.{Worked}
+use Rattle.placing.specs.declared.Placement.{Placement}
+use Rattle.placing.specs.Worked.{nth, Placed}
+use Rattle.placing.proofs.WorkLaws.{counts_are}
 use Rattle.writing.specs.Counts.{clipped_byte, clipped_bytes}
 
 -- ---- clipped counts
@@ -32,14 +34,16 @@ clipped_more top c i low high l h e f g =
     ∙ rw map-append in
     written ∙ same ∙ sym more
 
-pub clipped_all : (s : Card) (c : ℕ → ℕ) (top n : ℕ) → top ≡ s.top → n ≡ s.buckets / 2 → clipped_bytes top c n ≡ counter_bytes s c
+clipped_all : (s : Card) (c : ℕ → ℕ) (top n : ℕ) → top ≡ s.top → n ≡ s.buckets / 2 → clipped_bytes top c n ≡ counter_bytes s c
 unfolding clipped_bytes clipped_byte counter_bytes clip
 clipped_all s c top n e f = rw (e, f)
 
--- ---- the true counts in the first half of work
-pub true_counts_are : (s : Card) (m : ℕ) (l : List Record) (work : List ℕ) → Worked s m l work → m ≡ s.buckets → m ≤ length work
-    → take m work ≡ map (true_count s l) (upto 0 s.buckets)
-true_counts_are s m l work g e h =
-    ext_get_or 0 (take m work) (map (true_count s l) (upto 0 m)) (rw (length-take-le m work h, length-map, length_upto))
-    (λ i q. let below : i < m = rw (length-take-le m work h) at q in g.counts i ∙ sym (getD_map_upto (true_count s l) 0 m i 0 below ∙ rw (zero-add i)))
-    ∙ ap (λ (k : ℕ). map (true_count s l) (upto 0 k)) e
+-- ---- the counts of a placed list
+pub clipped_are : {s : Card} {l : List Record} {p : Placement} → Placed s l p → {top n : ℕ} → top ≡ s.top → n ≡ s.buckets / 2
+    → clipped_bytes top (nth p.counts.now) n ≡ counter_bytes s (true_count s l)
+clipped_are {s} {l} {p} g {top} {n} e f = clipped_all s (nth p.counts.now) top n e f ∙ ap (counter_bytes s) (counts_are g)
+
+pub true_counts_are : {s : Card} {l : List Record} {p : Placement} → Placed s l p → p.counts.now ≡ map (true_count s l) (upto 0 s.buckets)
+true_counts_are {s} {l} {p} g =
+    ext_get_or 0 p.counts.now (map (true_count s l) (upto 0 s.buckets)) (rw (g.counts_length, length-map, length_upto))
+    (λ i q. let below : i < s.buckets = rw g.counts_length at q in g.counts i ∙ sym (getD_map_upto (true_count s l) 0 s.buckets i 0 below ∙ rw (zero-add i)))

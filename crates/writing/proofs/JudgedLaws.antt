@@ -12,19 +12,18 @@ use Rattle.theory.specs.Calls.{all_lengths}
 use Rattle.theory.proofs.ListLaws.{and_left, and_right}
 use Rattle.theory.proofs.CallLaws.{Sized}
 use Rattle.settings.specs.declared.Settings.{Settings}
-use Rattle.settings.specs.declared.Checked.{Checked}
-use Rattle.settings.specs.declared.Checked.TheVariants.{Allowed}
+use Rattle.std.specs.Prelude.{Result, Ok}
+use Rattle.memory.specs.declared.refusals.Refusal.{Refusal}
 use Rattle.settings.specs.Checked.{paper, card, checked_of}
-use Rattle.settings.specs.Lengths.{code_lengths, right_lengths}
 use Rattle.settings.proofs.Laws.{allowed_arm}
-use Rattle.settings.proofs.LengthLaws.{lengths_are, sized_by}
+use Rattle.settings.proofs.LengthLaws.{sized_by}
 
 -- the settings t are allowed, and the code has them as s
 pub record Permitted (t : plain.Settings) (s : Settings) : Type 0 where
   pub ok : allowed t ≡ true
   pub same : paper s ≡ t
 
-pub permitted : (t : plain.Settings) {r : Checked} {s : Settings} → r ≡ checked_of t → r ≡ Allowed s → Permitted t s
+pub permitted : (t : plain.Settings) {r : Result Settings Refusal} {s : Settings} → r ≡ checked_of t → r ≡ Ok s → Permitted t s
 permitted t answered arm = let both = allowed_arm t _ answered _ arm in record { ok = both.0; same = both.1 }
 
 pub permits : {t : plain.Settings} {s : Settings} → Permitted t s → allowed (paper s) ≡ true
@@ -34,11 +33,11 @@ permits p = ap allowed p.same ∙ p.ok
 pub record Tested (t : plain.Settings) (s : Settings) (w z : ℕ) (a : Areas) (right : Bool) : Type 0 where
   pub settings : Permitted t s
   pub words : z ≡ work_length (card s)
-  pub areas : right ≡ right_lengths (card s) (code_lengths a)
+  pub areas : right ≡ all (λ x. x) (all_lengths (card s) a)
 
 module _ {t : plain.Settings} {s : Settings} {w z : ℕ} {a : Areas} {right : Bool} (j : Tested t s w z a right) where
   pub tested_is : (eqb w z && right) ≡ (eqb w (work_length (card_of t)) && all (λ x. x) (all_lengths (card_of t) a))
-  tested_is = rw (j.words, j.areas, lengths_are (card_of t) a, j.settings.same)
+  tested_is = rw (j.words, j.areas, j.settings.same)
 
   module _ (passed : (eqb w z && right) ≡ true) where
     pub words_right : w ≡ work_length (card s)

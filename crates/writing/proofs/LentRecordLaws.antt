@@ -10,7 +10,8 @@ use Rattle.theory.specs.Records.{Record, records}
 use Rattle.theory.specs.Settings.{Card, ledger_length}
 use Rattle.theory.specs.Placing.{true_count}
 use Rattle.theory.specs.Ledger.{side_need_of, side_short}
-use Rattle.theory.specs.Layout.{counted_places, counter_bytes, buckets_bytes, side_bytes, layout, layout_by}
+use Rattle.theory.specs.Layout.{Areas, counted_places, counter_bytes, buckets_bytes, side_bytes, layout, layout_by}
+use Rattle.writing.specs.Laying.{laid}
 use Rattle.memory.proofs.SliceLaws.{tail_is, front_length, front_take}
 use Rattle.ledger.proofs.LedgerLaws.{has_count, records_room}
 
@@ -38,10 +39,15 @@ pub short_by : (c : Card) (l : List Record) {need : ℕ} → need ≡ side_need_
 unfolding side_short
 short_by c l is = rw is
 
--- the ledger area of a list, and the other four as they are written by its records k
-pub laid_out : (c : Card) {k l : List Record} {ledger trues clipped buckets side : List ℕ} → k ≡ l → ledger ≡ counted_places c c.capacity l
-    → trues ≡ map (true_count c k) (upto 0 c.buckets) → clipped ≡ counter_bytes c (true_count c k)
-    → buckets ≡ buckets_bytes c (true_count c k) k → side ≡ side_bytes c (true_count c k) k
-    → record { ledger = ledger; true_counts = trues; clipped_counts = clipped; buckets = buckets; side_store = side } ≡ layout c l
+-- the areas as they are written: the ledger's as it was, the other four
+pub areas_laid : (c : Card) (l : List Record) {old ledger trues clipped buckets side : List ℕ} → ledger ≡ old → trues ≡ map (true_count c l) (upto 0 c.buckets)
+    → clipped ≡ counter_bytes c (true_count c l) → buckets ≡ buckets_bytes c (true_count c l) l → side ≡ side_bytes c (true_count c l) l
+    → record { ledger = ledger; true_counts = trues; clipped_counts = clipped; buckets = buckets; side_store = side } ≡ laid c l old
 unfolding layout layout_by
-laid_out c same ledger trues clipped buckets side = rw (ledger, trues, clipped, buckets, side, same)
+areas_laid c l ledger trues clipped buckets side = rw (ledger, trues, clipped, buckets, side)
+
+-- the ledger area of a list, and the other four as they are written by its records k
+pub laid_out : (c : Card) {k l : List Record} {ledger : List ℕ} {areas : Areas} → k ≡ l → ledger ≡ counted_places c c.capacity l → areas ≡ laid c k ledger
+    → areas ≡ layout c l
+unfolding layout layout_by
+laid_out c same ledger areas = areas ∙ rw (same, ledger)

@@ -17,14 +17,15 @@ use Rattle.theory.proofs.ByteLaws.{Fit}
 use Rattle.theory.proofs.LayoutLaws.{length_places}
 use Rattle.theory.proofs.GrowingLaws.{filter_mono, filter_append, records_more}
 use Rattle.memory.proofs.SliceLaws.{back, zeros, row_fits}
-use Rattle.placing.specs.Worked.{nth, belongs_by, Worked}
+use Rattle.placing.specs.declared.Placement.{Placement}
+use Rattle.placing.specs.Worked.{nth, belongs_by, Placed}
 use Rattle.placing.proofs.WorkLaws.{belongs_is, need_is}
 use Rattle.writing.specs.Side.{sent_to_side, sent, sent_places}
 use Rattle.writing.proofs.TurnLaws.{Turn, turn_record, turn_fit}
 use Rattle.writing.proofs.BucketLaws.{places_more}
 
 -- ---- the turn of record i
-module _ {s : Card} {m n i : ℕ} {work area : List ℕ} (h : Turn s.width n i area) (g : Worked s m (records s.width n area) work) where
+module _ {s : Card} {p : Placement} {n i : ℕ} {area : List ℕ} (h : Turn s.width n i area) (g : Placed s (records s.width n area) p) where
   abbrev this : Record
   this = record_at s.width (drop (i * (s.width + 4)) area)
 
@@ -35,10 +36,10 @@ module _ {s : Card} {m n i : ℕ} {work area : List ℕ} (h : Turn s.width n i a
   bytes = take (s.width + 4) (drop (i * (s.width + 4)) area)
 
   abbrev goes : List ℕ → Bool
-  goes = belongs_by s (nth (take m work)) (nth (drop m work))
+  goes = belongs_by s (nth p.counts.now) (nth p.choosers.now)
 
   abbrev stored : ℕ → List Record
-  stored k = sent s m work k area
+  stored k = sent s p k area
 
   next_one : stored (i + 1) ≡ stored i ++ filter (λ r. goes r.key) (this ∷ [])
   unfolding sent_to_side
@@ -65,7 +66,7 @@ module _ {s : Card} {m n i : ℕ} {work area : List ℕ} (h : Turn s.width n i a
   fit = filter_all (Fit s.width) (λ r. goes r.key) (records s.width i area) (turn_fit h i (omega arith))
 
   module _ (enough : length (stored n) ≤ s.side_places) where
-    pub store_length : length (sent_places s m work i area) ≡ record_size s * s.side_places
+    pub store_length : length (sent_places s p i area) ≡ record_size s * s.side_places
     store_length = length_places s s.side_places (stored i) fit (omega (arith, sent_mono i (omega arith)))
 
     module _ (yes : goes key ≡ true) where
@@ -73,23 +74,23 @@ module _ {s : Card} {m n i : ℕ} {work area : List ℕ} (h : Turn s.width n i a
       room = omega (arith, sent_length yes, sent_mono (i + 1) (omega arith))
 
       -- the place after the records so far lies within the store
-      pub place_within : record_size s * length (stored i) + record_size s ≤ length (sent_places s m work i area)
+      pub place_within : record_size s * length (stored i) + record_size s ≤ length (sent_places s p i area)
       place_within =
           rw (store_length, mul_comm (record_size s) (length (stored i)), mul_comm (record_size s) s.side_places)
           (row_fits (length (stored i)) s.side_places (record_size s) room)
 
-      pub sent_put : back (record_size s * length (stored i)) (record_size s) (sent_places s m work i area) bytes ≡ sent_places s m work (i + 1) area
+      pub sent_put : back (record_size s * length (stored i)) (record_size s) (sent_places s p i area) bytes ≡ sent_places s p (i + 1) area
       sent_put =
-          ap (back (record_size s * length (stored i)) (record_size s) (sent_places s m work i area)) (sym (turn_record h))
+          ap (back (record_size s * length (stored i)) (record_size s) (sent_places s p i area)) (sym (turn_record h))
           ∙ places_more s s.side_places (stored i) this fit room ∙ ap (places s s.side_places) (sym (one_more yes))
 
 -- ---- none yet
-module _ (s : Card) (m : ℕ) (work area : List ℕ) where
-  pub sent_none : (n : ℕ) → n ≡ record_size s * s.side_places → zeros n ≡ sent_places s m work 0 area
+module _ (s : Card) (p : Placement) (area : List ℕ) where
+  pub sent_none : (n : ℕ) → n ≡ record_size s * s.side_places → zeros n ≡ sent_places s p 0 area
   unfolding places sent_to_side records entries
   sent_none n e = rw (e, sub-zero)
 
-  pub none_sent : 0 ≡ record_size s * length (sent s m work 0 area)
+  pub none_sent : 0 ≡ record_size s * length (sent s p 0 area)
   unfolding sent_to_side records entries
   none_sent = sym (mul-zero (record_size s))
 
@@ -102,18 +103,18 @@ no_elements : (l : List Record) → length l ≡ 0 → l ≡ []
 no_elements [] e = refl
 no_elements (r ∷ rs) e = absurd (omega arith)
 
--- ---- all: whom work sends to the side, the list does
-module _ {s : Card} {m : ℕ} {l : List Record} {work : List ℕ} (g : Worked s m l work) where
-  sent_all : sent_to_side s m work l ≡ side_records s (true_count s l) l
+-- ---- all: whom the placement sends to the side, the list does
+module _ {s : Card} {l : List Record} {p : Placement} (g : Placed s l p) where
+  sent_all : sent_to_side s p l ≡ side_records s (true_count s l) l
   unfolding sent_to_side side_records
-  sent_all = ap (λ (p : List ℕ → Bool). filter (λ (r : Record). p r.key) l) (λ i k. belongs_is s m l work g k i)
+  sent_all = ap (λ (t : List ℕ → Bool). filter (λ (r : Record). t r.key) l) (λ i k. belongs_is g k i)
 
-  pub sent_need : length (sent_to_side s m work l) ≡ side_need_of s l
+  pub sent_need : length (sent_to_side s p l) ≡ side_need_of s l
   unfolding sent_to_side
-  sent_need = need_is s m l work g
+  sent_need = need_is g
 
   pub side_written : (n : ℕ) → n ≡ side_need_of s l
-      → to_bytes 2 n ++ places s s.side_places (sent_to_side s m work l) ≡ side_bytes s (true_count s l) l
+      → to_bytes 2 n ++ places s s.side_places (sent_to_side s p l) ≡ side_bytes s (true_count s l) l
   unfolding side_bytes counted_places side_need_of side_need
   side_written n e = rw (e, sent_all)
 

@@ -5,11 +5,12 @@ use Rattle.theory.specs.Records.{Record, records}
 use Rattle.theory.specs.Settings.{Card}
 use Rattle.theory.specs.Placing.{choosers}
 use Rattle.theory.specs.Layout.{places}
+use Rattle.placing.specs.declared.Placement.{Placement}
 use Rattle.placing.specs.Worked.{nth}
 
--- bucket b is crowded, by the choosers in the second half of work
-abbrev pub crowded_by : Card → ℕ → List ℕ → ℕ → Bool
-crowded_by s m work b = ltb s.room (nth (drop m work) b)
+-- bucket b is crowded, by how many keys choose each
+abbrev pub crowded_by : Card → List ℕ → ℕ → Bool
+crowded_by s choosers b = ltb s.room (nth choosers b)
 
 -- bucket b with no record yet, and the first m buckets so
 unfoldable pub blank_bucket : Card → (ℕ → Bool) → ℕ → List ℕ
@@ -25,9 +26,9 @@ growing_bucket s crowd c l b = cond (crowd b) (255 ∷ places s s.room []) (leng
 unfoldable pub growing_buckets : Card → (ℕ → Bool) → (ℕ → ℕ) → List Record → List ℕ
 growing_buckets s crowd c l = flat (growing_bucket s crowd c l) (upto 0 s.buckets)
 
--- the bucket area of the first i records of an area, by what work holds
-abbrev pub placed : Card → ℕ → List ℕ → ℕ → List ℕ → List ℕ
-placed s m work i area = growing_buckets s (crowded_by s m work) (nth (take m work)) (records s.width i area)
+-- the bucket area of the first i records of an area, by what placing left behind
+abbrev pub placed : Card → Placement → ℕ → List ℕ → List ℕ
+placed s p i area = growing_buckets s (crowded_by s p.choosers.now) (nth p.counts.now) (records s.width i area)
 
 -- a bucket's part with one record more: its bytes at the place that the mark counts, and the mark one up
 abbrev pub appended : List ℕ → List ℕ → List ℕ

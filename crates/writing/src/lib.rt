@@ -1,70 +1,72 @@
 // Writes the layout of a list: true counts, clipped counts, buckets and the side store; and clears every area.
 #![tactic(auto)]
 
-ghost use Rattle.std.specs.Prelude.{◌≡◌, true, [], map, ◌≤◌, length};
-ghost use Rattle.theory.specs.Lists.{upto};
-ghost use Rattle.theory.specs.Records.{records};
-ghost use Rattle.theory.specs.Settings.{allowed, ledger_length, true_length, clipped_length, buckets_length, side_length};
+ghost use Rattle.std.specs.Prelude.{◌≡◌, [], ◌≤◌, drop, length};
+ghost use Rattle.theory.specs.Settings.{Card, buckets_length, side_length};
+ghost use Rattle.theory.specs.Layout.{buckets_bytes, side_bytes, layout};
 ghost use Rattle.theory.specs.Placing.{true_count};
-ghost use Rattle.theory.specs.Layout.{counter_bytes, buckets_bytes, side_bytes, layout};
 ghost use Rattle.theory.specs.Ledger.{side_need_of};
-ghost use Rattle.theory.specs.CallAreas.{exit_areas};
-ghost use Rattle.settings.specs.Checked.{paper, card};
-ghost use Rattle.writing.specs.Laying.{Laying};
+ghost use Rattle.theory.specs.Demands.{Sized};
+ghost use Rattle.settings.specs.Areas.{contents, SameSlices};
+ghost use Rattle.settings.specs.Checked.{card};
+ghost use Rattle.writing.specs.Laying.{Laying, Writable, laid, placed_records};
 
-use memory::parts::{copy_counts, zero_counts, zero_fill};
+use placing::Placement;
 use settings::Settings;
+use settings::areas::Areas;
 
 pub mod buckets; // buckets.rt: the bucket area, each bucket's part lent on
-pub mod counts; // counts.rt: true counts and clipped counts
+pub mod counts; // counts.rt: clipped counts
 pub mod side; // side.rt: the side store
 
-// The layout of the list in every area but the ledger, whose records are `area`, by what placing it left in work and kept.
-pub fn write_areas(
+// The buckets and the side store of the list whose records the ledger area holds. That is lent as `&mut`, though nothing is written to it: a proof knows what
+// a field of `areas` holds in the end only where a call hands it back.
+fn write_places(
     s: Settings,
-    m: usize,
-    work: &[u16],
-    kept: &[u16],
-    true_counts: &mut [u16],
-    clipped: &mut [u8],
+    placement: Placement<'_>,
+    need: usize,
+    ledger: &mut [u8],
     buckets: &mut [u8],
     side: &mut [u8],
-    area: &[u8],
-    n: usize,
-    need: usize,
 )
-    requires { Laying s m work.now kept.now area.now n
-        × (need ≡ side_need_of (card s) (records (card s).width n area.now)) × (need ≤ (card s).side_places)
-        × (length true_counts.old ≡ true_length (card s)) × (length clipped.old ≡ clipped_length (card s))
-        × (length buckets.old ≡ buckets_length (card s)) × (length side.old ≡ side_length (card s)) }
-    ensures { let l = records (card s).width n area.now in
-        (true_counts.new ≡ map (true_count (card s) l) (upto 0 (card s).buckets))
-        × (clipped.new ≡ counter_bytes (card s) (true_count (card s) l))
-        × (buckets.new ≡ buckets_bytes (card s) (true_count (card s) l) l)
-        × (side.new ≡ side_bytes (card s) (true_count (card s) l) l) }
+    requires laying { Laying s placement (drop 2 ledger.old) }
+    requires need { need ≡ side_need_of (card s) (placed_records (card s) placement (drop 2 ledger.old)) }
+    requires enough { need ≤ (card s).side_places }
+    requires counted { 2 ≤ length ledger.old }
+    requires buckets_long { length buckets.old ≡ buckets_length (card s) }
+    requires side_long { length side.old ≡ side_length (card s) }
+    ensures ledger { ledger.new ≡ ledger.old }
+    ensures buckets { let l = placed_records (card s) placement.entry (drop 2 ledger.old) in buckets.new ≡ buckets_bytes (card s) (true_count (card s) l) l }
+    ensures side { let l = placed_records (card s) placement.entry (drop 2 ledger.old) in side.new ≡ side_bytes (card s) (true_count (card s) l) l }
 {
-    copy_counts(true_counts, &work[..m]);
-    counts::write_clipped(s.top, clipped, &work[..m]);
-    buckets::write_buckets(s, m, work, kept, buckets, area, n);
-    side::write_side(s, m, work, kept, side, area, n, need);
+    let records = &ledger[2..];
+    buckets::write_buckets(s, placement, buckets, records);
+    side::write_side(s, placement, need, side, records);
+}
+
+// The layout of the list in every area but the ledger's, which holds its records, by what placing it left behind.
+pub fn write_areas(s: Settings, placement: Placement<'_>, need: usize, areas: &mut Areas<'_>)
+    requires laying { Laying s placement (drop 2 areas.old.ledger.now) }
+    requires need { need ≡ side_need_of (card s) (placed_records (card s) placement (drop 2 areas.old.ledger.now)) }
+    requires enough { need ≤ (card s).side_places }
+    requires lengths { Writable (card s) (contents areas.old) }
+    ensures same { SameSlices areas.old areas.new }
+    ensures laid { contents areas.new
+        ≡ laid (card s) (placed_records (card s) placement.entry (drop 2 areas.old.ledger.now)) areas.old.ledger.now }
+{
+    areas.true_counts.copy_from_slice(placement.counts);
+    counts::write_clipped(s.top, areas.clipped, placement.counts);
+    write_places(s, placement, need, areas.ledger, areas.buckets, areas.side);
 }
 
 // "Clear lays out the empty list, on areas with any contents."
-pub fn clear_areas(
-    s: Settings,
-    ledger: &mut [u8],
-    true_counts: &mut [u16],
-    clipped: &mut [u8],
-    buckets: &mut [u8],
-    side: &mut [u8],
-)
-    requires { (allowed (paper s) ≡ true) × (length ledger.old ≡ ledger_length (card s)) × (length true_counts.old ≡ true_length (card s))
-        × (length clipped.old ≡ clipped_length (card s)) × (length buckets.old ≡ buckets_length (card s)) × (length side.old ≡ side_length (card s)) }
-    ensures { exit_areas ledger true_counts clipped buckets side ≡ layout (card s) [] }
+pub fn clear_areas(areas: &mut Areas<'_>)
+    ensures same { SameSlices areas.old areas.new }
+    ensures cleared { (s : Card) → Sized s (contents areas.old) → contents areas.new ≡ layout s [] }
 {
-    zero_fill(ledger);
-    zero_counts(true_counts);
-    zero_fill(clipped);
-    zero_fill(buckets);
-    zero_fill(side);
+    areas.ledger.fill(0);
+    areas.true_counts.fill(0);
+    areas.clipped.fill(0);
+    areas.buckets.fill(0);
+    areas.side.fill(0);
 }

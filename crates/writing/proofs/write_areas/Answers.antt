@@ -1,47 +1,26 @@
--- `write_areas` meets its contract: the first half of work is the true counts, so each writer's area is that of the layout.
-use mathlib.Core.Path.{◌≡◌, sym, ap, ◌∙◌}
-use mathlib.Core.List.{List}
-use Prim.Native.Nat.{ℕ, ◌+◌, ◌≤◌}
+-- `writing::write_areas` meets its contract: what placing left behind has the true counts, so each writer's area is that of the layout.
+use mathlib.Core.Path.{sym, ◌∙◌}
 use native.Mathlib.Omega.{arith}
-use lib.ListN.{length, take}
-use lib.Seq.{length-take-le}
-use Rattle.theory.specs.Settings.{card_of}
-use Rattle.theory.specs.Layout.{counter_bytes}
 use Rattle.theory.proofs.SettingsLaws.{ranges}
-use Rattle.settings.specs.Checked.{paper}
+use Rattle.settings.specs.Checked.{paper, card}
 use Rattle.settings.proofs.Laws.{top_is, true_length_is, clipped_length_is}
-use Rattle.placing.specs.Worked.{nth}
-use Rattle.placing.proofs.WorkLaws.{counts_are}
-use Rattle.writing.proofs.CountLaws.{clipped_all, true_counts_are}
+use Rattle.writing.proofs.CountLaws.{true_counts_are, clipped_are}
+use Rattle.writing.proofs.LentRecordLaws.{areas_laid}
 use Rattle.writing.proofs.write_areas.Goals as goal
 
-half_length : (m : ℕ) (work : List ℕ) → length work ≡ m + m → length (take m work) ≡ m
-half_length m work e = length-take-le m work (omega arith)
+pub copy_from_slice-requires : goal.copy_from_slice-requires
+copy_from_slice-requires c = c.requires.lengths.true_counts ∙ true_length_is (paper c.args.s) ∙ sym c.requires.laying.placed.counts_length
 
-pub copy_counts-requires : goal.copy_counts-requires
-copy_counts-requires c =
-    let laying = c.requires.0 in
-    c.requires.3 ∙ true_length_is (paper c.args.s) ∙ sym laying.buckets ∙ sym (half_length c.args.m c.args.work.now laying.work_length)
+pub write_clipped-requires-clause-top : goal.write_clipped-requires-clause-top
+write_clipped-requires-clause-top c = (ranges (paper c.args.s) c.requires.laying.ok).top_high
 
-pub write_clipped-requires : goal.write_clipped-requires
-write_clipped-requires c =
-    let laying = c.requires.0 in
-    let t = paper c.args.s in (
-      (ranges t laying.ok).top_high,
-      omega (arith, half_length c.args.m c.args.work.now laying.work_length, c.requires.4, laying.buckets, clipped_length_is t),
-    )
+pub write_clipped-requires-clause-pairs : goal.write_clipped-requires-clause-pairs
+write_clipped-requires-clause-pairs c =
+    omega (arith, c.requires.lengths.clipped_counts, clipped_length_is (paper c.args.s), c.requires.laying.placed.counts_length)
 
-pub returns : goal.returns
-returns c =
-    let laying = c.requires.0 in
-    let t = paper c.args.s in
-    let m = c.args.m in
-    let work = c.args.work.now in
-    let half : m ≤ length work = omega (arith, laying.work_length) in
-    let worked = laying.placed.worked in
-    let all = clipped_all (card_of t) (nth (take m work)) c.args.s.top (length c.args.clipped.now) (sym (top_is t)) in (
-      c.copy_counts.ensures ∙ true_counts_are _ _ _ _ worked laying.buckets half,
-      c.write_clipped.ensures ∙ all (c.requires.4 ∙ clipped_length_is t) ∙ ap (counter_bytes (card_of t)) (counts_are _ _ _ _ worked),
-      c.write_buckets.ensures,
-      c.write_side.ensures,
-    )
+pub returns-clause-laid : goal.returns-clause-laid
+returns-clause-laid c =
+    let clipped_long = c.requires.lengths.clipped_counts ∙ clipped_length_is (paper c.args.s) in
+    areas_laid (card c.args.s) _ c.write_places.ensures.ledger (c.copy_from_slice.ensures.after ∙ true_counts_are c.requires.laying.placed)
+    (c.write_clipped.ensures ∙ clipped_are c.requires.laying.placed (sym (top_is (paper c.args.s))) clipped_long) c.write_places.ensures.buckets
+    c.write_places.ensures.side
