@@ -1,4 +1,5 @@
 pub mod Digits
 pub mod Table
 pub mod Widths
+pub mod Numbering
 pub mod Made

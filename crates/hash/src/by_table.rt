@@ -17,8 +17,7 @@ pub fn by_bytes(table: &[u64], key: &[u8]) -> u64
     h
 }
 
-// Two reads a byte, of its low half and of its high half. Beside `by_bytes`, since one loop for both would go over digits, which is no plainer: each digit is
-// found by a division and a shift.
+// Two reads a byte, of its low half and of its high half.
 pub fn by_halves(table: &[u64], key: &[u8]) -> u64
     requires { table_length 4 (2 * length key.now) ≤ length table.now }
     ensures { result ≡ H_by_from 4 table.now 0 (halves key.now) }

@@ -15,8 +15,8 @@ ghost use Rattle.theory.specs.Settings.{ipv4_width, ipv6_width, KeyWidth};
 ghost use Rattle.theory.specs.Hash.{xorshift64, H as H_of, hash, hashes, numbers_of};
 ghost use Rattle.hash.specs.Digits.{TableRight, table_length, table_entries};
 ghost use Rattle.hash.specs.Table.{table_lengths, TableFor, lent_table, H_by};
+ghost use Rattle.hash.specs.Numbering.{Holds};
 
-use arrayvec::ArrayVec;
 use by_rows::{fill_by_byte, key_by_rows};
 use by_table::{by_bytes, by_halves};
 use settings::Settings;
@@ -120,19 +120,28 @@ pub fn repeats(h: u64, j: usize, m: u64, b: u64) -> bool
     seen
 }
 
+// A key's bucket numbers: the first `count` of `at`. A count beside an array, since what grows in fixed memory is not std's but of another crate of the kit
+// (`arrayvec`), and beyond std nothing is to be trusted.
+#[derive(Clone, Copy)]
+pub struct Numbers {
+    pub at: [u16; 4],
+    pub count: usize,
+}
+
 // The bucket numbers of a key whose H is h: its first k hashes, repeats dropped. Both ways to H share it.
-pub fn numbers_of(h: u64, p: usize, k: usize) -> ArrayVec<u16, 4>
+pub fn numbers_of(h: u64, p: usize, k: usize) -> Numbers
     requires power { p ≤ 12 }
     requires few { k ≤ 4 }
-    ensures { result.items ≡ numbers_of (2 ^ p) k h }
+    ensures { Holds result (numbers_of (2 ^ p) k h) }
 {
-    let mut numbers = ArrayVec::new();
+    let mut at = [0u16; 4];
+    let mut count: usize = 0;
     for j in 0..k {
         let x = hash_at(h, j, p);
-        let seen = numbers.contains(&x);
-        if !seen {
-            numbers.push(x);
+        if !at[..count].contains(&x) {
+            at[count] = x;
+            count += 1;
         }
     }
-    numbers
+    Numbers { at, count }
 }
