@@ -67,13 +67,12 @@ pub record Few (s : Settings) (m : ℕ) : Type 0 where
   pub some : 16 ≤ m
   pub few : m ≤ 4096
   pub hashes_few : s.k ≤ 4
-  pub top_few : s.top ≤ 15
 
 pub few : (s : Settings) → allowed (paper s) ≡ true → (m : ℕ) → m ≡ (card s).buckets → Few s m
 few s ok m m_is =
     let b = bounds (paper s) ok in
     let r = ranges (paper s) ok in
-    record { some = omega (arith, b.buckets_least); few = omega (arith, b.buckets_most); hashes_few = r.k_high; top_few = r.top_high }
+    record { some = omega (arith, b.buckets_least); few = omega (arith, b.buckets_most); hashes_few = r.k_high }
 
 module _ (s : Settings) (t : List ℕ) (ready : Ready s t) where
   pub sound_card : Sound (card s)

@@ -3,6 +3,7 @@ use mathlib.Core.Path.{refl}
 use native.Mathlib.Omega.{arith}
 use Rattle.theory.proofs.RankLaws.{rest_hash}
 use Rattle.placing.proofs.ReadyLaws.{few}
+use Rattle.theory.proofs.SettingsLaws.{ranges}
 use Rattle.theory.proofs.RankLaws.{best_again, best_end}
 use Rattle.settings.specs.Checked.{paper}
 use Rattle.placing.specs.Worked.{nth}
@@ -10,10 +11,10 @@ use Rattle.placing.proofs.ReadyLaws.{side_by_rank, bucket_by_rank}
 use Rattle.placing.proofs.choosing.choose_at.Goals as goal
 
 pub overflow_mul-best : goal.overflow_mul-best
-overflow_mul-best c = let f = few _ c.requires.ok _ c.buckets-m.ensures in omega arith
+overflow_mul-best c = let r = ranges (paper c.args.s) c.requires.ok in omega arith
 
 pub overflow_add-best : goal.overflow_add-best
-overflow_add-best c = let f = few _ c.requires.ok _ c.buckets-m.ensures in omega arith
+overflow_add-best c = let r = ranges (paper c.args.s) c.requires.ok in let f = few _ c.requires.ok _ c.buckets-m.ensures in omega arith
 
 pub overflow_mul-b : goal.overflow_mul-b
 overflow_mul-b c = let f = few _ c.requires.ok _ c.buckets-m.ensures in omega arith
