@@ -1,36 +1,38 @@
 -- Laws of a burst: a pass that stores a number for each key, the key that it is handed, and what the counters say, kept as one number.
 use mathlib.Core.Path.{◌≡◌, refl, sym, ap, ◌∙◌}
-use mathlib.Core.Bool.{Bool, true, false, cond, ◌&&◌}
-use mathlib.Core.List.{List, [], map}
+use mathlib.Core.Bool.{true}
+use mathlib.Core.List.{List, map}
 use Prim.Native.Nat.{ℕ, ◌+◌, ◌*◌, ◌/◌, ◌%◌, ◌^◌, ◌≤◌, ◌<◌}
-use native.Mathlib.Nat.{zero-add, zero-mul, div-add-mod', mul-div_left, mul-mod_left}
+use native.Mathlib.Nat.{zero-add}
 use native.Mathlib.Omega.{arith}
 use lib.Dec.{eqb, ltb}
-use borrow.Author.Tests.{eqb-true, eqb-false, eq-eqb, ne_eqb, ltb-true, ltb-false, lt-ltb, le-ltb}
+use borrow.Author.Tests.{eqb-true, eqb-false, ltb-true, ltb-false, le-ltb}
 use lib.Pow.{pow_mono}
-use lib.ListN.{length, take, drop, get_or, set, length-set, length-map, get_or-eq_default}
-use lib.Seq.{get_or-take, get_or-drop, get_or-set_same, get_or-set_other, ext_get_or, take_all}
-use Rattle.theory.specs.Lists.{filter, has, least, upto}
-use Rattle.theory.specs.Hash.{H, numbers_of}
+use lib.ListN.{length, drop, get_or, set, length-set, length-map, get_or-eq_default}
+use lib.Seq.{get_or-take, get_or-drop, get_or-set_same, get_or-set_other, ext_get_or}
+use Rattle.theory.specs.Lists.{filter, any, has, least, upto}
+use Rattle.theory.specs.Hash.{numbers_of}
 use Rattle.theory.specs.Settings as plain
 use Rattle.theory.specs.Settings.{card_of}
 use Rattle.theory.specs.Placing.{least_count, chosen}
-use Rattle.theory.specs.Lookup.{Answer, bare, counter, answer_at, search_areas, driver_number}
+use Rattle.theory.specs.Lookup.{Answer, counter, answer_at, driver_number}
 use Rattle.theory.proofs.ListLaws.{by_test, length_upto, getD_map_upto, all_upto, map_cong, least_le}
 use Rattle.theory.proofs.SettingsLaws.{ranges}
 use Rattle.memory.proofs.SliceLaws.{length_part, row_fits}
 use Rattle.hash.specs.Table.{table_lengths, TableFor, H_by}
+use Rattle.std.specs.Prelude.{Option, None, Some, Err}
+use Rattle.memory.specs.declared.refusals.Refusal.{Refusal}
+use Rattle.memory.specs.Refusals.{number_of}
 use Rattle.settings.specs.declared.Settings.{Settings}
-use Rattle.settings.specs.Checked.{paper, card}
+use Rattle.settings.specs.Checked.{paper}
 use Rattle.lookup.specs.declared.counters.KeyCounters.{KeyCounters}
-use Rattle.lookup.specs.Choosing.{card_at, KeyCountersOf}
+use Rattle.lookup.specs.Choosing.{card_at, key_counters_at}
 use Rattle.lookup.specs.Places.{CheckedLookup, KeyCountersFit, place_by}
-use Rattle.lookup.specs.declared.judging.Judged.TheVariants.{Refused}
-use Rattle.lookup.specs.Bursts.{burst_key, per_key, judged_burst, packed_of, unpacked_of, key_counters_at, ByPacked}
+use Rattle.lookup.specs.Bursts.{burst_key, per_key, judged_burst, packed_of, unpacked_of, CountersFit, ByPacked}
 use Rattle.lookup.specs.Bursts.{number_by, number_at, burst_of}
-use Rattle.lookup.specs.Answers.{search_of, judged_of, search_with}
+use Rattle.lookup.specs.Answers.{search_of, search_with}
 use Rattle.lookup.proofs.PlaceLaws.{key_counters_fit, place_by_is, places_of, search_is}
-use Rattle.lookup.proofs.JudgeLaws.{Unrefused, search_refused, search_answered, search_number, lent_judged, UnrefusedBurst, unrefused_alone}
+use Rattle.lookup.proofs.JudgeLaws.{lent_judged, UnrefusedBurst, unrefused_alone}
 use Rattle.lookup.proofs.WithTableLaws.{with_ready, with_number}
 
 -- ---- a number for each key: one of them, how many, and two alike
@@ -75,62 +77,43 @@ module _ {f : ℕ → ℕ} {before : List ℕ} where
 pub key_within : (keys : List ℕ) (n w width i : ℕ) → length keys ≡ n * w → width ≡ w → i < n → i * width + width ≤ length keys
 key_within keys n w width i size wide lt = rw (wide, size) (row_fits i n w lt)
 
--- ---- keys of n times w bytes, judged by a division
-module _ (w len n : ℕ) (some_width : 0 < w) where
-  pub whole_keys : (eqb (len % w) 0 && eqb (len / w) n) ≡ eqb len (n * w)
-  whole_keys =
-      by_test (eqb len (n * w))
-      (λ e. let is : len ≡ n * w = eqb-true len (n * w) e in rw (e, is, mul-mod_left n w, mul-div_left n some_width) (rw (eq-eqb n n refl)))
-      (λ e. rw e (by_test (eqb (len % w) 0)
-      (λ r. rw r (ne_eqb (len / w) n (λ q. eqb-false len (n * w) e (sym (div-add-mod' len w) ∙ rw (q, eqb-true (len % w) 0 r) (omega arith)))))
-      (λ r. rw r)))
-
 -- ---- what the counters say, kept as one number and read back
-same_choice : (c : KeyCounters) (a : Bool) (l b : ℕ) → a ≡ c.above → l ≡ c.least.0 → b ≡ c.bucket
-    → ◌≡◌ {A = KeyCounters} (record { above = a; least = record { 0 = l }; bucket = b }) c
-same_choice c a l b p q r = rw (p, q, r)
+same_counters : (c : KeyCounters) (l b : ℕ) → l ≡ c.least.0 → b ≡ c.bucket → ◌≡◌ {A = KeyCounters} (record { least = record { 0 = l }; bucket = b }) c
+same_counters c l b p q = rw (p, q)
 
-module _ (l b : ℕ) (few : l < 65536) (low : b < 65536) where
-  back : (a : Bool) → (ltb 4294967295 (cond a 4294967296 0 + (l * 65536 + b)) ≡ a)
-      × ((cond a 4294967296 0 + (l * 65536 + b)) % 4294967296 / 65536 ≡ l) × ((cond a 4294967296 0 + (l * 65536 + b)) % 65536 ≡ b)
-  back true = (lt-ltb 4294967295 (4294967296 + (l * 65536 + b)) (omega arith), omega arith, omega arith)
-  back false = (le-ltb 4294967295 (0 + (l * 65536 + b)) (omega arith), omega arith, omega arith)
-
-read_back : (c : KeyCounters) → c.least.0 < 65536 → c.bucket < 65536 → unpacked_of (packed_of c) ≡ c
-read_back c few low = let is = back c.least.0 c.bucket few low c.above in same_choice c _ _ _ is.0 is.1 is.2
+read_back : (c : Option KeyCounters) → CountersFit c → unpacked_of (packed_of c) ≡ c
+read_back None fit = refl
+read_back (Some c) fit =
+    let few : c.least.0 < 65536 = fit.0 in
+    let low : c.bucket < 65536 = fit.1 in
+    let least : (c.least.0 * 65536 + c.bucket) % 4294967296 / 65536 ≡ c.least.0 = omega arith in
+    let bucket : (c.least.0 * 65536 + c.bucket) % 65536 ≡ c.bucket = omega arith in
+    rw (le-ltb 4294967295 (c.least.0 * 65536 + c.bucket) (omega arith)) (ap (λ (x : KeyCounters). Some x) (same_counters c _ _ least bucket))
 
 module _ (t : plain.Settings) (ok : plain.allowed t ≡ true) (clipped : List ℕ) (h : ℕ) where
-  -- a choice is the definition's
-  pub choice_is : (c : KeyCounters) → KeyCountersOf t h clipped c → c ≡ key_counters_at t clipped h
-  unfolding key_counters_at
-  choice_is c of = sym (same_choice c _ _ _ (sym of.above) (sym (of.least [])) (sym (of.bucket [])))
-
-  of_at : KeyCountersOf t h clipped (key_counters_at t clipped h)
-  unfolding key_counters_at least_count chosen card_at
-  of_at = record { above = refl; least = λ key. refl; bucket = λ key. refl }
-
-  pub at_small : ((key_counters_at t clipped h).least.0 < 65536) × ((key_counters_at t clipped h).bucket < 65536)
+  pub at_small : CountersFit (key_counters_at t clipped h)
   unfolding key_counters_at least_count chosen card_at card_of
   at_small =
       let ns = numbers_of (2 ^ t.p) t.k h in
       let low = least t.top (map (counter clipped) ns) in
       let r = ranges t ok in
       let few : 2 ^ t.p ≤ 2 ^ 12 = pow_mono {j = 12} r.p_high in
-      (omega (arith, least_le t.top (map (counter clipped) ns)), omega (arith, least_le (2 ^ t.p) (filter (λ b. eqb (counter clipped b) low) ns)))
+      by_test (any (λ b. ltb t.top (counter clipped b)) ns) (λ a. rw a tt)
+      (λ a. rw a (omega (arith, least_le t.top (map (counter clipped) ns)), omega (arith, least_le (2 ^ t.p) (filter (λ b. eqb (counter clipped b) low) ns))))
 
   at_back : unpacked_of (packed_of (key_counters_at t clipped h)) ≡ key_counters_at t clipped h
-  at_back = read_back (key_counters_at t clipped h) at_small.0 at_small.1
+  at_back = read_back (key_counters_at t clipped h) at_small
 
   pub at_fits : KeyCountersFit t (unpacked_of (packed_of (key_counters_at t clipped h)))
-  at_fits = rw at_back (key_counters_fit ok of_at)
+  at_fits = rw at_back (key_counters_fit t h clipped ok)
 
   pub number_is : (buckets side key : List ℕ) → number_by t buckets side key (packed_of (key_counters_at t clipped h)) ≡ number_at t clipped buckets side key h
   unfolding number_by number_at
   number_is buckets side key =
-      rw at_back (ap driver_number (search_is t h clipped buckets side key _ (place_by_is ok of_at buckets side key)))
+      rw at_back (ap driver_number (search_is t h clipped buckets side key _ (place_by_is t h clipped ok key buckets side)))
 
 -- the number of an answer that was found by a choice read back from x
-pub number_from : (t : plain.Settings) (buckets side : List ℕ) (x : ℕ) {key lent : List ℕ} {r : ℕ} {c : KeyCounters} {a : Answer} → r ≡ driver_number a
+pub number_from : (t : plain.Settings) (buckets side : List ℕ) (x : ℕ) {key lent : List ℕ} {r : ℕ} {c : Option KeyCounters} {a : Answer} → r ≡ driver_number a
     → a ≡ answer_at (card_of t) lent (place_by (card_of t) c buckets side) → lent ≡ key → c ≡ unpacked_of x → r ≡ number_by t buckets side key x
 unfolding number_by
 number_from t buckets side x is_number is-answer is_key is_choice = rw (is_number, is-answer, is_key, is_choice)
@@ -165,25 +148,10 @@ module _ {t : plain.Settings} {clipped buckets side : List ℕ} (checked : Check
       ∙ per_key_same _ _ n
       (λ j lt. ap (number_by t buckets side (burst_key w keys j)) (packed_at j lt) ∙ number_is t checked.ok clipped (h j) buckets side (burst_key w keys j))
 
--- ---- one key by itself, judged as a search
-pub refused_number : (t : plain.Settings) (clipped buckets side key : List ℕ) (n : ℕ) → judged_of t clipped buckets side key ≡ Refused n
-    → (x : Answer) {r : ℕ} → r ≡ driver_number x → x ≡ bare n → r ≡ search_of t clipped buckets side key
-refused_number t clipped buckets side key n e x is_number is-bare =
-    is_number ∙ search_number t clipped buckets side key x (search_refused t clipped buckets side key n e x is-bare)
-
-pub one_number : {t : plain.Settings} {clipped buckets side key : List ℕ} {c : Settings} → Unrefused t clipped buckets side key c → (h : ℕ) → h ≡ H key
-    → number_at (paper c) clipped buckets side (burst_key (card c).width key 0) h ≡ search_of t clipped buckets side key
-unfolding number_at
-one_number {t} {clipped} {buckets} {side} {key} {c} u h is-H =
-    let whole : burst_key (card c).width key 0 ≡ key
-    = ap (λ (n : ℕ). take (card c).width (drop n key)) (zero-mul (card c).width) ∙ take_all (card c).width key (omega (arith, u.wide)) in
-    ap (λ (k : List ℕ). driver_number (search_areas (card_at (paper c) h) clipped buckets side k)) whole
-    ∙ search_number t clipped buckets side key _ (search_answered u h is-H _ refl)
-
 -- ---- what a burst gives, by its judgement
-pub burst_refused : (table : List ℕ) (t : plain.Settings) (clipped buckets side keys before : List ℕ) (n : ℕ)
-    → judged_burst table t clipped buckets side keys (length before) ≡ Refused n
-    → record { number = n; answers = before } ≡ burst_of table t clipped buckets side keys before
+pub burst_refused : (table : List ℕ) (t : plain.Settings) (clipped buckets side keys before : List ℕ) (n : Refusal)
+    → judged_burst table t clipped buckets side keys (length before) ≡ Err n
+    → record { number = number_of n; answers = before } ≡ burst_of table t clipped buckets side keys before
 unfolding burst_of
 burst_refused table t clipped buckets side keys before n e = rw e
 

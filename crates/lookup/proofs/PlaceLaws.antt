@@ -1,15 +1,17 @@
 -- Laws of where a search looks: each test of the code is the definition's.
 use mathlib.Core.Path.{◌≡◌, refl, sym, ap, ◌∙◌, subst}
-use mathlib.Core.Bool.{Bool, true, false, not, ◌&&◌}
+use mathlib.Core.Bool.{Bool, true, false, not, ◌&&◌, false≢true}
 use mathlib.Core.List.{List, [], ◌∷◌}
 use Prim.Native.Nat.{ℕ, zero, suc, ◌+◌, ◌-◌, ◌*◌, ◌≤◌, ◌<◌}
 use native.Mathlib.Nat.{add-zero, mul_comm, mul-le-mul_right}
 use native.Mathlib.Omega.{arith}
-use lib.Dec.{eqb}
+use lib.Dec.{eqb, ltb}
 use borrow.Author.Tests.{lt-ltb, le-ltb, eq-eqb, ne_eqb}
 use lib.ListN.{length, take, drop, get_or, length-drop}
 use lib.Seq.{get_or-take, get_or-drop, drop-drop}
-use Rattle.theory.specs.Hash.{H}
+use Rattle.std.specs.Prelude.{Option}
+use Rattle.theory.specs.Lists.{any, all}
+use Rattle.theory.specs.Hash.{H, numbers_of}
 use Rattle.theory.specs.Records.{class_width, count_of}
 use Rattle.theory.specs.Settings.{Settings, Card, allowed, card_of, record_size, bucket_size, buckets_length}
 use Rattle.theory.specs.Placing.{all_top, least_count, chosen}
@@ -24,11 +26,11 @@ use Rattle.memory.proofs.SliceLaws.{length_part, lent_is}
 use Rattle.settings.proofs.Laws.{width_is, room_is, record_size_is, bucket_size_is, side_length_is, bounds}
 use Rattle.lookup.specs.declared.counters.KeyCounters.{KeyCounters}
 use Rattle.lookup.specs.Scanning.{Scannable, AllScannable}
-use Rattle.lookup.specs.Choosing.{card_at, KeyCountersOf}
+use Rattle.lookup.specs.Choosing.{card_at, key_counters_at, bucket_of}
 use Rattle.lookup.specs.declared.places.Place.{Place}
 use Rattle.lookup.specs.declared.places.Place.TheVariants.{Invalid, Nowhere, Bucket, Side}
-use Rattle.lookup.specs.Places.{CheckedLookup, CheckedPlaces, place_of, Inside, by_choice, place_by, goes_by}
-use Rattle.lookup.specs.Places.{KeyCountersFit, Looks, LooksAt, InBucket, InSide}
+use Rattle.lookup.specs.Places.{CheckedLookup, CheckedPlaces, Inside, by_choice, place_by, goes_by}
+use Rattle.lookup.specs.Places.{KeyCountersFit, Goes, LooksAt, InBucket, InSide, ByPlace}
 
 -- ---- the side store
 module _ {t : Settings} {buckets side : List ℕ} {b : ℕ} where
@@ -173,61 +175,67 @@ module _ (t : Settings) (ok : allowed t ≡ true) (h : ℕ) where
     chosen_there = chosen_below (card_at t h) sound_at (counter clipped) key not_all
 
 -- a last test in the place of a bucket
-by_last : (s : Card) (c : KeyCounters) (x : Bool) → by_choice s c false false false x ≡ (by_choice s c false false false true && x)
-by_last s c x =
-    by_test c.above (λ a. rw a) (λ a. rw a (by_test (eqb c.least.0 0) (λ z. rw z)
-    (λ z. rw z (by_test (eqb c.least.0 s.top) (λ e. rw e) (λ e. rw e)))))
+by_last : (s : Card) (c : ℕ → ℕ) (k : List ℕ) (x : Bool) → by_counters s c k false false false x ≡ (by_counters s c k false false false true && x)
+unfolding by_counters
+by_last s c k x =
+    by_test (any (λ b. ltb s.top (c b)) (s.numbers k)) (λ a. rw a) (λ a. rw a (by_test (any (λ b. eqb (c b) 0) (s.numbers k)) (λ z. rw z)
+    (λ z. rw z (by_test (all (λ b. eqb (c b) s.top) (s.numbers k)) (λ e. rw e) (λ e. rw e)))))
 
 -- ---- what the code found of the counters is where the definition looks
-module _ {t : Settings} {h : ℕ} {clipped : List ℕ} {c : KeyCounters} (ok : allowed t ≡ true) (of : KeyCountersOf t h clipped c) where
-  pub key_counters_fit : KeyCountersFit t c
-  key_counters_fit = record { there = λ e. rw (of.bucket []) (chosen_there t ok h clipped [] (λ low. e (of.least [] ∙ low))) }
+module _ (t : Settings) (h : ℕ) (clipped : List ℕ) (ok : allowed t ≡ true) where
+  abbrev above : Bool
+  above = any (λ b. ltb t.top (counter clipped b)) (numbers_of (card_of t).buckets t.k h)
 
-  -- by `by_least` the least tells what the definition asks of all counters
-  by_choice_is : (key : List ℕ) {X : Type 0} (refused absent side bucket : X)
-      → by_choice (card_of t) c refused absent side bucket ≡ by_counters (card_at t h) (counter clipped) key refused absent side bucket
-  unfolding card_at card_of
-  by_choice_is key refused absent side bucket =
-      rw (of.above, of.least key) (sym (by_least (card_at t h) (sound_at t ok h).top_some (counter clipped) key refused absent side bucket))
+  abbrev found : Option KeyCounters
+  found = key_counters_at t clipped h
 
-  module _ (buckets side key : List ℕ) where
-    pub place_by_is : place_by (card_of t) c buckets side ≡ place (card_at t h) clipped buckets side key
-    unfolding place_by place card_at side_place bucket_place bucket_part bucket_size record_size
-    place_by_is = rw (of.bucket key) (by_choice_is key _ _ _ _)
+  pub key_counters_fit : KeyCountersFit t found
+  unfolding key_counters_at
+  key_counters_fit = by_test above (λ a. rw a tt) (λ a. rw a (λ e. chosen_there t ok h clipped [] e))
 
-    goes_by_is : goes_by (card_of t) c buckets ≡ goes_to_bucket (card_at t h) clipped buckets key
-    unfolding goes_by goes_to_bucket reads_bucket card_at bucket_part bucket_size record_size
-    goes_by_is = rw (of.bucket key, ← by_choice_is key false false false true) (by_last (card_of t) c _)
+  module _ (key : List ℕ) where
+    abbrev chosen_of : ℕ
+    chosen_of = chosen (card_at t h) (counter clipped) key
 
-    pub looks_by : {r : Place} → LooksAt t buckets side (place_by (card_of t) c buckets side) c.bucket (goes_by (card_of t) c buckets) r
-        → LooksAt t buckets side (place (card_at t h) clipped buckets side key) (chosen (card_at t h) (counter clipped) key)
-        (goes_to_bucket (card_at t h) clipped buckets key) r
-    looks_by l = rw (← place_by_is, ← goes_by_is, ← of.bucket key) l
+    -- by `by_least` the least tells what the definition asks of all counters
+    by_choice_is : {X : Type 0} (refused absent side : X) (bucket : ℕ → X) → by_choice (card_of t) found refused absent side (bucket (bucket_of found))
+        ≡ by_counters (card_at t h) (counter clipped) key refused absent side (bucket chosen_of)
+    unfolding key_counters_at card_at card_of chosen least_count
+    by_choice_is refused absent side bucket =
+        let whole = by_least (card_at t h) (sound_at t ok h).top_some (counter clipped) key refused absent side (bucket chosen_of) in
+        by_test above (λ a. rw a (sym (rw a at whole))) (λ a. rw a (sym (rw a at whole)))
+
+    module _ (buckets side : List ℕ) where
+      pub place_by_is : place_by (card_of t) found buckets side ≡ place (card_at t h) clipped buckets side key
+      unfolding place_by place card_at side_place bucket_place bucket_part bucket_size record_size
+      place_by_is = by_choice_is _ _ _ (λ (b : ℕ). bucket_place (card_of t) (bucket_part (card_of t) buckets b) side)
+
+      goes_by_is : goes_by (card_of t) found buckets ≡ goes_to_bucket (card_at t h) clipped buckets key
+      unfolding goes_by goes_to_bucket reads_bucket card_at bucket_part bucket_size record_size
+      goes_by_is =
+          by_choice_is false false false (λ (b : ℕ). not (eqb (get_or (bucket_part (card_of t) buckets b) 0 0) 255))
+          ∙ by_last (card_at t h) (counter clipped) key _
+
+      bucket_is : goes_by (card_of t) found buckets ≡ true → bucket_of found ≡ chosen_of
+      unfolding goes_by key_counters_at chosen least_count card_at
+      bucket_is e = by_test above (λ a. absurd (false≢true (rw a at e))) (λ a. rw a)
+
+      goes_on : (r : Place) → Goes (card_of t) (bucket_of found) (goes_by (card_of t) found buckets) r
+          → Goes (card_of t) chosen_of (goes_to_bucket (card_at t h) clipped buckets key) r
+      goes_on Invalid g = tt
+      goes_on Nowhere g = tt
+      goes_on (Bucket from n) g = (sym goes_by_is ∙ g.0, g.1 ∙ ap (λ (b : ℕ). b * bucket_size (card_of t) + 1) (bucket_is g.0))
+      goes_on (Side n read) g = sym goes_by_is ∙ g
+
+      pub looks_by : {r : Place} → LooksAt t buckets side (place_by (card_of t) found buckets side) (bucket_of found) (goes_by (card_of t) found buckets) r
+          → LooksAt t buckets side (place (card_at t h) clipped buckets side key) chosen_of (goes_to_bucket (card_at t h) clipped buckets key) r
+      looks_by {r} l = record { looks = rw (← place_by_is) l.looks; goes = goes_on r l.goes }
 
 pub places_of : {t : Settings} {clipped buckets side : List ℕ} → CheckedLookup t clipped buckets side → CheckedPlaces t buckets side
 places_of l = record { ok = l.ok; buckets_size = l.buckets_size; side_size = l.side_size }
 
--- ---- the match over the place where a search looks: what each arm may compare, and that its answer is the whole search's
-pub record Looking (t : Settings) (buckets side key : List ℕ) (r : Place) (whole : plain.Answer) : Type 0 where
-  pub checked : CheckedPlaces t buckets side
-  pub wide : length key ≡ (card_of t).width
-  pub inside : Inside t r
-  pub answers : answer_at (card_of t) key (place_of (card_of t) buckets side r) ≡ whole
-
-pub looking_by : {t : Settings} {buckets side key : List ℕ} {x : plain.Place} {r : Place} → CheckedPlaces t buckets side → length key ≡ (card_of t).width
-    → Looks t buckets side x r → Looking t buckets side key r (answer_at (card_of t) key x)
-looking_by {t} {key = key} checked wide l = record { checked = checked; wide = wide; inside = l.inside; answers = ap (answer_at (card_of t) key) l.is }
-
--- of a key with this H
-pub record LookingAt (t : Settings) (h : ℕ) (clipped buckets side key : List ℕ) (r : Place) : Type 0 where
-  pub looking : Looking t buckets side key r (search_areas (card_at t h) clipped buckets side key)
-
-pub looking_at : {t : Settings} (h : ℕ) {clipped buckets side key : List ℕ} {r : Place} → CheckedLookup t clipped buckets side
-    → length key ≡ (card_of t).width → Looks t buckets side (place (card_at t h) clipped buckets side key) r → LookingAt t h clipped buckets side key r
-unfolding search_areas answer_at card_at
-looking_at h checked wide l = record { looking = looking_by (places_of checked) wide l }
-
-module _ {t : Settings} {buckets side key : List ℕ} {r : Place} {whole : plain.Answer} (l : Looking t buckets side key r whole) where
+-- ---- the match over the place where a search looks: what each arm may compare
+module _ {t : Settings} {r : Place} {buckets side key : List ℕ} (l : ByPlace t r buckets side key) where
   pub in_bucket : {from n : ℕ} → r ≡ Bucket from n → InBucket t buckets key from n
   in_bucket e =
       let i = subst (Inside t) e l.inside in
@@ -238,17 +246,6 @@ module _ {t : Settings} {buckets side key : List ℕ} {r : Place} {whole : plain
   in_side e =
       let i = subst (Inside t) e l.inside in
       record { ok = l.checked.ok; side_size = l.checked.side_size; wide = l.wide; few = i.0 }
-
-  pub answer_in : (arm : Place) → r ≡ arm → answer_at (card_of t) key (place_of (card_of t) buckets side arm) ≡ whole
-  answer_in arm e = ap (λ (x : Place). answer_at (card_of t) key (place_of (card_of t) buckets side x)) (sym e) ∙ l.answers
-
-  pub answer_refused : r ≡ Invalid → bare 5 ≡ whole
-  unfolding answer_at
-  answer_refused e = answer_in Invalid e
-
-  pub answer_absent : r ≡ Nowhere → bare 100 ≡ whole
-  unfolding answer_at
-  answer_absent e = answer_in Nowhere e
 
 -- ---- the answer of the place where a search of a key with this H ends
 pub search_is : (t : Settings) (h : ℕ) (clipped buckets side key : List ℕ) (x : plain.Place) → x ≡ place (card_at t h) clipped buckets side key

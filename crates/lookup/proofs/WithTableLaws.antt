@@ -15,21 +15,22 @@ use Rattle.theory.proofs.ListLaws.{by_test}
 use Rattle.theory.proofs.LookupLaws.{search_few}
 use Rattle.hash.specs.Table.{table_lengths, TableFor, H_by}
 use Rattle.hash.proofs.KeyHashLaws.{by_right}
+use Rattle.std.specs.Prelude.{Result, Ok, Err}
+use Rattle.memory.specs.declared.refusals.Refusal.{Refusal}
+use Rattle.memory.specs.Refusals.{number_of}
 use Rattle.settings.specs.declared.Settings.{Settings}
 use Rattle.settings.specs.Checked.{paper}
-use Rattle.lookup.specs.declared.judging.Judged.{Judged}
-use Rattle.lookup.specs.declared.judging.Judged.TheVariants.{Ready, Refused}
 use Rattle.lookup.specs.Choosing.{card_at}
 use Rattle.lookup.specs.Answers.{lookup_areas, search_of, judged_of, judged_with_table, search_with}
 use Rattle.lookup.proofs.JudgeLaws.{Searched, search_refused, search_answered, search_number, lent_judged, lent_unrefused}
 
 module _ (table : List ℕ) (t : plain.Settings) (clipped buckets side key : List ℕ) where
-  pub with_refused : (n : ℕ) → judged_with_table table t clipped buckets side key ≡ Refused n → bare n ≡ search_with table t clipped buckets side key
+  pub with_refused : (e : Refusal) → judged_with_table table t clipped buckets side key ≡ Err e → bare (number_of e) ≡ search_with table t clipped buckets side key
   unfolding search_with
-  with_refused n e = rw e
+  with_refused x e = rw e
 
   -- under settings that are t
-  pub with_ready : (c : Settings) → judged_with_table table t clipped buckets side key ≡ Ready c → (u : plain.Settings) → u ≡ t
+  pub with_ready : (c : Settings) → judged_with_table table t clipped buckets side key ≡ Ok c → (u : plain.Settings) → u ≡ t
       → (h : ℕ) → h ≡ H_by table key → search_areas (card_at u h) clipped buckets side key ≡ search_with table t clipped buckets side key
   unfolding search_with
   with_ready c e u same h is = rw (e, same, is)
@@ -50,11 +51,11 @@ module _ (table : List ℕ) (t : plain.Settings) (clipped buckets side key : Lis
   -- ---- with a right table of its length it is `perform`'s search, and its number the search door's
   module _ (long : has (length table) (table_lengths (card_of t).width) ≡ true) (right : TableFor (card_of t).width table)
       (bytes : (i : ℕ) → get_or key i 0 < 256) where
-    performs : (x : Judged) → judged_with_table table t clipped buckets side key ≡ x
+    performs : (x : Result Settings Refusal) → judged_with_table table t clipped buckets side key ≡ x
         → Searched t clipped buckets side key (search_with table t clipped buckets side key)
-    performs (Refused n) e =
+    performs (Err n) e =
         search_refused t clipped buckets side key n (sym (lent_judged table t clipped buckets side key long) ∙ e) _ (sym (with_refused n e))
-    performs (Ready c) e =
+    performs (Ok c) e =
         let u = (lent_unrefused table t clipped buckets side key c e).1 in
         let wide : length key ≡ (card_of t).width = u.wide ∙ ap (λ (v : plain.Settings). (card_of v).width) u.same in
         search_answered u (H_by table key) (by_right (card_of t).width table right long key wide bytes) _

@@ -1,16 +1,16 @@
 -- A burst of searches: many keys, one after the other in a lent part, each with a number for its answer.
-use Rattle.std.specs.Prelude.{◌≡◌, cond, not, ◌&&◌, List, [], map, ℕ, ◌+◌, ◌*◌, ◌/◌, ◌%◌, ◌<◌, eqb, ltb, length, take, drop, get_or}
-use Rattle.theory.specs.Lists.{all, any, has, upto}
-use Rattle.theory.specs.Hash.{numbers_of}
+use Rattle.std.specs.Prelude.{◌≡◌, cond, not, ◌&&◌, Option, None, Some, Result, Ok, Err, List, map, ℕ, ◌+◌, ◌*◌, ◌/◌, ◌%◌, ◌<◌, eqb, ltb, length, take, drop, get_or}
+use Rattle.theory.specs.Lists.{all, has, upto}
 use Rattle.theory.specs.Settings as plain
-use Rattle.theory.specs.Placing.{least_count, chosen}
-use Rattle.theory.specs.Lookup.{counter, driver_number, answer_at, search_areas}
+use Rattle.theory.specs.Lookup.{driver_number, answer_at, search_areas}
 use Rattle.theory.specs.Calls.{lookup_lengths}
 use Rattle.hash.specs.Table.{table_lengths, H_by}
+use Rattle.memory.specs.declared.refusals.Refusal.{Refusal}
+use Rattle.memory.specs.declared.refusals.Refusal.TheVariants.{SettingOutOfRange, WrongAreaLength, WrongKeyLength}
+use Rattle.memory.specs.Refusals.{number_of}
+use Rattle.settings.specs.declared.Settings.{Settings}
 use Rattle.settings.specs.Checked.{code}
 use Rattle.lookup.specs.declared.counters.KeyCounters.{KeyCounters}
-use Rattle.lookup.specs.declared.judging.Judged.{Judged}
-use Rattle.lookup.specs.declared.judging.Judged.TheVariants.{Ready, Refused}
 use Rattle.lookup.specs.Choosing.{card_at}
 use Rattle.lookup.specs.Places.{CheckedPlaces, KeyCountersFit, place_by}
 use Rattle.lookup.specs.Answers.{lookup_areas}
@@ -24,37 +24,33 @@ abbrev pub per_key : (ℕ → ℕ) → ℕ → List ℕ
 per_key f n = map f (upto 0 n)
 
 -- what is judged first: 1; 2, the length of the table or of a lookup area; 3, keys not of n times the key's bytes
-unfoldable pub judged_burst : List ℕ → plain.Settings → List ℕ → List ℕ → List ℕ → List ℕ → ℕ → Judged
+unfoldable pub judged_burst : List ℕ → plain.Settings → List ℕ → List ℕ → List ℕ → List ℕ → ℕ → Result Settings Refusal
 judged_burst table t clipped buckets side keys n =
-    cond (not (plain.allowed t)) (Refused 1)
+    cond (not (plain.allowed t)) (Err SettingOutOfRange)
     (cond (not (has (length table) (table_lengths (plain.card_of t).width)
     && all (λ x. x) (lookup_lengths (plain.card_of t) (lookup_areas clipped buckets side))))
-    (Refused 2)
-    (cond (not (eqb (length keys) (n * (plain.card_of t).width))) (Refused 3) (Ready (code t))))
+    (Err WrongAreaLength)
+    (cond (not (eqb (length keys) (n * (plain.card_of t).width))) (Err WrongKeyLength) (Ok (code t))))
 
 -- ---- the three passes over the answers: H of each key; what its counters say; its answer's number
--- what the counters say, as one number: 2^32 where one is above T, and the rank of the choice
-abbrev pub packed_of : KeyCounters → ℕ
-packed_of c = cond c.above 4294967296 0 + (c.least.0 * 65536 + c.bucket)
+-- what the counters say, as one number: 2^32 where one is above T, else the rank of the choice
+abbrev pub packed_of : Option KeyCounters → ℕ
+packed_of None = 4294967296
+packed_of (Some c) = c.least.0 * 65536 + c.bucket
 
-abbrev pub unpacked_of : ℕ → KeyCounters
-unpacked_of x =
-    record { above = ltb 4294967295 x; least = record { 0 = x % 4294967296 / 65536 }; bucket = x % 65536 }
+abbrev pub unpacked_of : ℕ → Option KeyCounters
+unpacked_of x = cond (ltb 4294967295 x) None (Some (record { least = record { 0 = x % 4294967296 / 65536 }; bucket = x % 65536 }))
+
+-- small enough for that
+abbrev pub CountersFit : Option KeyCounters → Type 0
+CountersFit None = Unit {0}
+CountersFit (Some c) = (c.least.0 < 65536) × (c.bucket < 65536)
 
 -- what the third pass asks: areas that are judged, a key for each number, and numbers that counters were packed into
 pub record ByPacked (t : plain.Settings) (buckets side keys answers : List ℕ) : Type 0 where
   pub checked : CheckedPlaces t buckets side
   pub keys_size : length keys ≡ length answers * (plain.card_of t).width
   pub fits : (j : ℕ) → j < length answers → KeyCountersFit t (unpacked_of (get_or answers j 0))
-
--- what the counters say of a key whose H is h
-unfoldable pub key_counters_at : plain.Settings → List ℕ → ℕ → KeyCounters
-key_counters_at t clipped h =
-    record {
-      above = any (λ b. ltb t.top (counter clipped b)) (numbers_of (plain.card_of t).buckets t.k h);
-      least = record { 0 = least_count (card_at t h) (counter clipped) [] };
-      bucket = chosen (card_at t h) (counter clipped) [];
-    }
 
 -- the driver's number of a key, from what its counters say
 unfoldable pub number_by : plain.Settings → List ℕ → List ℕ → List ℕ → ℕ → ℕ
@@ -72,9 +68,9 @@ pub record Burst : Type 0 where
 unfoldable pub burst_of : List ℕ → plain.Settings → List ℕ → List ℕ → List ℕ → List ℕ → List ℕ → Burst
 burst_of table t clipped buckets side keys before = by (judged_burst table t clipped buckets side keys (length before))
   where
-    by : Judged → Burst
-    by (Refused n) = record { number = n; answers = before }
-    by (Ready s) =
+    by : Result Settings Refusal → Burst
+    by (Err e) = record { number = number_of e; answers = before }
+    by (Ok s) =
         record {
           number = 0;
           answers =

@@ -1,5 +1,5 @@
 -- What the counters of a key say, as the code holds it.
-use Rattle.std.specs.Prelude.{◌≡◌, List, ℕ, ltb}
+use Rattle.std.specs.Prelude.{cond, Option, None, Some, List, [], ℕ, ltb}
 use Rattle.theory.specs.Lists.{any}
 use Rattle.theory.specs.Hash.{numbers_of}
 use Rattle.theory.specs.Settings.{Settings, Card, card_of}
@@ -20,8 +20,16 @@ card_at t h =
       numbers = λ key. numbers_of (card_of t).buckets t.k h;
     }
 
--- whatever the key is: one counter above T; the least; of the bucket numbers with the least, the lowest
-pub record KeyCountersOf (t : Settings) (h : ℕ) (clipped : List ℕ) (r : KeyCounters) : Type 0 where
-  pub above : r.above ≡ any (λ b. ltb t.top (counter clipped b)) (numbers_of (card_of t).buckets t.k h)
-  pub least : (key : List ℕ) → r.least.0 ≡ least_count (card_at t h) (counter clipped) key
-  pub bucket : (key : List ℕ) → r.bucket ≡ chosen (card_at t h) (counter clipped) key
+-- what they say of a key whose H is h: none where one counter is above T; else the least, and of the bucket numbers with the least the lowest
+unfoldable pub key_counters_at : Settings → List ℕ → ℕ → Option KeyCounters
+key_counters_at t clipped h =
+    cond (any (λ b. ltb t.top (counter clipped b)) (numbers_of (card_of t).buckets t.k h)) None
+    (Some (record {
+      least = record { 0 = least_count (card_at t h) (counter clipped) [] };
+      bucket = chosen (card_at t h) (counter clipped) [];
+    }))
+
+-- the bucket that they choose, if they do
+abbrev pub bucket_of : Option KeyCounters → ℕ
+bucket_of None = 0
+bucket_of (Some c) = c.bucket

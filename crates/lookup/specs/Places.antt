@@ -1,8 +1,9 @@
 -- Where a search looks, as the code holds it.
-use Rattle.std.specs.Prelude.{◌≡◌, Bool, true, false, cond, not, List, ℕ, ◌+◌, ◌-◌, ◌*◌, ◌≤◌, ◌<◌, eqb, length, take, drop, get_or}
+use Rattle.std.specs.Prelude.{◌≡◌, Bool, true, false, cond, not, Option, None, Some, List, ℕ, ◌+◌, ◌-◌, ◌*◌, ◌≤◌, ◌<◌, eqb, length, take, drop, get_or}
 use Rattle.theory.specs.Settings.{Settings, Card, card_of, allowed, bucket_size, clipped_length, buckets_length, side_length}
 use Rattle.theory.specs.Lookup as plain
 use Rattle.lookup.specs.declared.counters.KeyCounters.{KeyCounters}
+use Rattle.lookup.specs.Choosing.{bucket_of}
 use Rattle.lookup.specs.declared.places.Place.{Place}
 use Rattle.lookup.specs.declared.places.Place.TheVariants.{Invalid, Nowhere, Bucket, Side}
 
@@ -34,20 +35,22 @@ Inside t (Bucket from records) = (from + (bucket_size (card_of t) - 1) ≤ bucke
 Inside t (Side records read) = (records ≤ t.side_places) × (read ≤ 1)
 
 -- by what the counters of a key say: one above T, refused; the least zero, absent; the least T, the side store; otherwise the chosen bucket
-abbrev pub by_choice : {X : Type 0} → Card → KeyCounters → X → X → X → X → X
-by_choice s c refused absent side bucket = cond c.above refused (cond (eqb c.least.0 0) absent (cond (eqb c.least.0 s.top) side bucket))
+abbrev pub by_choice : {X : Type 0} → Card → Option KeyCounters → X → X → X → X → X
+by_choice s None refused absent side bucket = refused
+by_choice s (Some c) refused absent side bucket = cond (eqb c.least.0 0) absent (cond (eqb c.least.0 s.top) side bucket)
 
 -- where a search then looks, and whether it ends in a bucket, whose mark is not 255
-unfoldable pub place_by : Card → KeyCounters → List ℕ → List ℕ → plain.Place
+unfoldable pub place_by : Card → Option KeyCounters → List ℕ → List ℕ → plain.Place
 place_by s c buckets side =
-    by_choice s c plain.invalid plain.nowhere (plain.side_place s side 0) (plain.bucket_place s (plain.bucket_part s buckets c.bucket) side)
+    by_choice s c plain.invalid plain.nowhere (plain.side_place s side 0) (plain.bucket_place s (plain.bucket_part s buckets (bucket_of c)) side)
 
-unfoldable pub goes_by : Card → KeyCounters → List ℕ → Bool
-goes_by s c buckets = by_choice s c false false false (not (eqb (get_or (plain.bucket_part s buckets c.bucket) 0 0) 255))
+unfoldable pub goes_by : Card → Option KeyCounters → List ℕ → Bool
+goes_by s c buckets = by_choice s c false false false (not (eqb (get_or (plain.bucket_part s buckets (bucket_of c)) 0 0) 255))
 
 -- a bucket that is read is one of the card's
-pub record KeyCountersFit (t : Settings) (c : KeyCounters) : Type 0 where
-  pub there : (c.least.0 ≡ t.top → ⊥) → c.bucket < (card_of t).buckets
+abbrev pub KeyCountersFit : Settings → Option KeyCounters → Type 0
+KeyCountersFit t None = Unit {0}
+KeyCountersFit t (Some c) = (c.least.0 ≡ t.top → ⊥) → c.bucket < (card_of t).buckets
 
 -- a place in bucket b, after its mark, or in the side store, as the test says
 abbrev pub Goes : Card → ℕ → Bool → Place → Type 0
@@ -85,8 +88,14 @@ pub record InSide (t : Settings) (side key : List ℕ) (n : ℕ) : Type 0 where
   pub wide : length key ≡ (card_of t).width
   pub few : n ≤ t.side_places
 
+-- what a search asks once it is known where it looks: areas that are judged, a key of the width, and a place inside the areas
+pub record ByPlace (t : Settings) (r : Place) (buckets side key : List ℕ) : Type 0 where
+  pub checked : CheckedPlaces t buckets side
+  pub wide : length key ≡ (card_of t).width
+  pub inside : Inside t r
+
 -- what a search by its counters asks: areas that are judged, and a key of the width
-pub record ByCounters (t : Settings) (c : KeyCounters) (buckets side key : List ℕ) : Type 0 where
+pub record ByCounters (t : Settings) (c : Option KeyCounters) (buckets side key : List ℕ) : Type 0 where
   pub checked : CheckedPlaces t buckets side
   pub fits : KeyCountersFit t c
   pub wide : length key ≡ (card_of t).width

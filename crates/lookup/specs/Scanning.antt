@@ -1,8 +1,8 @@
 -- Where a scan of records ended, as the code holds it.
-use Rattle.std.specs.Prelude.{◌≡◌, true, cond, List, ℕ, ◌+◌, ◌*◌, ◌≤◌, length, drop}
+use Rattle.std.specs.Prelude.{◌≡◌, Option, None, Some, List, ℕ, ◌+◌, ◌*◌, ◌≤◌, ◌<◌, length, drop}
+use Rattle.std.proofs.Math.Option as plain
 use Rattle.std.proofs.Math.Option.{none, some}
-use Rattle.theory.specs.Records.{class_width, record_at, records, find, comparisons}
-use Rattle.lookup.specs.declared.scanning.Hit.{Hit}
+use Rattle.theory.specs.Records.{Record, class_width, record_at, records, find, comparisons}
 
 -- what a scan asks: n records as wide as the key's lie in the place, and the key is short
 pub record Scannable (place : List ℕ) (n : ℕ) (key : List ℕ) : Type 0 where
@@ -18,9 +18,20 @@ pub record AllScannable (place : List ℕ) (n room : ℕ) (key : List ℕ) : Typ
   pub some : 1 ≤ room
   pub most : room ≤ 4096
 
--- of n records with keys of w bytes: the key's record at a byte offset, or none; and how many records were compared
-pub record HitOf (w n : ℕ) (place key : List ℕ) (r : Hit) : Type 0 where
-  pub finds : find key (records w n place) ≡ cond r.found (some (record_at w (drop r.at place))) none
-  pub compares : comparisons key (records w n place) ≡ r.compared
-  pub room : r.found ≡ true → r.at + (w + class_width) ≤ length place
-  pub few : r.compared ≤ n
+-- which of n records in a place has the key, or none: that record, and how many were compared
+abbrev pub found_at : List ℕ → List ℕ → Option ℕ → plain.Option Record
+found_at key place None = none
+found_at key place (Some i) = some (record_at (length key) (drop (i * (length key + class_width)) place))
+
+abbrev pub compared_to : ℕ → Option ℕ → ℕ
+compared_to n None = n
+compared_to n (Some i) = i + 1
+
+abbrev pub IsBelow : ℕ → Option ℕ → Type 0
+IsBelow n None = Unit {0}
+IsBelow n (Some i) = i < n
+
+pub record IsPlaceOf (key : List ℕ) (n : ℕ) (place : List ℕ) (r : Option ℕ) : Type 0 where
+  pub finds : find key (records (length key) n place) ≡ found_at key place r
+  pub compares : comparisons key (records (length key) n place) ≡ compared_to n r
+  pub few : IsBelow n r

@@ -3,7 +3,6 @@
 
 pub mod bursts; // bursts.rt: many keys at once
 pub mod counters; // counters.rt: what the counters of a key say
-pub mod counting; // counting.rt: the answer with its counts, for its own door
 pub mod fetching; // fetching.rt: the record itself
 pub mod judging; // judging.rt: refusals 1, 2 and 3
 pub mod locating; // locating.rt: where the record lies

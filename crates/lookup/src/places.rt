@@ -2,14 +2,14 @@
 ghost use Rattle.std.specs.Prelude.{false, not, List, ℕ, ◌<◌, eqb, get_or};
 ghost use Rattle.theory.specs.Lookup as plain;
 ghost use Rattle.settings.specs.Checked.{paper, card};
-ghost use Rattle.lookup.specs.Choosing.{card_at};
-ghost use Rattle.lookup.specs.Places.{CheckedLookup, CheckedPlaces, SideRead, place_by, KeyCountersFit, goes_by, Looks, LooksAt};
+ghost use Rattle.lookup.specs.Choosing.{bucket_of};
+ghost use Rattle.lookup.specs.Places.{CheckedPlaces, SideRead, place_by, KeyCountersFit, goes_by, LooksAt};
 
-use crate::counters::{KeyCounters, read_counters};
+use crate::counters::KeyCounters;
 use settings::Settings;
 
-// What a search comes to: refused with 5; absent by a zero counter; records of a bucket, which start at a byte of the buckets; records of the side store,
-// with so many buckets read.
+// What a search comes to, in the cases of its definition: refused with 5; absent by a zero counter; records of a bucket, which start at a byte of the buckets;
+// records of the side store, with so many buckets read.
 #[derive(Clone, Copy)]
 pub enum Place {
     Invalid,
@@ -39,7 +39,7 @@ fn bucket_place(s: Settings, buckets: &[u8], bucket: usize, side: &[u8]) -> Plac
         bucket (not (eqb (get_or (plain.bucket_part (card s) buckets.now bucket) 0 0) 255)) result }
 {
     let at = bucket * s.bucket_size();
-    let mark = buckets[at] as usize;
+    let mark = usize::from(buckets[at]);
     if mark == 255 {
         return side_place(s, side, 1);
     }
@@ -52,16 +52,19 @@ fn bucket_place(s: Settings, buckets: &[u8], bucket: usize, side: &[u8]) -> Plac
     }
 }
 
+// "It reads all counters of the key, then" looks by what they say: in the order of the listing SearchItem (source document 001; theory's Listing.antt).
 // "any counter of the key zero: absent; all equal to T: the side store is compared; otherwise the chosen bucket is read"
-pub fn place_by(s: Settings, choice: KeyCounters, buckets: &[u8], side: &[u8]) -> Place
+// Lines 1 and 5, the least counter and the smallest index that has it, by one comparison: `read_counters`. Then here: 5, line 2, a least of T; then the
+// bucket's mark. Lines 6 and 7 are the comparison of the records, by `searching::search_place`.
+pub fn place_by(s: Settings, choice: Option<KeyCounters>, buckets: &[u8], side: &[u8]) -> Place
     requires { CheckedPlaces (paper s) buckets.now side.now × KeyCountersFit (paper s) choice }
     ensures { LooksAt (paper s) buckets.now side.now
         (place_by (card s) choice buckets.now side.now)
-        choice.bucket (goes_by (card s) choice buckets.now) result }
+        (bucket_of choice) (goes_by (card s) choice buckets.now) result }
 {
-    if choice.above {
+    let Some(choice) = choice else {
         return Place::Invalid;
-    }
+    };
     let least = choice.least;
     if least.is(0) {
         return Place::Nowhere;
@@ -70,15 +73,4 @@ pub fn place_by(s: Settings, choice: KeyCounters, buckets: &[u8], side: &[u8]) -
         return side_place(s, side, 0);
     }
     bucket_place(s, buckets, choice.bucket, side)
-}
-
-// "It reads all counters of the key, then" looks by what they say: in the order of the listing SearchItem (source document 001; theory's Listing.antt).
-// Lines 1 and 5, the least counter and the smallest index that has it, by one comparison: `read_counters`. Then `place_by`: 5, line 2, a least of T; then the
-// bucket's mark. Lines 6 and 7 are the comparison of the records, by whoever asked for the place.
-pub fn find_place(s: Settings, h: u64, clipped: &[u8], buckets: &[u8], side: &[u8]) -> Place
-    requires { CheckedLookup (paper s) clipped.now buckets.now side.now }
-    ensures { (key : List ℕ) → Looks (paper s) buckets.now side.now
-        (plain.place (card_at (paper s) h) clipped.now buckets.now side.now key) result }
-{
-    place_by(s, read_counters(s, h, clipped), buckets, side)
 }

@@ -18,8 +18,11 @@ use Rattle.theory.specs.Calls.{marks, lookup_invalid, tally_areas, call, lookup_
 use Rattle.theory.proofs.ListLaws.{by_test, and_left, and_right, all_every, map_cong}
 use Rattle.theory.proofs.SettingsLaws.{sound}
 use Rattle.settings.specs.declared.Settings as settings
-use Rattle.settings.specs.Checked.{paper, card}
-use Rattle.settings.proofs.Laws.{bounds, bucket_within}
+use Rattle.std.specs.Prelude.{Ok, Err}
+use Rattle.memory.specs.declared.refusals.Refusal.{Refusal}
+use Rattle.memory.specs.Refusals.{number_of}
+use Rattle.settings.specs.Checked.{paper, card, checked_of}
+use Rattle.settings.proofs.Laws.{allowed_arm, refused_arm, bounds, bucket_within}
 use Rattle.lookup.specs.Places.{CheckedLookup}
 use Rattle.lookup.specs.Answers.{lookup_areas}
 use Rattle.lookup.proofs.PlaceLaws.{mark_is}
@@ -82,6 +85,25 @@ any_map p f (x ∷ xs) = rw (any_map p f xs)
 -- ---- the marks of m buckets of a size
 abbrev pub mark_at : List ℕ → ℕ → ℕ → ℕ
 mark_at buckets size b = get_or buckets (b * size) 0
+
+-- what bucket b adds to the two sums
+abbrev pub records_of : List ℕ → ℕ → ℕ → ℕ
+records_of buckets size b = cond (eqb (mark_at buckets size b) 255) 0 (mark_at buckets size b)
+
+abbrev pub is_255 : List ℕ → ℕ → ℕ → ℕ
+is_255 buckets size b = cond (eqb (mark_at buckets size b) 255) 1 0
+
+-- neither sum is more than a byte a bucket
+small : (t : Bool) (x y : ℕ) → x ≤ 255 → y ≤ 255 → cond t x y ≤ 255
+small true x y h k = h
+small false x y h k = k
+
+pub sums_few : (buckets : List ℕ) (size : ℕ) → ((i : ℕ) → get_or buckets i 0 ≤ 255) → (b : ℕ)
+    → (sum_below (records_of buckets size) b ≤ 255 * b) × (sum_below (is_255 buckets size) b ≤ 255 * b)
+sums_few buckets size bytes b = (
+  sum_most (records_of buckets size) 255 (λ i. small (eqb (mark_at buckets size i) 255) 0 (mark_at buckets size i) (omega arith) (bytes (i * size))) b,
+  sum_most (is_255 buckets size) 255 (λ i. small (eqb (mark_at buckets size i) 255) 1 0 (omega arith) (omega arith)) b,
+)
 
 pub record Rows (t : Settings) (buckets : List ℕ) (m size : ℕ) : Type 0 where
   pub ok : allowed t ≡ true
@@ -151,8 +173,8 @@ module _ (t : Settings) (ledger clipped buckets side : List ℕ) where
   unfolding perform call lent_lengths
   tally_performs x e = rw (← e) (by_test (allowed t) (λ a. rw a (by_test lengths_right (λ l. rw l) (λ l. rw l))) (λ a. rw a))
 
-  pub tally_1 : allowed t ≡ false → (x : Totals) → x ≡ no_totals 1 → Tallied x
-  tally_1 e x f = tally_performs x (rw (e, f))
+  pub tally_1 : (x : Refusal) → Err x ≡ checked_of t → Tallied (no_totals (number_of x))
+  tally_1 x e = let arm = refused_arm t (Err x) e x refl in tally_performs (no_totals (number_of x)) (rw (arm.0, arm.1))
 
   -- the settings are allowed, and the lengths are judged
   pub record JudgedLengths (s : settings.Settings) (lengths : Bool) : Type 0 where
@@ -160,14 +182,15 @@ module _ (t : Settings) (ledger clipped buckets side : List ℕ) where
     pub same : paper s ≡ t
     pub lengths_are : lengths_right ≡ lengths
 
-  pub judged_by : (s : settings.Settings) → allowed t ≡ true → paper s ≡ t → (u : ℕ) → u ≡ ledger_length (card s) → (right : Bool)
+  pub judged_by : (s : settings.Settings) → Ok s ≡ checked_of t → (u : ℕ) → u ≡ ledger_length (card s) → (right : Bool)
       → right ≡ all (λ x. x) (lookup_lengths (card s) (lookup_areas clipped buckets side)) → JudgedLengths s (eqb (length ledger) u && right)
   unfolding lookup_lengths
-  judged_by s ok same u eu right er = record { ok = ok; same = same; lengths_are = rw (eu, er, same) }
+  judged_by s e u eu right er =
+      let arm = allowed_arm t (Ok s) e s refl in record { ok = arm.0; same = arm.1; lengths_are = rw (eu, er, arm.1) }
 
   module _ {s : settings.Settings} {lengths : Bool} (c : JudgedLengths s lengths) where
-    pub tally_2 : lengths ≡ false → (x : Totals) → x ≡ no_totals 2 → Tallied x
-    tally_2 e x f = tally_performs x (rw (c.ok, c.lengths_are, e, f))
+    pub tally_2 : lengths ≡ false → Tallied (no_totals 2)
+    tally_2 e = tally_performs (no_totals 2) (rw (c.ok, c.lengths_are, e))
 
     pub tally_on : lengths ≡ true → (x : Totals) → x ≡ tally_areas (card s) (read_areas ledger clipped buckets side) → Tallied x
     tally_on e x f = tally_performs x (rw (c.ok, c.lengths_are, e, f, c.same))

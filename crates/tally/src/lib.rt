@@ -1,7 +1,7 @@
 // Tally: what the areas hold, counted.
 #![tactic(auto)]
 
-ghost use Rattle.std.specs.Prelude.{◌≡◌, true, false, not, cond, ◌&&◌, List, ℕ, ◌+◌, ◌≤◌, eqb, ltb, length};
+ghost use Rattle.std.specs.Prelude.{◌≡◌, true, not, ◌&&◌, List, ℕ, eqb, ltb, length};
 ghost use Rattle.theory.specs.Lists.{any, upto, sum, filter};
 ghost use Rattle.theory.specs.Settings.{allowed, ledger_length, clipped_length, buckets_length};
 ghost use Rattle.theory.specs.Records.{count_of};
@@ -11,34 +11,22 @@ ghost use Rattle.theory.specs.Ledger as ledgers;
 ghost use Rattle.theory.specs.Ledger.{Step, totalled};
 ghost use Rattle.theory.specs.Calls.{marks, lookup_invalid, tally_areas, perform};
 ghost use Rattle.settings.specs.Checked.{paper, given_of, card};
-ghost use Rattle.lookup.specs.Places.{CheckedLookup, CheckedPlaces};
+ghost use Rattle.lookup.specs.Places.{CheckedLookup};
 ghost use Rattle.tally.specs.Tallies.{totals_of, Fillable, read_areas, entry_read};
 
 use lookup::counters::counter;
-use lookup::judging::areas_right;
-use settings::{Checked, Given, Settings};
+use memory::numbers::count_at;
+use memory::refusals::Refusal;
+use settings::areas::LookupAreas;
+use settings::{Given, Settings};
 
-// The answer's number, records in buckets, records in the side store, buckets marked 255, fill.
+// Records in buckets, records in the side store, buckets marked 255, fill.
 #[derive(Clone, Copy)]
 pub struct Totals {
-    pub number: u32,
     pub in_buckets: u32,
     pub in_side: u32,
     pub marked_255: u32,
     pub fill: u32,
-}
-
-// The number, with no totals.
-pub fn no_totals(number: u32) -> Totals
-    ensures { totals_of result ≡ ledgers.no_totals number }
-{
-    Totals {
-        number,
-        in_buckets: 0,
-        in_side: 0,
-        marked_255: 0,
-        fill: 0,
-    }
 }
 
 // No clipped count is above T.
@@ -47,14 +35,10 @@ fn counters_valid(s: Settings, clipped: &[u8]) -> bool
     ensures { result ≡ not (any (λ b. ltb s.top (plain.counter clipped.now b)) (upto 0 (card s).buckets)) }
 {
     let m = s.buckets();
-    let top = s.top;
-    let mut b: usize = 0;
-    while b < m {
-        let c = counter(clipped, b);
-        if c.above(top) {
+    for b in 0..m {
+        if counter(clipped, b).above(s.top) {
             return false;
         }
-        b += 1;
     }
     true
 }
@@ -66,14 +50,11 @@ fn marks_valid(s: Settings, buckets: &[u8]) -> bool
 {
     let m = s.buckets();
     let size = s.bucket_size();
-    let room = s.room;
-    let mut b: usize = 0;
-    while b < m {
+    for b in 0..m {
         let mark = buckets[b * size] as usize;
-        if (room < mark) & (mark != 255) {
+        if (s.room < mark) & (mark != 255) {
             return false;
         }
-        b += 1;
     }
     true
 }
@@ -85,55 +66,42 @@ struct Marks {
     marked_255: u32,
 }
 
-fn with_mark(sums: Marks, mark: u8) -> Marks
-    requires { (sums.in_buckets ≤ 2000000) × (sums.marked_255 ≤ 2000000) }
-    ensures { (result.in_buckets ≡ sums.in_buckets + cond (eqb mark 255) 0 mark)
-        × (result.marked_255 ≡ sums.marked_255 + cond (eqb mark 255) 1 0) }
-{
-    if mark == 255 {
-        return Marks {
-            in_buckets: sums.in_buckets,
-            marked_255: sums.marked_255 + 1,
-        };
-    }
-    Marks {
-        in_buckets: sums.in_buckets + (mark as u32),
-        marked_255: sums.marked_255,
-    }
-}
-
 fn sum_marks(s: Settings, buckets: &[u8]) -> Marks
     requires { (allowed (paper s) ≡ true) × (length buckets.now ≡ buckets_length (card s)) }
-    ensures { (result.in_buckets ≡ sum (filter (λ x. not (eqb x 255)) (marks (card s) buckets.now)))
-        × (result.marked_255 ≡ length (filter (λ x. eqb x 255) (marks (card s) buckets.now))) }
+    ensures in_buckets { result.in_buckets ≡ sum (filter (λ x. not (eqb x 255)) (marks (card s) buckets.now)) }
+    ensures marked_255 { result.marked_255 ≡ length (filter (λ x. eqb x 255) (marks (card s) buckets.now)) }
 {
     let m = s.buckets();
     let size = s.bucket_size();
-    let mut sums = Marks {
-        in_buckets: 0,
-        marked_255: 0,
-    };
-    let mut b: usize = 0;
-    while b < m {
-        sums = with_mark(sums, buckets[b * size]);
-        b += 1;
+    let mut in_buckets: u32 = 0;
+    let mut marked_255: u32 = 0;
+    for b in 0..m {
+        let mark = buckets[b * size];
+        if mark == 255 {
+            marked_255 += 1;
+        } else {
+            in_buckets += mark as u32;
+        }
     }
-    sums
+    Marks {
+        in_buckets,
+        marked_255,
+    }
 }
 
 // "5, in what a search or tally reads, a clipped count above T, a mark above B other than 255, a side count above S"
-fn lookup_valid(s: Settings, clipped: &[u8], buckets: &[u8], side: &[u8]) -> bool
-    requires { CheckedLookup (paper s) clipped.now buckets.now side.now }
+fn lookup_valid(s: Settings, areas: LookupAreas<'_>) -> bool
+    requires { CheckedLookup (paper s) areas.clipped.now areas.buckets.now areas.side.now }
     ensures { (ledger : List ℕ) → result
-        ≡ not (lookup_invalid (card s) (read_areas ledger clipped.now buckets.now side.now)) }
+        ≡ not (lookup_invalid (card s) (read_areas ledger areas.entry.clipped.now areas.entry.buckets.now areas.entry.side.now)) }
 {
-    if !counters_valid(s, clipped) {
+    if !counters_valid(s, areas.clipped) {
         return false;
     }
-    if !marks_valid(s, buckets) {
+    if !marks_valid(s, areas.buckets) {
         return false;
     }
-    memory::numbers::count_at(side) <= s.side_places
+    count_at(areas.side) <= s.side_places
 }
 
 // "100 × ledger count / m to the nearest whole number"; "a half goes to the even neighbour".
@@ -153,51 +121,43 @@ fn fill(n: usize, m: usize) -> u32
 }
 
 // The four numbers of areas within the rules.
-fn count_all(s: Settings, ledger: &[u8], buckets: &[u8], side: &[u8]) -> Totals
-    requires { CheckedPlaces (paper s) buckets.now side.now × (length ledger.now ≡ ledger_length (card s)) }
-    ensures { totals_of result ≡ ledgers.counted_totals (marks (card s) buckets.now) (count_of side.now)
-        (count_of ledger.now) (card s).buckets }
+fn count_all(s: Settings, ledger: &[u8], areas: LookupAreas<'_>) -> Totals
+    requires checked { CheckedLookup (paper s) areas.clipped.now areas.buckets.now areas.side.now }
+    requires ledger_size { length ledger.now ≡ ledger_length (card s) }
+    ensures { totals_of (Ok result) ≡ ledgers.counted_totals (marks (card s) areas.entry.buckets.now)
+        (count_of areas.entry.side.now) (count_of ledger.now) (card s).buckets }
 {
-    let sums = sum_marks(s, buckets);
+    let sums = sum_marks(s, areas.buckets);
     Totals {
-        number: 0,
         in_buckets: sums.in_buckets,
-        in_side: memory::numbers::count_at(side) as u32,
+        in_side: count_at(areas.side) as u32,
         marked_255: sums.marked_255,
-        fill: fill(memory::numbers::count_at(ledger), s.buckets()),
+        fill: fill(count_at(ledger), s.buckets()),
     }
 }
 
 // Tally on allowed settings and areas of their lengths: 4, then 5, then the four numbers.
-pub fn tally_checked(
-    s: Settings,
-    ledger: &[u8],
-    clipped: &[u8],
-    buckets: &[u8],
-    side: &[u8],
-) -> Totals
-    requires { CheckedLookup (paper s) clipped.now buckets.now side.now × (length ledger.now ≡ ledger_length (card s)) }
-    ensures { totals_of result ≡ tally_areas (card s) (entry_read ledger clipped buckets side) }
+pub fn tally_checked(s: Settings, ledger: &[u8], areas: LookupAreas<'_>) -> Result<Totals, Refusal>
+    requires checked { CheckedLookup (paper s) areas.clipped.now areas.buckets.now areas.side.now }
+    requires ledger_size { length ledger.now ≡ ledger_length (card s) }
+    ensures { totals_of result ≡ tally_areas (card s) (entry_read ledger areas) }
 {
     if !ledger::valid(s, ledger) {
-        return no_totals(4);
+        return Err(Refusal::InvalidLedger);
     }
-    if !lookup_valid(s, clipped, buckets, side) {
-        return no_totals(5);
+    if !lookup_valid(s, areas) {
+        return Err(Refusal::InvalidLookup);
     }
-    count_all(s, ledger, buckets, side)
+    Ok(count_all(s, ledger, areas))
 }
 
-pub fn tally(given: Given, ledger: &[u8], clipped: &[u8], buckets: &[u8], side: &[u8]) -> Totals
-    ensures { ◌≡◌ {A = Step Areas} (record { reply = totalled (totals_of result); state = entry_read ledger clipped buckets side })
-        (perform (given_of given) 0 ledgers.tally (entry_read ledger clipped buckets side)) }
+pub fn tally(given: Given, ledger: &[u8], areas: LookupAreas<'_>) -> Result<Totals, Refusal>
+    ensures { ◌≡◌ {A = Step Areas} (record { reply = totalled (totals_of result); state = entry_read ledger areas })
+        (perform (given_of given) 0 ledgers.tally (entry_read ledger areas)) }
 {
-    let checked = Settings::new(given);
-    let Checked::Allowed(s) = checked else {
-        return no_totals(1);
-    };
-    if !((ledger.len() == s.ledger_length()) & areas_right(s, clipped, buckets, side)) {
-        return no_totals(2);
+    let s = Settings::new(given)?;
+    if !((ledger.len() == s.ledger_length()) & areas.have_lengths(s)) {
+        return Err(Refusal::WrongAreaLength);
     }
-    tally_checked(s, ledger, clipped, buckets, side)
+    tally_checked(s, ledger, areas)
 }

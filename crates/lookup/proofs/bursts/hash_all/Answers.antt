@@ -1,10 +1,5 @@
 -- `lookup::bursts::hash_all` meets its contract: the first i numbers are those of their keys.
-use mathlib.Core.Path.{◌≡◌, ap, ◌∙◌}
-use mathlib.Core.Bool.{true}
-use mathlib.Core.List.{List}
-use Prim.Native.Nat.{ℕ, ◌*◌, ◌<◌}
-use native.Mathlib.Omega.{arith}
-use lib.ListN.{length}
+use Rattle.std.proofs.Common.{◌≡◌, ap, ◌∙◌, true, List, ℕ, ◌*◌, ◌<◌, length, arith}
 use Rattle.theory.specs.Lists.{has}
 use Rattle.memory.proofs.SliceLaws.{length_part}
 use Rattle.hash.specs.Table.{table_lengths, H_by}
@@ -25,7 +20,7 @@ module _ (keys : List ℕ) (n w width i : ℕ) (size_is : length keys ≡ n * w)
 
 pub by_bytes-requires : goal.by_bytes-requires
 by_bytes-requires c =
-    let here : c.loop-i.i < length c.args.answers.now = omega (arith, c.loop-i-test.true, c.loop-i.invariant.long) in
+    let here : c.loop-i.i < length c.args.answers.now = omega (arith, c.loop-i.invariant.long) in
     ipv4_fits c.args.table.now c.key_at-one.result.now
     (long c.args.keys.now _ _ c.width-width.result c.loop-i.i c.requires.1 c.width-width.ensures here c.key_at-one.result.now c.key_at-one.ensures
     c.args.table.now c.requires.0)
@@ -34,7 +29,7 @@ by_bytes-requires c =
 
 pub h_with_table-requires : goal.h_with_table-requires
 h_with_table-requires c =
-    let here : c.loop-i.i < length c.args.answers.now = omega (arith, c.loop-i-test.true, c.loop-i.invariant.long) in
+    let here : c.loop-i.i < length c.args.answers.now = omega (arith, c.loop-i.invariant.long) in
     long c.args.keys.now _ _ c.width-width.result c.loop-i.i c.requires.1 c.width-width.ensures here c.key_at-one.result.now c.key_at-one.ensures
     c.args.table.now c.requires.0
 
@@ -42,16 +37,16 @@ pub loop-i-preserved : goal.loop-i-preserved
 loop-i-preserved c =
     let table = c.args.table.now in
     let key = c.key_at-one.result.now in
-    let here : c.loop-i.i < length c.args.answers.now = omega (arith, c.loop-i-test.true, c.loop-i.invariant.long) in
+    let here : c.loop-i.i < length c.args.answers.now = omega (arith, c.loop-i.invariant.long) in
     let long = long c.args.keys.now _ _ c.width-width.result c.loop-i.i c.requires.1 c.width-width.ensures here key c.key_at-one.ensures table
     c.requires.0 in
     let size = size c.args.keys.now _ _ c.width-width.result c.loop-i.i c.requires.1 c.width-width.ensures here key c.key_at-one.ensures in
-    let hashed : c.if-width-eq-IPV4_WIDTH.answers ≡ H_by table key =
+    let hashed : c.if-width-eq-IPV4_WIDTH.h ≡ H_by table key =
     elim c.if-width-eq-IPV4_WIDTH.branch [
-      | then-width-eq-IPV4_WIDTH w ↦ w.answers-is ∙ ipv4_gives table key long (size ∙ w.if-width-eq-IPV4_WIDTH.true) w.by_bytes.ensures.0
-      | else-width-eq-IPV4_WIDTH w ↦ w.answers-is ∙ w.h_with_table.ensures.0
+      | then-width-eq-IPV4_WIDTH w ↦ w.h-is ∙ ipv4_gives table key long (size ∙ w.if-width-eq-IPV4_WIDTH.true) w.by_bytes.ensures.entries
+      | else-width-eq-IPV4_WIDTH w ↦ w.h-is ∙ w.h_with_table.ensures.entries
     ] in
-    passed_more c.loop-i.invariant _ c.loop-i-test.true (hashed ∙ ap (H_by table) c.key_at-one.ensures)
+    passed_more c.loop-i.invariant _ (omega arith) (hashed ∙ ap (H_by table) c.key_at-one.ensures)
 
 pub returns : goal.returns
-returns c = rw (← c.width-width.ensures) (passed_all c.loop-i.invariant c.loop-i-test.false)
+returns c = rw (← c.width-width.ensures) (passed_all c.loop-i.invariant (omega arith))

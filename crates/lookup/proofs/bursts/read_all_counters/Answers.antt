@@ -1,0 +1,22 @@
+-- `lookup::bursts::read_all_counters` meets its contract: the first i numbers are what the counters say by the H that stood there.
+use Rattle.std.proofs.Common.{ap, ◌∙◌, arith}
+use Rattle.settings.specs.Checked.{paper}
+use Rattle.lookup.specs.Choosing.{key_counters_at}
+use Rattle.lookup.specs.Bursts.{packed_of}
+use Rattle.lookup.proofs.BurstLaws.{passed_none, passed_more, passed_all, at_small}
+use Rattle.lookup.proofs.bursts.read_all_counters.Goals as goal
+
+pub loop-answer-init : goal.loop-answer-init
+loop-answer-init c = passed_none
+
+pub packed-requires : goal.packed-requires
+packed-requires c = rw c.read_counters.ensures (at_small (paper c.args.s) c.requires.0 c.args.clipped.now _)
+
+pub loop-answer-preserved : goal.loop-answer-preserved
+loop-answer-preserved c =
+    passed_more c.loop-answer.invariant _ (omega arith)
+    (c.packed.ensures ∙ ap packed_of (c.read_counters.ensures
+    ∙ ap (key_counters_at (paper c.args.s) c.args.clipped.now) (c.loop-answer.invariant.left c.loop-answer.answer-index (omega arith))))
+
+pub returns : goal.returns
+returns c = passed_all c.loop-answer.invariant (omega arith)
