@@ -138,7 +138,7 @@ fn compare_side(s: Settings, side: &[u8], n: usize, read: u32, key: &[u8]) -> An
 
 // The answer at the place where a search looks. It is made one piece with each door of a search: a call of its own costs a tenth of the time.
 #[inline(always)]
-pub fn search_place(s: Settings, place: Place, areas: LookupAreas<'_>, key: &[u8]) -> Answer
+pub(crate) fn search_place(s: Settings, place: Place, areas: LookupAreas<'_>, key: &[u8]) -> Answer
     requires { ByPlace (paper s) place areas.buckets.now areas.side.now key.now }
     ensures { answer_of result ≡ plain.answer_at (card s) key.now
         (place_of (card s) areas.entry.buckets.now areas.entry.side.now place) }
@@ -153,7 +153,7 @@ pub fn search_place(s: Settings, place: Place, areas: LookupAreas<'_>, key: &[u8
 
 // What is left of a search once the counters are read.
 #[inline(always)]
-pub fn search_chosen(
+pub(crate) fn search_chosen(
     s: Settings,
     choice: Option<KeyCounters>,
     areas: LookupAreas<'_>,
