@@ -1,7 +1,7 @@
 -- Laws of a file as it is read: its head, its settings, its second count, and the refusals that it decides alone.
+use Rattle.std.specs.Prelude.{Ok, Err}
 use mathlib.Core.Path.{◌≡◌, refl, sym, ap, ◌∙◌}
 use mathlib.Core.Bool.{Bool, true, false, cond, not, ◌||◌, or-true}
-use mathlib.Core.Logic.{◌⊎◌, inl, inr, ⊎_elim}
 use mathlib.Core.List.{List}
 use Prim.Native.Nat.{ℕ, ◌+◌, ◌-◌, ◌*◌, ◌≤◌, ◌<◌}
 use native.Mathlib.Nat.{le_trans, mul_comm, mul-le-mul, mul-le-mul_left}
@@ -13,18 +13,20 @@ use Rattle.theory.specs.Settings as plain
 use Rattle.theory.specs.Settings.{ipv4_width, card_of, allowed, record_size}
 use Rattle.theory.specs.Records.{count_of, records, rising}
 use Rattle.theory.specs.Snapshot.{settings_count, first_count, second_count_at, head_size, setting, file_settings, file_count, head_wrong, body_wrong}
-use Rattle.theory.specs.Snapshot.{no_settings, head_refusal}
+use Rattle.theory.specs.Snapshot.{head_refusal}
 use Rattle.theory.proofs.ListLaws.{by_test, or_left, or_right}
 use Rattle.theory.proofs.SettingsLaws.{ranges}
 use Rattle.settings.specs.declared.Settings.{Settings}
 use Rattle.settings.specs.declared.Given.{Given}
+use Rattle.memory.specs.declared.refusals.Refusal.{Refusal}
+use Rattle.memory.specs.Refusals.{number_of}
+use Rattle.memory.proofs.RefusalLaws.{refused_number}
 use Rattle.settings.specs.Checked.{paper, given_of, checked_of}
 use Rattle.settings.proofs.Laws.{bounds}
 use Rattle.memory.proofs.SliceLaws.{tail_is}
 use Rattle.writing.proofs.JudgedLaws.{Permitted}
 use Rattle.snapshot.specs.declared.reading.Head.{Head}
-use Rattle.snapshot.specs.declared.reading.HandedBack.{HandedBack}
-use Rattle.snapshot.specs.Files.{HeadOf, Handed, HeadHanded, listed, by_file}
+use Rattle.snapshot.specs.Files.{HeadOf, HeadHanded, listed, by_file}
 
 -- a test that failed, since the number is 0
 passed : (t : Bool) (n m : ℕ) → 0 < n → cond t n m ≡ 0 → (t ≡ false) × (m ≡ 0)
@@ -36,46 +38,26 @@ pub few_bytes : (t : plain.Settings) → allowed t ≡ true → (size n : ℕ) �
 few_bytes t ok size n e h =
     let r = ranges t ok in rw e (le_trans (mul-le-mul (bounds t ok).record_most h) (mul-le-mul_left 41 r.capacity_high))
 
--- an allowed first count is small
-pub few_known : {n : ℕ} → not (eqb n 6 || eqb n settings_count) ≡ false → n ≤ settings_count
-few_known {n} some =
-    by_test (eqb n 6) (λ e. omega (arith, eqb-true n 6 e)) (λ e. omega (arith, eqb-true n settings_count (not-false _ (rw e at some))))
+-- an allowed first count is 6 or 7
+pub count_known : {n : ℕ} → not (eqb n 6 || eqb n settings_count) ≡ false → (6 ≤ n) × (n ≤ settings_count)
+count_known {n} some =
+    by_test (eqb n 6) (λ e. let six = eqb-true n 6 e in (omega (arith, six), omega (arith, six)))
+    (λ e. let seven = eqb-true n settings_count (not-false _ (rw e at some)) in (omega (arith, seven), omega (arith, seven)))
 
 module _ (f : List ℕ) where
-  abbrev known : Bool
-  known = eqb (count_of f) 6 || eqb (count_of f) settings_count
-
   -- ---- the head
-  pub head_cut : length f < 2 → true ≡ head_wrong f
+  pub head_cut : length f < 2 → head_wrong f ≡ true
   unfolding head_wrong
   head_cut h = rw (lt-ltb (length f) (head_size (count_of f)) (omega arith), or-true)
 
-  pub head_unknown : {n : ℕ} → n ≡ count_of f → not (eqb n 6 || eqb n settings_count) ≡ true → true ≡ head_wrong f
+  pub head_unknown : {n : ℕ} → n ≡ count_of f → not (eqb n 6 || eqb n settings_count) ≡ true → head_wrong f ≡ true
   unfolding head_wrong
   head_unknown e none = let q = rw e at none in rw q
 
   pub head_by_length : {n : ℕ} → n ≡ count_of f → not (eqb n 6 || eqb n settings_count) ≡ false → {z : ℕ} → z ≡ head_size n
-      → ltb (length f) z ≡ head_wrong f
+      → head_wrong f ≡ ltb (length f) z
   unfolding head_wrong
   head_by_length e some z_is = let q = rw e at some in rw (q, z_is, e)
-
-  module _ (whole : head_wrong f ≡ false) where
-    head_known : known ≡ true
-    unfolding head_wrong
-    head_known = not-false known (or_left (not known) _ whole)
-
-    pub head_there : head_size (count_of f) ≤ length f
-    unfolding head_wrong
-    head_there = ltb-false (length f) (head_size (count_of f)) (or_right (not known) _ whole)
-
-    pub count_one : (count_of f ≡ 6) ⊎ (count_of f ≡ settings_count)
-    count_one = by_test (eqb (count_of f) 6) (λ e. inl (eqb-true _ 6 e)) (λ e. inr (eqb-true _ settings_count (rw e at head_known)))
-
-    pub count_few : count_of f ≤ settings_count
-    count_few = ⊎_elim (λ e. omega (arith, e)) (λ e. omega (arith, e)) count_one
-
-    pub six_at_least : 6 ≤ count_of f
-    six_at_least = ⊎_elim (λ e. omega (arith, e)) (λ e. omega (arith, e)) count_one
 
   -- ---- two bytes, read from a part that runs to the end
   pub number_lent : (at : ℕ) → at ≤ length f → {n : ℕ} → n ≡ count_of (take (length f - at) (drop at f)) → n ≡ count_of (drop at f)
@@ -102,8 +84,8 @@ module _ (f : List ℕ) where
 
 -- ---- the settings of a head, with an area of n numbers for them: each number, and what is handed back with it
 module _ (f : List ℕ) (n : ℕ) where
-  pub head_refused : {m : ℕ} {r : HandedBack} → m ≡ head_refusal f n → (m ≡ 0 → ⊥) → Handed r m no_settings → HeadHanded f n r
-  head_refused {m} e some h = rw (← e, ne_eqb m 0 some) h
+  pub head_refused : (x : Refusal) → number_of x ≡ head_refusal f n → HeadHanded f n (Err x)
+  head_refused x e = record { number = e; settings = rw (← e, ne_eqb (number_of x) 0 (refused_number x)) }
 
   pub head_12 : head_wrong f ≡ true → 12 ≡ head_refusal f n
   unfolding head_refusal
@@ -129,7 +111,7 @@ module _ (f : List ℕ) (n : ℕ) where
         unfolding head_refusal
         head_0 same = rw (whole, p.ok, eq-eqb n settings_count seven, ← p.same, ← first, ← is, eq-eqb c k same)
 
-        pub head_accepted : c ≡ k → {g : Given} → given_of g ≡ paper s → HeadHanded f n (record { number = 0; settings = g })
+        pub head_accepted : c ≡ k → {g : Given} → given_of g ≡ paper s → HeadHanded f n (Ok g)
         head_accepted same read = record { number = head_0 same; settings = rw (← head_0 same) (read ∙ p.same) }
 
 -- ---- 8 and 12 under settings t, with what the head says
@@ -159,12 +141,15 @@ pub record FullFile (t : plain.Settings) (f : List ℕ) (h : Head) (size : ℕ) 
 
 module _ {t : plain.Settings} {f : List ℕ} {h : Head} {size : ℕ} (g : FullFile t f h size) where
   -- its records as they are lent
-  pub lent_full : length (take (length f - h.size) (drop h.size f)) ≡ record_size (card_of t) * h.count
-  lent_full = rw (tail_is h.size f (omega (arith, g.long)), length-drop, ← g.sized) (omega (arith, g.long))
+  lent_sized : length (take (length f - h.size) (drop h.size f)) ≡ record_size (card_of t) * h.count
+  lent_sized = rw (tail_is h.size f (omega (arith, g.long)), length-drop, ← g.sized) (omega (arith, g.long))
+
+  pub lent_full : length (take (length f - h.size) (drop h.size f)) ≡ h.count * ((card_of t).width + 4)
+  unfolding record_size
+  lent_full = lent_sized ∙ mul_comm ((card_of t).width + 4) h.count
 
   pub lent_fits : h.count * ((card_of t).width + 4) ≤ length (take (length f - h.size) (drop h.size f))
-  unfolding record_size
-  lent_fits = omega (arith, lent_full, mul_comm ((card_of t).width + 4) h.count)
+  lent_fits = omega (arith, lent_full)
 
   pub lent_listed : records (card_of t).width h.count (take (length f - h.size) (drop h.size f)) ≡ listed t f
   lent_listed = rw (tail_is h.size f (omega (arith, g.long)), g.head.count, g.head.size)

@@ -1,14 +1,14 @@
 // Document 01, 'Snapshot': save and load. Both judge first, with the side need of the records in work, and then write.
 #![tactic(auto)]
 
-ghost use Rattle.std.specs.Prelude.{◌≡◌, ◌≤◌, take};
+ghost use Rattle.std.specs.Prelude.{◌≡◌, ◌≤◌};
 ghost use Rattle.theory.specs.Records.{records};
-ghost use Rattle.theory.specs.Ledger.{side_need_of};
 ghost use Rattle.theory.specs.Snapshot.{settings_count, first_count, head_size};
 ghost use Rattle.settings.specs.Checked.{paper, card};
 ghost use Rattle.placing.specs.Worked.{Placed};
-ghost use Rattle.snapshot.specs.Files.{PlacingArea};
+ghost use Rattle.snapshot.specs.Files.{PlacingList};
 
+use placing::{Parts, Placement};
 use settings::Settings;
 
 pub mod loading; // loading.rt: a file into every area
@@ -45,32 +45,22 @@ fn saved_head_size(s: Settings) -> usize
     head_size(first_count(s))
 }
 
-// The side need of the first `count` records of an area, their work area and their choices.
-fn place_area(
+// The list of `count` records that fill a part, placed.
+fn place_list<'a>(
     s: Settings,
     table: &[u64],
-    m: usize,
-    work: &mut [u16],
-    kept: &mut [u16],
-    area: &[u8],
+    list: &[u8],
     count: usize,
-) -> usize
-    requires { PlacingArea s table.now m work.old kept.old area.now count }
-    ensures { (result ≡ side_need_of (card s) (records (card s).width count area.now))
-        × Placed (card s) m (records (card s).width count area.now) work.new (take count kept.new) }
+    work: &'a mut [u16],
+    kept: &'a mut [u16],
+) -> Placement<'a>
+    requires { PlacingList s table.now list.now count work.old kept.old }
+    ensures { Placed (card s) (records (card s).width count list.now) result }
 {
-    placing::place_parts(
-        s,
-        table,
-        m,
-        work,
-        area,
-        count,
-        area,
-        0,
-        area,
-        0,
-        &mut kept[..count],
-    );
-    placing::side_need(s, m, work, &kept[..count])
+    let parts = Parts {
+        before: list,
+        between: &[],
+        after: &[],
+    };
+    placing::place_parts(s, table, parts, work, &mut kept[..count])
 }

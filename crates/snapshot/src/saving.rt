@@ -1,25 +1,29 @@
 // Settings and the ledger's records into a target buffer.
-ghost use Rattle.std.specs.Prelude.{◌≡◌, ◌+◌, ◌*◌, ◌≤◌, ◌<◌, length};
+ghost use Rattle.std.specs.Prelude.{◌≡◌, ◌*◌, ◌<◌, length, All};
 ghost use Rattle.theory.specs.Lists.{flat};
-ghost use Rattle.theory.specs.Settings.{record_size};
-ghost use Rattle.theory.specs.Records.{to_bytes};
-ghost use Rattle.theory.specs.Calls.{ledger_records};
+ghost use Rattle.theory.specs.Records.{to_bytes, records};
 ghost use Rattle.theory.specs.Snapshot as plain;
-ghost use Rattle.theory.specs.Snapshot.{first_count, head_size, Saved, snapshot};
+ghost use Rattle.theory.specs.Snapshot.{Saved, snapshot};
 ghost use Rattle.theory.proofs.SnapshotLaws.{head};
+ghost use Rattle.memory.specs.Refusals.{answer_of};
 ghost use Rattle.settings.specs.Checked.{paper, given_of, card};
-ghost use Rattle.snapshot.specs.Files.{put_at, WritingHead, CountedLedger, Saving};
+ghost use Rattle.snapshot.specs.Files.{WritingHead, WritingSnapshot, Saving};
 
-use crate::place_area;
+use crate::place_list;
+use hash::made::make_table;
 use memory::numbers::{count_at, write_number};
-use memory::parts::copy;
-use settings::{Checked, Given, Settings};
+use memory::refusals::Refusal;
+use settings::{Given, Settings};
 
-fn put_number(to: &mut [u8], at: usize, number: usize)
-    requires { (at + 2 ≤ length to.old) × (number < 65536) }
-    ensures { to.new ≡ put_at at number to.old }
+// Numbers of two bytes each, which fill a part.
+fn write_numbers(to: &mut [u8], numbers: &[usize])
+    requires full { length to.old ≡ 2 * length numbers.now }
+    requires small { All (λ n. n < 65536) numbers.now }
+    ensures { to.new ≡ flat (to_bytes 2) numbers.now }
 {
-    write_number(&mut to[at..], number);
+    for (i, &number) in numbers.iter().enumerate() {
+        write_number(&mut to[2 * i..], number);
+    }
 }
 
 // "6 settings of two bytes in the order above", after their count, with the width as a seventh unless keys have 13 bytes; then the count of the records.
@@ -28,30 +32,21 @@ fn write_head(s: Settings, to: &mut [u8], count: usize)
     ensures { to.new ≡ flat (to_bytes 2) (head (paper s) count) }
 {
     let first = crate::first_count(s);
-    put_number(to, 0, first);
-    put_number(to, 2, s.p);
-    put_number(to, 4, s.k);
-    put_number(to, 6, s.room);
-    put_number(to, 8, s.top);
-    put_number(to, 10, s.capacity);
-    put_number(to, 12, s.side_places);
-    if first == crate::SETTINGS_WITHOUT_WIDTH {
-        put_number(to, 14, count);
-        return;
-    }
-    put_number(to, 14, s.width());
-    put_number(to, 16, count);
+    let second = 2 + 2 * first;
+    let settings = [s.p, s.k, s.room, s.top, s.capacity, s.side_places, s.width];
+    write_number(to, first);
+    write_numbers(&mut to[2..second], &settings[..first]);
+    write_number(&mut to[second..], count);
 }
 
-// The snapshot of the `count` records of a ledger.
-fn write_snapshot(s: Settings, target: &mut [u8], ledger: &[u8], count: usize)
-    requires { CountedLedger s ledger.now count × (length target.old ≡ head_size (first_count (paper s)) + record_size (card s) * count) }
-    ensures { target.new ≡ snapshot (paper s) (ledger_records (card s) ledger.now) }
+// The snapshot of the `count` records of a ledger, which fill a part.
+fn write_snapshot(s: Settings, target: &mut [u8], list: &[u8], count: usize)
+    requires { WritingSnapshot s target.old list.now count }
+    ensures { target.new ≡ snapshot (paper s) (records (card s).width count list.now) }
 {
     let head = crate::saved_head_size(s);
     write_head(s, &mut target[..head], count);
-    let end = 2 + s.record_size() * count;
-    copy(&mut target[head..], &ledger[2..end]);
+    target[head..].copy_from_slice(list);
 }
 
 // On allowed settings and areas of their lengths: 4, 9, 12; else the snapshot is written.
@@ -61,45 +56,37 @@ fn save_checked(
     ledger: &[u8],
     work: &mut [u16],
     target: &mut [u8],
-) -> u32
+) -> Result<(), Refusal>
     requires { Saving s table.now work.old ledger.now }
-    ensures { ◌≡◌ {A = Saved} (record { number = result; target = target.new })
+    ensures { ◌≡◌ {A = Saved} (record { number = answer_of result; target = target.new })
         (plain.save (paper s) ledger.now (length work.old) target.old) }
 {
     if !ledger::valid(s, ledger) {
-        return 4;
+        return Err(Refusal::InvalidLedger);
     }
     let count = count_at(ledger);
-    let m = s.buckets();
-    let mut kept = [0u16; Settings::CAPACITY_MOST as usize];
-    let need = place_area(s, table, m, work, &mut kept[..], &ledger[2..], count);
+    let list = &ledger[2..2 + s.record_size() * count];
+    let mut kept = [0; Settings::CAPACITY_MOST as usize];
+    let placement = place_list(s, table, list, count, work, &mut kept[..]);
+    let need = placing::side_need(s, placement);
     if s.side_places < need {
-        return 9;
+        return Err(Refusal::SideStoreFull);
     }
-    if target.len() != crate::saved_head_size(s) + s.record_size() * count {
-        return 12;
+    if target.len() != crate::saved_head_size(s) + list.len() {
+        return Err(Refusal::WrongFile);
     }
-    write_snapshot(s, target, ledger, count);
-    0
+    write_snapshot(s, target, list, count);
+    Ok(())
 }
 
-// 1, 2, then the call. The table of the hash is made once.
-pub fn save(given: Given, ledger: &[u8], work: &mut [u16], target: &mut [u8]) -> u32
-    ensures { ◌≡◌ {A = Saved} (record { number = result; target = target.new })
+// 1, 2, then the call.
+pub fn save(given: Given, ledger: &[u8], work: &mut [u16], target: &mut [u8]) -> Result<(), Refusal>
+    ensures { ◌≡◌ {A = Saved} (record { number = answer_of result; target = target.new })
         (plain.save (given_of given) ledger.now (length work.old) target.old) }
 {
-    let checked = Settings::new(given);
-    let Checked::Allowed(s) = checked else {
-        return 1;
-    };
+    let s = Settings::new(given)?;
     if !((work.len() == s.work_length()) & (ledger.len() == s.ledger_length())) {
-        return 2;
+        return Err(Refusal::WrongAreaLength);
     }
-    // each table where it is read: one that is handed over is copied
-    if s.width == Settings::IPV4_WIDTH {
-        let table = hash::table();
-        return save_checked(s, &table[..], ledger, work, target);
-    }
-    let table = hash::half_table();
-    save_checked(s, &table[..], ledger, work, target)
+    save_checked(s, make_table(s.width()), ledger, work, target)
 }

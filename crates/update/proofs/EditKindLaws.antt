@@ -6,15 +6,15 @@ use Prim.Native.Nat.{ℕ, zero, suc, ◌+◌, ◌-◌, ◌*◌, ◌≤◌}
 use native.Mathlib.Nat.{zero-mul, suc-mul, add_comm, add-mul, mul-le-mul_right}
 use native.Mathlib.Omega.{arith}
 use lib.Dec.{leb, eqb}
-use lib.ListN.{length, take, drop, length-take, length-drop}
+use lib.ListN.{length, take, drop, length-drop}
 use lib.Seq.{drop-drop}
 use Rattle.theory.specs.Records.{Record, entries, records, record_bytes}
 use Rattle.theory.specs.Settings.{Settings, Card, card_of, record_size}
 use Rattle.theory.specs.Ledger.{held, key_wrong, side_short, next, refusal}
 use Rattle.theory.proofs.ListLaws.{by_test}
 use Rattle.theory.proofs.ByteLaws.{Fit, read_records}
-use Rattle.memory.proofs.SliceLaws.{tail_is}
-use Rattle.placing.specs.Worked.{parts}
+use Rattle.placing.specs.Worked.{parts, held as holds}
+use Rattle.placing.proofs.PartLaws.{held_front, part_records}
 use Rattle.update.specs.declared.editing.Edit.{Edit}
 use Rattle.update.specs.declared.editing.Edit.TheVariants.{Insert, Replace, Remove}
 use Rattle.update.specs.Editing.{edit_call, edited, brings, leaves_out, by_list}
@@ -61,49 +61,102 @@ refusal_is t Insert k x l e =
 refusal_is t Replace k x l e = rw e (by_test (held k l) (λ h. rw h) (λ h. rw h))
 refusal_is t Remove k x l e = rw e (by_test (held k l) (λ h. rw h) (λ h. rw h))
 
--- ---- the three areas as they are lent: the records before the place, the call's record, and the records after it
+-- ---- the three parts as they are lent: the records before the place, the call's record, and the records after it
 pub size_is : (c : Card) → record_size c ≡ c.width + 4
 unfolding record_size
 size_is c = refl
 
--- an edit at a place among n records of a ledger area, in the code's numbers: it leaves out lo records, and a record has z bytes
-pub record Around (w : ℕ) (edit : Edit) (at n : ℕ) (a : List ℕ) (lo z : ℕ) : Type 0 where
+-- an edit at a place among n records of a ledger area, in the code's numbers: it leaves out lo records and brings k, and a record has z bytes
+pub record Around (w : ℕ) (edit : Edit) (at n : ℕ) (a rec : List ℕ) (lo k z : ℕ) : Type 0 where
   pub fits : at + leaves_out edit ≤ n
   pub room : 2 + n * (w + 4) ≤ length a
+  pub wide : length rec ≡ w + 4
   pub left : lo ≡ leaves_out edit
+  pub brought : k ≡ brings edit
   pub size : z ≡ w + 4
 
-module _ {w : ℕ} {edit : Edit} {at n : ℕ} {a : List ℕ} {lo z : ℕ} (p : Around w edit at n a lo z) where
-  pub from_within : at + lo ≤ n
+module _ {w : ℕ} {edit : Edit} {at n : ℕ} {a rec : List ℕ} {lo k z : ℕ} (p : Around w edit at n a rec lo k z) where
+  from_within : at + lo ≤ n
   from_within = rw p.left p.fits
 
-  sizes : ((at + lo) * z ≤ n * (w + 4)) × (at * (w + 4) ≤ n * (w + 4))
-  sizes =
-      let before : at ≤ n = omega (arith, p.fits) in
-      (rw p.size (mul-le-mul_right (w + 4) from_within), mul-le-mul_right (w + 4) before)
+  pub last_within : 2 + n * z ≤ length a
+  last_within = rw p.size p.room
 
-  pub after_within : 2 + (at + lo) * z ≤ length a
-  after_within = omega (arith, sizes.0, p.room)
+  pub first_within : 2 + at * z ≤ 2 + n * z
+  first_within = let before : at ≤ n = omega (arith, p.fits) in omega (arith, mul-le-mul_right z before)
 
-  pub first_room : at * (w + 4) ≤ length (take (length a - 2) (drop 2 a))
-  first_room = rw (length-take, length-drop) (omega (arith, sizes.1, p.room))
+  pub after_within : 2 + (at + lo) * z ≤ 2 + n * z
+  after_within = omega (arith, mul-le-mul_right z from_within)
 
-  pub last_room : (n - (at + lo)) * (w + 4) ≤ length (take (length a - (2 + (at + lo) * z)) (drop (2 + (at + lo) * z) a))
-  last_room =
+  pub mid_within : k * z ≤ length rec
+  mid_within =
+      let one : k ≤ 1 = omega (arith, p.brought, brings_most edit) in
+      omega (arith, mul-le-mul_right {m = k} {n = 1} z one, p.wide, p.size)
+
+  abbrev pub before : List ℕ
+  before = take (2 + at * z - 2) (drop 2 a)
+
+  abbrev pub between : List ℕ
+  between = take (k * z) rec
+
+  abbrev pub after : List ℕ
+  after = take (2 + n * z - (2 + (at + lo) * z)) (drop (2 + (at + lo) * z) a)
+
+  -- each is the first records of what is lent
+  before_is : before ≡ take (at * (w + 4)) (drop 2 a)
+  before_is = let size : 2 + at * z - 2 ≡ at * (w + 4) = rw p.size (omega arith) in rw size
+
+  between_is : between ≡ take (k * (w + 4)) rec
+  between_is = rw p.size
+
+  after_is : after ≡ take ((n - (at + lo)) * (w + 4)) (drop (2 + (at + lo) * z) a)
+  after_is =
       let all : n - (at + lo) + (at + lo) ≡ n = omega (arith, from_within) in
-      let split : (n - (at + lo)) * (w + 4) + (at + lo) * (w + 4) ≡ n * (w + 4) = sym (add-mul (n - (at + lo)) (at + lo) (w + 4)) ∙ rw all in
-      rw (length-take, length-drop, p.size) (omega (arith, split, p.room))
+      let split : (n - (at + lo)) * z + (at + lo) * z ≡ n * z = sym (add-mul (n - (at + lo)) (at + lo) z) ∙ rw all in
+      let size : 2 + n * z - (2 + (at + lo) * z) ≡ (n - (at + lo)) * z = omega (arith, split) in
+      rw size (rw p.size)
 
-  pub new_list : (k : ℕ) → k ≡ brings edit → (rec : List ℕ) (x : Record) → record_bytes x ≡ rec → Fit w x
-      → parts w (take (length a - 2) (drop 2 a)) at rec k (take (length a - (2 + (at + lo) * z)) (drop (2 + (at + lo) * z) a)) (n - (at + lo))
-      ≡ edited edit at x (records w n (drop 2 a))
-  new_list k ek rec x e f =
-      rw (tail_is 2 a (omega (arith, p.room)), tail_is (2 + (at + lo) * z) a after_within, ← drop-drop ((at + lo) * z) 2 a, ek, p.left, p.size)
+  before_room : at * (w + 4) ≤ length (drop 2 a)
+  before_room = rw (length-drop, ← p.size) (omega (arith, first_within, last_within))
+
+  between_room : k * (w + 4) ≤ length rec
+  between_room = rw (← p.size) mid_within
+
+  after_room : (n - (at + lo)) * (w + 4) ≤ length (drop (2 + (at + lo) * z) a)
+  after_room =
+      let all : n - (at + lo) + (at + lo) ≡ n = omega (arith, from_within) in
+      let split : (n - (at + lo)) * z + (at + lo) * z ≡ n * z = sym (add-mul (n - (at + lo)) (at + lo) z) ∙ rw all in
+      rw (length-drop, ← p.size) (omega (arith, split, last_within))
+
+  -- how many records they hold, all together
+  pub all_held : holds w before + holds w between + holds w after ≡ n - leaves_out edit + brings edit
+  all_held =
+      rw (
+        before_is,
+        between_is,
+        after_is,
+        held_front w at (drop 2 a) before_room,
+        held_front w k rec between_room,
+        held_front w (n - (at + lo)) (drop (2 + (at + lo) * z) a) after_room,
+      )
+      (omega (arith, p.left, p.brought, p.fits))
+
+  pub new_list : (x : Record) → record_bytes x ≡ rec → Fit w x
+      → parts w before (holds w before) between (holds w between) after (holds w after) ≡ edited edit at x (records w n (drop 2 a))
+  new_list x e f =
+      let rest : drop (2 + (at + lo) * z) a ≡ drop ((at + leaves_out edit) * (w + 4)) (drop 2 a) =
+      sym (drop-drop ((at + lo) * z) 2 a) ∙ rw (p.left, p.size) in
+      let many : n - (at + lo) ≡ n - (at + leaves_out edit) = rw p.left in
+      rw (
+        part_records w at (drop 2 a) before_room before before_is,
+        part_records w k rec between_room between between_is,
+        part_records w (n - (at + lo)) (drop (2 + (at + lo) * z) a) after_room after after_is,
+        many,
+        rest,
+        p.brought,
+      )
       (parts_edited w edit at n (drop 2 a) rec x p.fits e f)
 
   -- how many records the new list has
-  pub total_is : (k : ℕ) → k ≡ brings edit → at + k + (n - (at + lo)) ≡ n - leaves_out edit + brings edit
-  total_is k ek = omega (arith, ek, p.left, p.fits)
-
-pub mid_room : (w k : ℕ) → k ≤ 1 → (rec : List ℕ) → length rec ≡ w + 4 → k * (w + 4) ≤ length rec
-mid_room w k h rec e = omega (arith, mul-le-mul_right {m = k} {n = 1} (w + 4) h, e)
+  pub total_is : at + k + (n - (at + lo)) ≡ n - leaves_out edit + brings edit
+  total_is = omega (arith, p.brought, p.left, p.fits)

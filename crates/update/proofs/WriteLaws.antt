@@ -2,18 +2,17 @@
 use mathlib.Core.Path.{◌≡◌, sym, ap, ◌∙◌}
 use mathlib.Core.Bool.{false}
 use mathlib.Core.List.{List, [], ◌∷◌}
-use Prim.Native.Nat.{ℕ, ◌+◌, ◌-◌, ◌≤◌}
+use Prim.Native.Nat.{ℕ, ◌+◌, ◌≤◌}
 use native.Mathlib.Omega.{arith}
 use borrow.Author.Tests.{eq-eqb, ne_eqb}
-use lib.ListN.{length, take, drop, length-map, length-take}
-use Rattle.theory.specs.Records.{Record, records}
-use Rattle.theory.specs.Settings.{Card, ledger_length}
+use lib.ListN.{length, take}
+use Rattle.theory.specs.Records.{Record}
+use Rattle.theory.specs.Settings.{Card}
 use Rattle.theory.specs.Layout.{Areas, counted_places, layout}
 use Rattle.theory.proofs.ListLaws.{by_test, All, all_take, all_drop, all_append}
-use Rattle.theory.proofs.ByteLaws.{Fit}
-use Rattle.theory.proofs.LayoutLaws.{read_places, after_count, length_counted}
-use Rattle.writing.proofs.LentRecordLaws.{lent_records}
+use Rattle.writing.proofs.LaidLedgerLaws.{LaidLedger}
 use Rattle.update.specs.declared.editing.Edit.{Edit}
+use Rattle.update.specs.declared.editing.EditCall.{EditCall}
 use Rattle.update.specs.declared.judging.Plan.{Plan}
 use Rattle.update.specs.Editing.{edited, brings, leaves_out, judged_number, edited_list, Planned}
 use Rattle.settings.specs.declared.Settings.{Settings}
@@ -29,43 +28,24 @@ all_edited P edit at x l p a =
     let after = all_append P (take (brings edit) (x ∷ [])) _ (all_take P (brings edit) (x ∷ []) (p, tt)) (all_drop P (at + leaves_out edit) l a) in
     all_append P (take at l) _ (all_take P at l a) after
 
--- ---- the records of a ledger area that was laid out, as they are lent
-pub record Written (c : Card) (l : List Record) (a : List ℕ) : Type 0 where
-  pub fit : All (Fit c.width) l
-  pub few : length l ≤ c.capacity
-  pub is : a ≡ counted_places c c.capacity l
-
-module _ {c : Card} {l : List Record} {a : List ℕ} (w : Written c l a) where
-  pub long : length a ≡ ledger_length c
-  unfolding ledger_length
-  long = rw w.is (length_counted c c.capacity l w.fit w.few)
-
-  pub lent_list : (n : ℕ) → n ≡ length l → records c.width n (take (length a - 2) (drop 2 a)) ≡ l
-  lent_list n e = lent_records c a long n ∙ rw (w.is, after_count c c.capacity l, e) (read_places c c.capacity l w.fit)
-
 -- ---- what a plan says of the list that it makes
-module _ {s : Settings} {m : ℕ} {edit : Edit} {k : List ℕ} {x : ℕ} {ledger work kept : List ℕ} {plan : Plan}
-    (p : Planned s m edit k x ledger work kept plan) where
+module _ {s : Settings} {call : EditCall} {ledger : List ℕ} {plan : Plan} (p : Planned s call ledger plan) where
   abbrev flows : List Record
   flows = ledger_records (card s) ledger
 
   abbrev new : Record
-  new = record { key = k; class = x }
+  new = record { key = call.key.now; class = call.class }
 
-  pub plan_room : length flows + brings edit ≤ (card s).capacity + leaves_out edit
+  pub plan_room : length flows + brings call.edit ≤ (card s).capacity + leaves_out call.edit
   plan_room =
-      let few : length (edited edit plan.at new flows) ≤ (card s).capacity = rw p.list at p.room in
-      omega (arith, few, length_edited edit plan.at new flows p.place, p.place)
+      let few : length (edited call.edit plan.at new flows) ≤ (card s).capacity = rw p.list at p.room in
+      omega (arith, few, length_edited call.edit plan.at new flows p.place, p.place)
 
-  pub plan_fit : Fit (card s).width new → All (Fit (card s).width) flows
-      → All (Fit (card s).width) (edited_list s edit k x ledger)
-  plan_fit f a = rw p.list (all_edited (Fit (card s).width) edit plan.at new flows f a)
-
-  -- the choices of all its records are kept
-  pub plan_kept : plan.count ≤ length kept
-  plan_kept =
-      let taken : length (take plan.count kept) ≡ plan.count = ap length p.placed.choices ∙ rw length-map (sym p.count) in
-      omega (arith, taken, length-take plan.count kept)
+  -- once it is in the ledger area
+  pub plan_laid : {a : List ℕ} → a ≡ counted_places (card s) (card s).capacity (edited call.edit plan.at new flows)
+      → LaidLedger s (edited_list s call ledger) a plan.placement
+  plan_laid is =
+      record { fit = p.fit; few = p.room; is = is ∙ ap (counted_places (card s) (card s).capacity) (sym p.list); placed = p.placed }
 
 -- ---- the call: 3, what judging refuses, or the layout of the new list
 module _ (c : Card) (k : List ℕ) (call : Call) (a : Areas) where

@@ -1,40 +1,45 @@
 // Document 01, the calls that write: clear, add, change, remove. They judge first, on the ledger and work alone, and then write every area.
 #![tactic(auto)]
 
-ghost use Rattle.std.specs.Prelude.{◌≡◌, ◌+◌, ◌≤◌, length, take};
+ghost use Rattle.std.specs.Prelude.{◌≡◌, ◌+◌, ◌≤◌, length};
 ghost use Rattle.theory.specs.Records.{class_width, record_bytes};
 ghost use Rattle.theory.specs.Calls as calls;
 ghost use Rattle.theory.specs.Calls.{perform};
 ghost use Rattle.theory.specs.Ledger as ledgers;
-ghost use Rattle.theory.specs.CallAreas.{areas_now, entry_areas, exit_areas, replied};
+ghost use Rattle.theory.specs.CallAreas.{replied};
+ghost use Rattle.memory.specs.Refusals.{answer_of};
 ghost use Rattle.settings.specs.Checked.{given_of, card};
+ghost use Rattle.settings.specs.Areas.{contents, SameSlices};
 ghost use Rattle.update.specs.Editing.{edit_call, Updating};
 
-use crate::editing::Edit;
+use crate::editing::{Edit, EditCall};
 use crate::judging::judge;
 use crate::writing_new::write_new;
-use settings::lengths::{Lengths, lengths_right};
-use settings::{Checked, Given, Settings};
+use hash::made::make_table;
+use memory::records::write_record;
+use memory::refusals::Refusal;
+use settings::areas::Areas;
+use settings::{Given, Settings};
 
 pub mod editing; // editing.rt: the three edits as one
 pub mod judging; // judging.rt: an edit judged, on the ledger and work alone
 pub mod writing_new; // writing_new.rt: an edit written, in every area
 
-// A buffer for the longest record.
-fn new_buffer() -> [u8; 64]
-    ensures { length result ≡ 64 }
+// The record of a call, at the start of a buffer.
+fn record_in<'a>(buffer: &'a mut [u8], key: &[u8], class: u32) -> &'a [u8]
+    requires { length key.now + class_width ≤ length buffer.old }
+    ensures { result.now ≡ record_bytes (record { key = key.entry.now; class = class }) }
 {
-    [0u8; 64]
+    let place = &mut buffer[..key.len() + Settings::CLASS_WIDTH];
+    write_record(place, key, class);
+    &*place
 }
 
-// The record of a call, at the start of a buffer.
-fn record_of(key: &[u8], class: u32, size: usize) -> [u8; 64]
-    requires { (size ≡ length key.now + class_width) × (size ≤ 64) }
-    ensures { (take size result ≡ record_bytes (record { key = key.entry.now; class = class })) × (length result ≡ 64) }
+// The ledger area, to be read.
+fn ledger_of<'a>(areas: &'a Areas<'_>) -> &'a [u8]
+    ensures { result.now ≡ areas.now.ledger.now }
 {
-    let mut buffer = new_buffer();
-    memory::records::write_record(&mut buffer[..size], key, class);
-    buffer
+    &areas.ledger[..]
 }
 
 // Add, change or remove on allowed settings and areas of their lengths: 3 and what judging refuses; else the layout is written. The table is lent.
@@ -42,154 +47,62 @@ pub fn update_checked(
     s: Settings,
     table: &[u64],
     edit: Edit,
-    ledger: &mut [u8],
-    true_counts: &mut [u16],
-    clipped: &mut [u8],
-    buckets: &mut [u8],
-    side: &mut [u8],
+    areas: &mut Areas<'_>,
     work: &mut [u16],
     key: &[u8],
     class: u32,
-) -> u32
-    requires { Updating s table.now work.old (areas_now ledger true_counts clipped buckets side) }
-    ensures { replied result (exit_areas ledger true_counts clipped buckets side)
-        ≡ calls.update (card s) key.now (edit_call edit key.now class)
-        (entry_areas ledger true_counts clipped buckets side) }
+) -> Result<(), Refusal>
+    requires { Updating s table.now work.old (contents areas.old) }
+    ensures updated { replied (answer_of result) (contents areas.new)
+        ≡ calls.update (card s) key.now (edit_call edit key.now class) (contents areas.old) }
+    ensures same { SameSlices areas.old areas.new }
 {
     if key.len() != s.width() {
-        return 3;
+        return Err(Refusal::WrongKeyLength);
     }
-    let m = s.buckets();
-    let size = s.record_size();
-    let buffer = record_of(key, class, size);
-    let mut kept = [0u16; Settings::CAPACITY_MOST as usize];
-    let plan = judge(
-        s,
-        table,
-        m,
-        work,
-        &mut kept[..],
-        ledger,
+    let mut buffer = [0; 64];
+    let record = record_in(&mut buffer[..], key, class);
+    let call = EditCall {
         edit,
         key,
         class,
-        &buffer[..size],
-    );
-    let number = plan.number;
-    if number != 0 {
-        return number;
-    }
-    write_new(
-        s,
-        m,
-        plan,
-        edit,
-        ledger,
-        true_counts,
-        clipped,
-        buckets,
-        side,
-        work,
-        &kept[..],
-        key,
-        class,
-        &buffer[..size],
-    );
-    0
+        record,
+    };
+    let mut kept = [0; Settings::CAPACITY_MOST as usize];
+    let plan = judge(s, table, ledger_of(areas), call, work, &mut kept[..])?;
+    write_new(s, plan, call, areas);
+    Ok(())
 }
 
-// Add, change or remove: 1, 2, then the call. The table of the hash is made once.
+// Add, change or remove: 1, 2, then the call.
 pub fn update(
     edit: Edit,
     given: Given,
-    ledger: &mut [u8],
-    true_counts: &mut [u16],
-    clipped: &mut [u8],
-    buckets: &mut [u8],
-    side: &mut [u8],
+    areas: &mut Areas<'_>,
     work: &mut [u16],
     key: &[u8],
     class: u32,
-) -> u32
-    ensures { replied result (exit_areas ledger true_counts clipped buckets side)
-        ≡ perform (given_of given) (length work.old)
-        (edit_call edit key.now class)
-        (entry_areas ledger true_counts clipped buckets side) }
+) -> Result<(), Refusal>
+    ensures performed { replied (answer_of result) (contents areas.new)
+        ≡ perform (given_of given) (length work.old) (edit_call edit key.now class) (contents areas.old) }
+    ensures same { SameSlices areas.old areas.new }
 {
-    let checked = Settings::new(given);
-    let Checked::Allowed(s) = checked else {
-        return 1;
-    };
-    let lengths = Lengths {
-        ledger: ledger.len(),
-        true_counts: true_counts.len(),
-        clipped: clipped.len(),
-        buckets: buckets.len(),
-        side: side.len(),
-    };
-    if !((work.len() == s.work_length()) & lengths_right(s, lengths)) {
-        return 2;
+    let s = Settings::new(given)?;
+    if !((work.len() == s.work_length()) & areas.have_lengths(s)) {
+        return Err(Refusal::WrongAreaLength);
     }
-    // each table where it is read: one that is handed over is copied
-    if s.width == Settings::IPV4_WIDTH {
-        let table = hash::table();
-        return update_checked(
-            s,
-            &table[..],
-            edit,
-            ledger,
-            true_counts,
-            clipped,
-            buckets,
-            side,
-            work,
-            key,
-            class,
-        );
-    }
-    let table = hash::half_table();
-    update_checked(
-        s,
-        &table[..],
-        edit,
-        ledger,
-        true_counts,
-        clipped,
-        buckets,
-        side,
-        work,
-        key,
-        class,
-    )
+    update_checked(s, make_table(s.width()), edit, areas, work, key, class)
 }
 
 // "Clear lays out the empty list, on areas with any contents."
-pub fn clear(
-    given: Given,
-    ledger: &mut [u8],
-    true_counts: &mut [u16],
-    clipped: &mut [u8],
-    buckets: &mut [u8],
-    side: &mut [u8],
-) -> u32
-    ensures { replied result (exit_areas ledger true_counts clipped buckets side)
-        ≡ perform (given_of given) 0 ledgers.clear
-        (entry_areas ledger true_counts clipped buckets side) }
+pub fn clear(given: Given, areas: &mut Areas<'_>) -> Result<(), Refusal>
+    ensures performed { replied (answer_of result) (contents areas.new) ≡ perform (given_of given) 0 ledgers.clear (contents areas.old) }
+    ensures same { SameSlices areas.old areas.new }
 {
-    let checked = Settings::new(given);
-    let Checked::Allowed(s) = checked else {
-        return 1;
-    };
-    let lengths = Lengths {
-        ledger: ledger.len(),
-        true_counts: true_counts.len(),
-        clipped: clipped.len(),
-        buckets: buckets.len(),
-        side: side.len(),
-    };
-    if !lengths_right(s, lengths) {
-        return 2;
+    let s = Settings::new(given)?;
+    if !areas.have_lengths(s) {
+        return Err(Refusal::WrongAreaLength);
     }
-    writing::clear_areas(s, ledger, true_counts, clipped, buckets, side);
-    0
+    writing::clear_areas(areas);
+    Ok(())
 }

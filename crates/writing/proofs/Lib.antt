@@ -6,3 +6,4 @@ pub mod SideLaws
 pub mod EmptyLaws
 pub mod LentRecordLaws
 pub mod JudgedLaws
+pub mod LaidLedgerLaws

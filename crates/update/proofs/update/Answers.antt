@@ -1,67 +1,51 @@
--- `update::update` meets its contract: 1, 2, then the call on areas of their lengths with a table made once.
-use mathlib.Core.Path.{◌≡◌}
-use mathlib.Core.Bool.{Bool}
-use Prim.Native.Nat.{ℕ}
-use borrow.Author.Rules.{rules}
-use lib.ListN.{length}
+-- 1, 2, then the call on areas of their lengths
+use Rattle.std.proofs.Common.{◌≡◌, ℕ, Bool}
+use Rattle.std.proofs.lemmas.Result.{err_from_is_err_and}
+use Rattle.theory.specs.Lists.{all}
 use Rattle.theory.specs.Settings as plain
 use Rattle.theory.specs.Settings.{work_length}
 use Rattle.theory.specs.Layout.{Areas}
-use Rattle.theory.specs.CallAreas.{areas_now}
+use Rattle.theory.specs.Calls.{all_lengths}
 use Rattle.settings.specs.declared.Settings.{Settings}
-use Rattle.settings.specs.declared.Checked.{Checked}
-use Rattle.settings.specs.declared.Checked.TheVariants.{Allowed}
-use Rattle.settings.specs.Checked.{given_of, checked_of, card}
-use Rattle.settings.specs.Lengths.{right_lengths, code_lengths}
-use Rattle.settings.proofs.Laws.{refused_arm}
-use Rattle.placing.proofs.ReadyLaws.{ready_by_byte, ready_by_half}
-use Rattle.writing.proofs.JudgedLaws.{permitted, permits, Tested, words_right, areas_right}
-use Rattle.update.proofs.PerformLaws.{performs_1, performs_2, performs_on}
+use Rattle.settings.specs.Checked.{given_of, paper, card}
+use Rattle.settings.proofs.Laws.{refused_arm, key_width}
+use Rattle.writing.proofs.JudgedLaws.{Permitted, permitted, permits, Tested, words_right, areas_right}
+use Rattle.update.proofs.PerformLaws.{made_ready, performs_1, performs_2, performs_on}
 use Rattle.update.proofs.update.Goals as goal
 
 -- the lengths are tested, on settings that are allowed
-tested : (t : plain.Settings) {checked : Checked} {s : Settings} → checked ≡ checked_of t → checked ≡ Allowed s → (w : ℕ) {z : ℕ} (a : Areas)
-    {right : Bool} → z ≡ work_length (card s) → right ≡ right_lengths (card s) (code_lengths a) → Tested t s w z a right
-tested t answered arm w a words areas = record { settings = permitted t answered arm; words = words; areas = areas }
+tested : {t : plain.Settings} {s : Settings} → Permitted t s → {w z : ℕ} {a : Areas} {right : Bool} → z ≡ work_length (card s)
+    → right ≡ all (λ x. x) (all_lengths (card s) a) → Tested t s w z a right
+tested allowed words areas = record { settings = allowed; words = words; areas = areas }
 
-pub returns-in_default : goal.returns-in_default
-returns-in_default c = performs_1 c.args.edit c.args.key.now c.args.class _ _ _ (refused_arm _ _ c.new-checked.ensures c.in_default.is)
+pub returns-in_err-s-clause-performed : goal.returns-in_err-s-clause-performed
+returns-in_err-s-clause-performed c =
+    let p = err_from_is_err_and c.from_residual.result c.from_residual.ensures.1 in
+    let refused = refused_arm (given_of c.args.given) _ c.new.ensures _ c.in_err-s.was in
+    rw (p.1, p.2, refused.1) (performs_1 c.args.edit c.args.key.now c.args.class (given_of c.args.given) _ _ refused.0)
 
-pub returns-then-not-work-work_length : goal.returns-then-not-work-work_length
-returns-then-not-work-work_length c =
-    let tested =
-    tested (given_of c.args.given) c.new-checked.ensures c.in-Allowed.is (length c.args.work.now)
-    (areas_now c.args.ledger c.args.true_counts c.args.clipped c.args.buckets c.args.side) c.work_length.ensures c.lengths_right.ensures in
-    performs_2 c.args.edit c.args.key.now c.args.class tested c.if-not-work-work_length.true
+pub returns-then-not-work-work_length-clause-performed : goal.returns-then-not-work-work_length-clause-performed
+returns-then-not-work-work_length-clause-performed c =
+    let allowed = permitted (given_of c.args.given) c.new.ensures c.in_ok-s.was in
+    performs_2 c.args.edit c.args.key.now c.args.class (tested allowed c.work_length.ensures c.have_lengths.ensures) c.if-not-work-work_length.true
+
+pub make_table-requires : goal.make_table-requires
+make_table-requires c =
+    let allowed = permitted (given_of c.args.given) c.new.ensures c.in_ok-s.was in
+    key_width (paper c.in_ok-s.s) (permits allowed) c.width.ensures
 
 pub update_checked-requires : goal.update_checked-requires
 update_checked-requires c =
-    let tested =
-    tested (given_of c.args.given) c.new-checked.ensures c.in-Allowed.is (length c.args.work.now)
-    (areas_now c.args.ledger c.args.true_counts c.args.clipped c.args.buckets c.args.side) c.work_length.ensures c.lengths_right.ensures in
-    let right = c.if-not-work-work_length.false in
-    let ready = ready_by_byte c.in-Allowed.s (permits tested.settings) c.if-s-eq-IPV4_WIDTH.true c.table-table.ensures (search rules) in
-    record { ready = ready; words = words_right tested right; sized = areas_right tested right }
+    let allowed = permitted (given_of c.args.given) c.new.ensures c.in_ok-s.was in
+    let tested = tested allowed c.work_length.ensures c.have_lengths.ensures in
+    record {
+      ready = made_ready c.in_ok-s.s (permits allowed) c.width.ensures c.make_table.ensures.length c.make_table.ensures.made;
+      words = words_right tested c.if-not-work-work_length.false;
+      sized = areas_right tested c.if-not-work-work_length.false;
+    }
 
-pub returns-then-s-eq-IPV4_WIDTH : goal.returns-then-s-eq-IPV4_WIDTH
-returns-then-s-eq-IPV4_WIDTH c =
-    let tested =
-    tested (given_of c.args.given) c.new-checked.ensures c.in-Allowed.is (length c.args.work.now)
-    (areas_now c.args.ledger c.args.true_counts c.args.clipped c.args.buckets c.args.side) c.work_length.ensures c.lengths_right.ensures in
-    performs_on c.args.edit c.args.key.now c.args.class tested c.if-not-work-work_length.false c.update_checked.ensures
-
-pub update_checked-requires-2 : goal.update_checked-requires-2
-update_checked-requires-2 c =
-    let tested =
-    tested (given_of c.args.given) c.new-checked.ensures c.in-Allowed.is (length c.args.work.now)
-    (areas_now c.args.ledger c.args.true_counts c.args.clipped c.args.buckets c.args.side) c.work_length.ensures c.lengths_right.ensures in
-    let right = c.if-not-work-work_length.false in
-    let ready = ready_by_half c.in-Allowed.s (permits tested.settings) c.if-s-eq-IPV4_WIDTH.false c.half_table-table.ensures (search rules) in
-    record { ready = ready; words = words_right tested right; sized = areas_right tested right }
-
-pub returns : goal.returns
-returns c =
-    let tested =
-    tested (given_of c.args.given) c.new-checked.ensures c.in-Allowed.is (length c.args.work.now)
-    (areas_now c.args.ledger c.args.true_counts c.args.clipped c.args.buckets c.args.side) c.work_length.ensures c.lengths_right.ensures in
-    performs_on c.args.edit c.args.key.now c.args.class tested c.if-not-work-work_length.false c.update_checked-2.ensures
+pub returns-clause-performed : goal.returns-clause-performed
+returns-clause-performed c =
+    let allowed = permitted (given_of c.args.given) c.new.ensures c.in_ok-s.was in
+    performs_on c.args.edit c.args.key.now c.args.class (tested allowed c.work_length.ensures c.have_lengths.ensures) c.if-not-work-work_length.false
+    c.update_checked.ensures.updated

@@ -1,89 +1,101 @@
--- `snapshot::loading::load_checked` meets its contract: each answer is the definition's.
-use mathlib.Core.Path.{◌≡◌, sym, ap, ◌∙◌}
-use mathlib.Core.List.{List}
-use Prim.Native.Nat.{ℕ, ◌+◌, ◌≤◌}
-use native.Mathlib.Omega.{arith}
-use lib.ListN.{length}
-use lib.Seq.{length-take-le}
+-- each answer is the definition's
+use Rattle.std.proofs.Common.{◌≡◌, ℕ, ◌-◌, List, length, take, drop, arith, sym, ap, ◌∙◌}
+use Rattle.std.proofs.lemmas.Result.{err_from_is_err_and}
+use Rattle.theory.specs.Records.{records}
+use Rattle.theory.specs.Layout.{counted_places, layout}
+use Rattle.theory.proofs.ListLaws.{All, all_take, all_drop}
+use Rattle.theory.proofs.ByteLaws.{Byte}
+use Rattle.memory.proofs.SliceLaws.{bytes_of}
 use Rattle.theory.specs.Ledger.{side_need_of}
-use Rattle.theory.specs.Layout.{layout, Areas}
-use Rattle.theory.proofs.SettingsLaws.{ranges}
+use Rattle.theory.proofs.SettingsLaws.{ranges, sound}
 use Rattle.settings.specs.declared.Settings.{Settings}
 use Rattle.settings.specs.Checked.{paper, card}
-use Rattle.settings.proofs.Laws.{capacity_is, side_places_are, work_length_is}
+use Rattle.settings.proofs.Laws.{capacity_is, side_places_are}
+use Rattle.ledger.proofs.LedgerLaws.{has_count}
+use Rattle.placing.specs.declared.Placement.{Placement}
+use Rattle.placing.specs.Worked.{Placed}
+use Rattle.writing.proofs.LaidLedgerLaws.{LaidLedger, written_list, lays, layout_written}
+use Rattle.placing.proofs.WorkLaws.{placed_within}
 use Rattle.snapshot.specs.declared.reading.Head.{Head}
-use Rattle.snapshot.specs.Files.{Loading}
-use Rattle.snapshot.proofs.FileLaws.{FullFile, full_file, lent_full, lent_fits, lent_listed}
-use Rattle.snapshot.proofs.LoadLaws.{refused_as, loads_refused, loads_9, loads_0}
+use Rattle.snapshot.proofs.FileLaws.{FullFile, full_file, lent_full, lent_listed}
+use Rattle.snapshot.proofs.LoadLaws.{ledger_laid, loads_refused, loads_9, loads_0}
 use Rattle.snapshot.proofs.loading.load_checked.Goals as goal
 
-module _ {s : Settings} {table file work : List ℕ} {a : Areas} (g : Loading s table file work a) where
-  most : {h : Head} {size : ℕ} → FullFile (paper s) file h size → h.count ≤ 4096
-  most full = omega (arith, full.few, (ranges (paper s) g.ready.ok).capacity_high)
+-- the ledger area that is written holds the file's list
+written : (s : Settings) {f : List ℕ} {h : Head} {size : ℕ} → FullFile (paper s) f h size → All Byte f → {ledger : List ℕ} {p : Placement}
+    → ledger ≡ counted_places (card s) (card s).capacity (records (card s).width h.count (take (length f - h.size) (drop h.size f)))
+    → Placed (card s) (records (card s).width h.count (take (length f - h.size) (drop h.size f))) p
+    → LaidLedger s (records (card s).width h.count (take (length f - h.size) (drop h.size f))) ledger p
+written s {f} {h} full bytes is placed =
+    ledger_laid s _ (lent_full full) (all_take Byte (length f - h.size) (drop h.size f) (all_drop Byte h.size f bytes))
+    (omega (arith, full.few, capacity_is (paper s))) is placed
 
-  halves : {m : ℕ} → m ≡ (card s).buckets → length work ≡ m + m
-  halves is = omega (arith, g.words, is, work_length_is (paper s))
+pub returns-in_err-refusal_by_file-clause-loaded : goal.returns-in_err-refusal_by_file-clause-loaded
+returns-in_err-refusal_by_file-clause-loaded c =
+    let p = err_from_is_err_and c.from_residual.result c.from_residual.ensures.1 in
+    rw (p.1, p.2) (loads_refused c.requires _ c.in_err-refusal_by_file.ensures)
 
-pub returns-then-number-ne0 : goal.returns-then-number-ne0
-returns-then-number-ne0 c =
-    refused_as c.refused.ensures _ ∙ loads_refused c.requires c.refusal_by_file-number.ensures c.if-number-ne0.true
-
-pub place_area-need-requires : goal.place_area-need-requires
-place_area-need-requires c =
-    let full = full_file (paper c.args.s) c.read_head-head.ensures (sym c.refusal_by_file-number.ensures ∙ c.if-number-ne0.false) in
+pub place_list-placement-requires : goal.place_list-placement-requires
+place_list-placement-requires c =
+    let full = full_file (paper c.args.s) c.requires.head (sym c.in_ok-refusal_by_file.ensures) in
     record {
       ready = c.requires.ready;
-      buckets = c.buckets-m.ensures;
-      halves = halves c.requires c.buckets-m.ensures;
-      choices = omega (arith, most c.requires full);
-      room = lent_fits full;
-      few = most c.requires full;
-    }
-
-pub returns-then-s-need : goal.returns-then-s-need
-returns-then-s-need c =
-    let none = sym c.refusal_by_file-number.ensures ∙ c.if-number-ne0.false in
-    let full = full_file (paper c.args.s) c.read_head-head.ensures none in
-    let need = c.place_area-need.ensures.0 ∙ ap (side_need_of (card c.args.s)) (lent_listed full) in
-    refused_as c.refused-then-s-need.ensures _
-    ∙ loads_9 c.requires none need (omega (arith, c.if-s-need.true, side_places_are (paper c.args.s)))
-
-pub slice_bounds-kept-end : goal.slice_bounds-kept-end
-slice_bounds-kept-end c =
-    let full = full_file (paper c.args.s) c.read_head-head.ensures (sym c.refusal_by_file-number.ensures ∙ c.if-number-ne0.false) in
-    omega (arith, c.place_area-need.auto.kept, most c.requires full)
-
-pub slice_bounds-write_list-end : goal.slice_bounds-write_list-end
-slice_bounds-write_list-end c =
-    let full = full_file (paper c.args.s) c.read_head-head.ensures (sym c.refusal_by_file-number.ensures ∙ c.if-number-ne0.false) in
-    let within : c.read_head-head.result.count ≤ length c.place_area-need.new.kept = omega (arith, c.place_area-need.auto.kept, most c.requires full) in
-    sym (length-take-le _ _ within)
-
-pub write_list-requires : goal.write_list-requires
-write_list-requires c =
-    let t = paper c.args.s in
-    let pre = c.requires in
-    let full = full_file t c.read_head-head.ensures (sym c.refusal_by_file-number.ensures ∙ c.if-number-ne0.false) in
-    record {
-      laying = record {
-        ok = pre.ready.ok;
-        buckets = c.buckets-m.ensures;
-        work_length = c.place_area-need.auto.work ∙ halves pre c.buckets-m.ensures;
-        records_fit = lent_fits full;
-        placed = c.place_area-need.ensures.1;
-      };
-      few = omega (arith, full.few, capacity_is t);
       full = lent_full full;
-      counted = c.place_area-need.ensures.0;
-      enough = omega (arith, c.if-s-need.false, side_places_are t);
-      sized = pre.sized;
+      words = c.requires.words;
+      choices = omega (arith, full.few, (ranges (paper c.args.s) c.requires.ready.ok).capacity_high);
+      few = omega (arith, full.few, (ranges (paper c.args.s) c.requires.ready.ok).capacity_high);
     }
 
-pub returns : goal.returns
-returns c =
-    let s = card c.args.s in
-    let none = sym c.refusal_by_file-number.ensures ∙ c.if-number-ne0.false in
-    let full = full_file (paper c.args.s) c.read_head-head.ensures none in
-    let need = c.place_area-need.ensures.0 ∙ ap (side_need_of s) (lent_listed full) in
-    let laid = c.write_list.ensures ∙ ap (layout s) (lent_listed full) in
-    loads_0 c.requires none need (omega (arith, c.if-s-need.false, side_places_are (paper c.args.s))) c.given.ensures laid
+pub side_need-need-requires-clause-within : goal.side_need-need-requires-clause-within
+side_need-need-requires-clause-within c = placed_within c.place_list-placement.ensures (sound (paper c.args.s) c.requires.ready.ok)
+
+pub returns-then-s-need-clause-loaded : goal.returns-then-s-need-clause-loaded
+returns-then-s-need-clause-loaded c =
+    let none = sym c.in_ok-refusal_by_file.ensures in
+    let full = full_file (paper c.args.s) c.requires.head none in
+    let need = c.side_need-need.ensures _ c.place_list-placement.ensures ∙ ap (side_need_of (card c.args.s)) (lent_listed full) in
+    loads_9 c.requires none need (omega (arith, c.if-s-need.true, side_places_are (paper c.args.s)))
+
+pub write_ledger-requires : goal.write_ledger-requires
+write_ledger-requires c =
+    let full = full_file (paper c.args.s) c.requires.head (sym c.in_ok-refusal_by_file.ensures) in
+    record {
+      ok = c.requires.ready.ok;
+      whole = c.requires.sized.ledger;
+      few = omega (arith, full.few, capacity_is (paper c.args.s));
+      full = lent_full full;
+    }
+
+pub write_areas-requires-clause-laying : goal.write_areas-requires-clause-laying
+write_areas-requires-clause-laying c =
+    let full = full_file (paper c.args.s) c.requires.head (sym c.in_ok-refusal_by_file.ensures) in
+    lays (written c.args.s full (bytes_of c.args.file.now c.type_inv.file) c.write_ledger.ensures c.place_list-placement.ensures) c.requires.ready.ok
+
+pub write_areas-requires-clause-need : goal.write_areas-requires-clause-need
+write_areas-requires-clause-need c =
+    let full = full_file (paper c.args.s) c.requires.head (sym c.in_ok-refusal_by_file.ensures) in
+    let laid = written c.args.s full (bytes_of c.args.file.now c.type_inv.file) c.write_ledger.ensures c.place_list-placement.ensures in
+    c.side_need-need.ensures _ c.place_list-placement.ensures ∙ ap (side_need_of (card c.args.s)) (sym (written_list laid))
+
+pub write_areas-requires-clause-lengths : goal.write_areas-requires-clause-lengths
+write_areas-requires-clause-lengths c =
+    let sized = c.requires.sized in
+    record {
+      ledger = omega (arith, c.write_ledger.auto.ledger, has_count (card c.args.s) c.args.areas.now.ledger.now sized.ledger);
+      true_counts = sized.true_counts;
+      clipped_counts = sized.clipped_counts;
+      buckets = sized.buckets;
+      side_store = sized.side_store;
+    }
+
+pub write_areas-requires-clause-enough : goal.write_areas-requires-clause-enough
+write_areas-requires-clause-enough c = omega (arith, c.if-s-need.false, side_places_are (paper c.args.s))
+
+pub returns-clause-loaded : goal.returns-clause-loaded
+returns-clause-loaded c =
+    let none = sym c.in_ok-refusal_by_file.ensures in
+    let full = full_file (paper c.args.s) c.requires.head none in
+    let need = c.side_need-need.ensures _ c.place_list-placement.ensures ∙ ap (side_need_of (card c.args.s)) (lent_listed full) in
+    let laid = written c.args.s full (bytes_of c.args.file.now c.type_inv.file) c.write_ledger.ensures c.place_list-placement.ensures in
+    loads_0 c.requires none need (omega (arith, c.if-s-need.false, side_places_are (paper c.args.s))) c.from.ensures
+    (layout_written laid c.write_areas.ensures.laid ∙ ap (layout (card c.args.s)) (lent_listed full))

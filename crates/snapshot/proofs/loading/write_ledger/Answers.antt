@@ -1,7 +1,5 @@
--- `snapshot::loading::write_ledger` meets its contract: the count, the records, zeros.
-use native.Mathlib.Omega.{arith}
-use Prim.Native.Nat.{◌+◌, ◌*◌, ◌≤◌}
-use lib.ListN.{length}
+-- the count, the records, zeros
+use Rattle.std.proofs.Common.{arith}
 use Rattle.theory.proofs.SettingsLaws.{sound}
 use Rattle.settings.specs.Checked.{paper}
 use Rattle.memory.proofs.SliceLaws.{bytes_of}
@@ -10,18 +8,18 @@ use Rattle.snapshot.proofs.loading.write_ledger.Goals as goal
 
 pub write_number-requires : goal.write_number-requires
 write_number-requires c =
-    let end : 2 + c.record_size.result * c.args.count ≤ length c.args.ledger.now = end_within c.requires c.record_size.ensures in
-    (omega (arith, end), omega (arith, c.requires.few, (sound (paper c.args.s) c.requires.ok).capacity_small))
+    (omega (arith, end_within c.requires), omega (arith, c.requires.few, (sound (paper c.args.s) c.requires.ok).capacity_small))
 
-pub slice_bounds-copy-end : goal.slice_bounds-copy-end
-slice_bounds-copy-end c = copy_end c.requires c.record_size.ensures c.write_number.ensures
+pub slice_bounds-copy_from_slice-end : goal.slice_bounds-copy_from_slice-end
+slice_bounds-copy_from_slice-end c = copy_end c.requires c.write_number.ensures
 
-pub slice_bounds-zero_fill-count : goal.slice_bounds-zero_fill-count
-slice_bounds-zero_fill-count c = zeros_start c.requires c.record_size.ensures c.write_number.ensures c.copy.ensures
+pub slice_bounds-fill-count : goal.slice_bounds-fill-count
+slice_bounds-fill-count c = zeros_start c.requires c.write_number.ensures c.copy_from_slice.ensures.after
 
-pub slice_bounds-zero_fill-start : goal.slice_bounds-zero_fill-start
-slice_bounds-zero_fill-start c = zeros_start c.requires c.record_size.ensures c.write_number.ensures c.copy.ensures
+pub slice_bounds-fill-start : goal.slice_bounds-fill-start
+slice_bounds-fill-start c = zeros_start c.requires c.write_number.ensures c.copy_from_slice.ensures.after
 
 pub returns : goal.returns
 returns c =
-    ledger_written c.requires c.record_size.ensures c.write_number.ensures c.copy.ensures (bytes_of c.args.area.now c.type_inv.area) c.zero_fill.ensures
+    ledger_written c.requires c.write_number.ensures c.copy_from_slice.ensures.after (bytes_of c.args.list.now c.type_inv.list)
+    (c.fill.ensures.after (λ y same. same))

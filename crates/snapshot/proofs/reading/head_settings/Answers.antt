@@ -1,44 +1,43 @@
--- `snapshot::reading::head_settings` meets its contract: each refusal is the definition's, else the settings that were read are handed back.
-use mathlib.Core.Path.{sym, ◌∙◌}
-use native.Mathlib.Omega.{arith}
+-- each refusal is the definition's, else the settings that were read are handed back
+use Rattle.std.proofs.Common.{ap, ◌∙◌}
+use Rattle.std.proofs.lemmas.Result.{err_from_is_err_and}
+use Rattle.memory.specs.Refusals.{number_of}
+use Rattle.memory.specs.declared.refusals.Refusal.TheVariants.{WrongAreaLength, WrongFile}
 use Rattle.theory.specs.Snapshot.{file_settings}
 use Rattle.settings.proofs.Laws.{refused_arm}
 use Rattle.writing.proofs.JudgedLaws.{permitted}
-use Rattle.snapshot.proofs.FileLaws.{head_there, head_refused, head_12, head_1, head_2, head_12_first, head_accepted}
+use Rattle.snapshot.proofs.FileLaws.{head_refused, head_12, head_1, head_2, head_12_first, head_accepted}
 use Rattle.snapshot.proofs.reading.head_settings.Goals as goal
 
-pub returns-then-head_wrong : goal.returns-then-head_wrong
-returns-then-head_wrong c =
-    let twelve = head_12 c.args.file.now c.args.area_length (sym c.head_wrong.ensures ∙ c.if-head_wrong.true) in
-    head_refused c.args.file.now c.args.area_length twelve (λ q. omega arith) c.refused.ensures
+pub returns-in_err-head : goal.returns-in_err-head
+returns-in_err-head c =
+    let p = err_from_is_err_and c.from_residual.result c.from_residual.ensures.1 in
+    let wrong = c.in_err-head.ensures.wrong in
+    rw (p.1, p.2) (head_refused _ _ _ (ap number_of wrong.0 ∙ head_12 c.args.file.now c.args.area_length wrong.1))
 
-pub returns-in_default : goal.returns-in_default
-returns-in_default c =
-    let right = sym c.head_wrong.ensures ∙ c.if-head_wrong.false in
-    let one = head_1 c.args.file.now c.args.area_length right (refused_arm _ _ c.read_settings-checked.ensures c.in_default.is) in
-    head_refused c.args.file.now c.args.area_length one (λ q. omega arith) c.refused-in_default.ensures
+pub returns-in_err-s : goal.returns-in_err-s
+returns-in_err-s c =
+    let p = err_from_is_err_and c.from_residual-in_err-s.result c.from_residual-in_err-s.ensures.1 in
+    let refused = refused_arm (file_settings c.args.file.now) _ c.read_settings.ensures _ c.in_err-s.was in
+    rw (p.1, p.2) (head_refused _ _ _ (ap number_of refused.1 ∙ head_1 c.args.file.now c.args.area_length c.in_ok-head.ensures.read.right refused.0))
 
 pub returns-then-area_length-ne-SETTINGS : goal.returns-then-area_length-ne-SETTINGS
 returns-then-area_length-ne-SETTINGS c =
-    let right = sym c.head_wrong.ensures ∙ c.if-head_wrong.false in
-    let allowed = permitted (file_settings c.args.file.now) c.read_settings-checked.ensures c.in-Allowed.is in
-    let two = head_2 c.args.file.now c.args.area_length right allowed c.if-area_length-ne-SETTINGS.true in
-    head_refused c.args.file.now c.args.area_length two (λ q. omega arith) c.refused-then-area_length-ne-SETTINGS.ensures
+    let allowed = permitted (file_settings c.args.file.now) c.read_settings.ensures c.in_ok-s.was in
+    head_refused _ _ WrongAreaLength
+    (head_2 c.args.file.now c.args.area_length c.in_ok-head.ensures.read.right allowed c.if-area_length-ne-SETTINGS.true)
 
-pub count_at-requires : goal.count_at-requires
-count_at-requires c = omega (arith, head_there c.args.file.now (sym c.head_wrong.ensures ∙ c.if-head_wrong.false))
-
-pub returns-then-count_at-first_count : goal.returns-then-count_at-first_count
-returns-then-count_at-first_count c =
-    let right = sym c.head_wrong.ensures ∙ c.if-head_wrong.false in
-    let allowed = permitted (file_settings c.args.file.now) c.read_settings-checked.ensures c.in-Allowed.is in
-    let seven = c.if-area_length-ne-SETTINGS.false in
-    let other = head_12_first c.args.file.now c.args.area_length right allowed seven c.count_at.ensures.0 c.first_count.ensures c.if-count_at-first_count.true in
-    head_refused c.args.file.now c.args.area_length other (λ q. omega arith) c.refused-then-count_at-first_count.ensures
+pub returns-then-head-first_count : goal.returns-then-head-first_count
+returns-then-head-first_count c =
+    let allowed = permitted (file_settings c.args.file.now) c.read_settings.ensures c.in_ok-s.was in
+    let head = c.in_ok-head.ensures.read in
+    head_refused _ _ WrongFile
+    (head_12_first c.args.file.now c.args.area_length head.right allowed c.if-area_length-ne-SETTINGS.false head.settings c.first_count.ensures
+    c.if-head-first_count.true)
 
 pub returns : goal.returns
 returns c =
-    let right = sym c.head_wrong.ensures ∙ c.if-head_wrong.false in
-    let allowed = permitted (file_settings c.args.file.now) c.read_settings-checked.ensures c.in-Allowed.is in
-    head_accepted c.args.file.now c.args.area_length right allowed c.if-area_length-ne-SETTINGS.false c.count_at.ensures.0
-    c.first_count.ensures c.if-count_at-first_count.false c.given.ensures
+    let allowed = permitted (file_settings c.args.file.now) c.read_settings.ensures c.in_ok-s.was in
+    let head = c.in_ok-head.ensures.read in
+    head_accepted c.args.file.now c.args.area_length head.right allowed c.if-area_length-ne-SETTINGS.false head.settings c.first_count.ensures
+    c.if-head-first_count.false c.from.ensures

@@ -1,93 +1,117 @@
--- `snapshot::saving::save_checked` meets its contract: each answer is the definition's.
-use mathlib.Core.Path.{◌≡◌, sym, ap, ◌∙◌}
-use mathlib.Core.Bool.{Bool, true, not}
-use mathlib.Core.List.{List}
-use Prim.Native.Nat.{ℕ, ◌≤◌}
-use native.Mathlib.Omega.{arith}
-use borrow.Author.Tests.{not-true, not-false}
+-- each answer is the definition's
+use Rattle.std.proofs.Common.{◌≡◌, ◌+◌, ◌*◌, ◌≤◌, ℕ, List, ◌-◌, length, take, drop, false, arith, sym, ap, ◌∙◌}
+use Rattle.theory.specs.Settings.{record_size}
 use Rattle.theory.specs.Records.{count_of}
 use Rattle.theory.specs.Ledger.{side_need_of}
 use Rattle.theory.specs.Calls.{ledger_invalid}
-use Rattle.theory.proofs.SettingsLaws.{ranges}
+use Rattle.theory.specs.Snapshot.{snapshot}
+use Rattle.theory.proofs.ListLaws.{negated_false, negated_true}
+use Rattle.theory.proofs.SettingsLaws.{ranges, sound}
 use Rattle.theory.proofs.SnapshotLaws.{first_count_most}
 use Rattle.settings.specs.declared.Settings.{Settings}
 use Rattle.settings.specs.Checked.{paper, card}
-use Rattle.settings.proofs.Laws.{capacity_is, side_places_are, work_length_is, bounds}
+use Rattle.settings.proofs.Laws.{capacity_is, side_places_are}
 use Rattle.ledger.proofs.LedgerLaws.{has_count}
-use Rattle.snapshot.specs.Files.{CountedLedger, Saving}
-use Rattle.snapshot.proofs.SaveLaws.{many, end_within, lent_list, lent_fits, saves_4, saves_9, saves_12, saves_0}
+use Rattle.ledger.proofs.LedgerEditLaws.{listed}
+use Rattle.placing.proofs.WorkLaws.{placed_within}
+use Rattle.snapshot.specs.Files.{Saving}
+use Rattle.snapshot.proofs.FileLaws.{few_bytes}
+use Rattle.snapshot.proofs.FullPartLaws.{many, list_within, list_full, list_is}
+use Rattle.snapshot.proofs.SaveLaws.{saves_4, saves_9, saves_12, saves_0}
 use Rattle.snapshot.proofs.saving.save_checked.Goals as goal
 
-module _ {s : Settings} {table work ledger : List ℕ} (g : Saving s table work ledger) where
-  -- the ledger is within its rules, and its records are counted
-  known : {right : Bool} {n : ℕ} → right ≡ not (ledger_invalid (card s) ledger) → right ≡ true → n ≡ count_of ledger → CountedLedger s ledger n
-  known judged holds counted =
-      record { valid = record { permitted = g.ready.ok; size = g.whole; rules = not-true _ (sym judged ∙ holds) }; count = counted }
+-- the ledger is within its rules, and has n records of a size
+module _ {s : Settings} {table work ledger : List ℕ} (g : Saving s table work ledger) (valid : ledger_invalid (card s) ledger ≡ false) {n size : ℕ}
+    (count : n ≡ count_of ledger) (sized : size ≡ record_size (card s)) where
+  few : n ≤ s.capacity
+  few = omega (arith, many (card s) ledger g.whole valid count sized, capacity_is (paper s))
 
-  most : {n : ℕ} → CountedLedger s ledger n → n ≤ 4096
-  most k = omega (arith, many k, capacity_is (paper s), (ranges (paper s) g.ready.ok).capacity_high)
+  few_sized : size * n ≤ 167936
+  few_sized = few_bytes (paper s) g.ready.ok size n sized few
+
+  few_kept : n ≤ 4096
+  few_kept = omega (arith, few, (ranges (paper s) g.ready.ok).capacity_high)
+
+  abbrev list : List ℕ
+  list = take (2 + size * n - 2) (drop 2 ledger)
+
+  full : length list ≡ n * ((card s).width + 4)
+  full = list_full (card s) ledger g.whole valid count sized
 
 pub returns-then-not-valid : goal.returns-then-not-valid
-returns-then-not-valid c = saves_4 c.requires _ (not-false _ (sym c.valid.ensures ∙ c.if-not-valid.true))
+returns-then-not-valid c = saves_4 c.requires c.args.target.now (negated_false c.valid.result _ c.valid.ensures c.if-not-valid.true)
 
 pub count_at-count-requires : goal.count_at-count-requires
 count_at-count-requires c = has_count (card c.args.s) c.args.ledger.now c.requires.whole
 
-pub slice_bounds-place_area-count : goal.slice_bounds-place_area-count
-slice_bounds-place_area-count c = has_count (card c.args.s) c.args.ledger.now c.requires.whole
+pub overflow_mul-list : goal.overflow_mul-list
+overflow_mul-list c =
+    let valid = negated_true c.valid.result (ledger_invalid (card c.args.s) c.args.ledger.now) c.valid.ensures c.if-not-valid.false in
+    omega (arith, few_sized c.requires valid c.count_at-count.ensures.0 c.record_size.ensures)
 
-pub slice_bounds-place_area-start : goal.slice_bounds-place_area-start
-slice_bounds-place_area-start c = has_count (card c.args.s) c.args.ledger.now c.requires.whole
+pub overflow_add-list : goal.overflow_add-list
+overflow_add-list c =
+    let valid = negated_true c.valid.result (ledger_invalid (card c.args.s) c.args.ledger.now) c.valid.ensures c.if-not-valid.false in
+    omega (arith, few_sized c.requires valid c.count_at-count.ensures.0 c.record_size.ensures)
 
-pub place_area-need-requires : goal.place_area-need-requires
-place_area-need-requires c =
-    let pre = c.requires in
-    let k = known pre c.valid.ensures c.if-not-valid.false c.count_at-count.ensures.0 in
+pub slice_bounds-list-end : goal.slice_bounds-list-end
+slice_bounds-list-end c =
+    let valid = negated_true c.valid.result (ledger_invalid (card c.args.s) c.args.ledger.now) c.valid.ensures c.if-not-valid.false in
+    list_within (card c.args.s) c.args.ledger.now c.requires.whole valid c.count_at-count.ensures.0 c.record_size.ensures
+
+pub place_list-placement-requires : goal.place_list-placement-requires
+place_list-placement-requires c =
+    let valid = negated_true c.valid.result (ledger_invalid (card c.args.s) c.args.ledger.now) c.valid.ensures c.if-not-valid.false in
+    let few = few_kept c.requires valid c.count_at-count.ensures.0 c.record_size.ensures in
     record {
-      ready = pre.ready;
-      buckets = c.buckets-m.ensures;
-      halves = omega (arith, pre.words, c.buckets-m.ensures, work_length_is (paper c.args.s));
-      choices = omega (arith, most pre k);
-      room = lent_fits k;
-      few = most pre k;
+      ready = c.requires.ready;
+      full = full c.requires valid c.count_at-count.ensures.0 c.record_size.ensures;
+      words = c.requires.words;
+      choices = omega (arith, few);
+      few = few;
     }
 
+pub side_need-need-requires-clause-within : goal.side_need-need-requires-clause-within
+side_need-need-requires-clause-within c = placed_within c.place_list-placement.ensures (sound (paper c.args.s) c.requires.ready.ok)
+
+-- the records of the ledger are placed, so the side need is theirs
 pub returns-then-s-need : goal.returns-then-s-need
 returns-then-s-need c =
-    let t = paper c.args.s in
-    let k = known c.requires c.valid.ensures c.if-not-valid.false c.count_at-count.ensures.0 in
-    let need = c.place_area-need.ensures.0 ∙ ap (side_need_of (card c.args.s)) (lent_list k) in
-    saves_9 c.requires _ k need (omega (arith, c.if-s-need.true, side_places_are t))
-
-pub overflow_mul-record_size : goal.overflow_mul-record_size
-overflow_mul-record_size c =
-    let t = paper c.args.s in
-    let k = known c.requires c.valid.ensures c.if-not-valid.false c.count_at-count.ensures.0 in
-    omega (arith, end_within k c.record_size.ensures, c.requires.whole, (bounds t c.requires.ready.ok).ledger_most)
+    let valid = negated_true c.valid.result (ledger_invalid (card c.args.s) c.args.ledger.now) c.valid.ensures c.if-not-valid.false in
+    let is = list_is (card c.args.s) c.args.ledger.now c.requires.whole valid c.count_at-count.ensures.0 c.record_size.ensures in
+    let need = c.side_need-need.ensures _ c.place_list-placement.ensures ∙ ap (side_need_of (card c.args.s)) is in
+    saves_9 c.requires c.args.target.now valid need (omega (arith, c.if-s-need.true, side_places_are (paper c.args.s)))
 
 pub overflow_add-saved_head_size : goal.overflow_add-saved_head_size
 overflow_add-saved_head_size c =
-    let t = paper c.args.s in
-    let k = known c.requires c.valid.ensures c.if-not-valid.false c.count_at-count.ensures.0 in
-    omega (
-      arith,
-      end_within k c.record_size.ensures,
-      c.requires.whole,
-      (bounds t c.requires.ready.ok).ledger_most,
-      c.saved_head_size.ensures,
-      first_count_most t,
-    )
+    let valid = negated_true c.valid.result (ledger_invalid (card c.args.s) c.args.ledger.now) c.valid.ensures c.if-not-valid.false in
+    omega (arith, few_sized c.requires valid c.count_at-count.ensures.0 c.record_size.ensures, c.saved_head_size.ensures, first_count_most (paper c.args.s), full c.requires valid c.count_at-count.ensures.0 c.record_size.ensures)
 
 pub returns-then-target-saved_head_size : goal.returns-then-target-saved_head_size
 returns-then-target-saved_head_size c =
-    let k = known c.requires c.valid.ensures c.if-not-valid.false c.count_at-count.ensures.0 in
-    let need = c.place_area-need.ensures.0 ∙ ap (side_need_of (card c.args.s)) (lent_list k) in
-    saves_12 c.requires _ k need (omega (arith, c.if-s-need.false, side_places_are (paper c.args.s))) c.saved_head_size.ensures
-    c.record_size.ensures c.if-target-saved_head_size.true
+    let valid = negated_true c.valid.result (ledger_invalid (card c.args.s) c.args.ledger.now) c.valid.ensures c.if-not-valid.false in
+    let is = list_is (card c.args.s) c.args.ledger.now c.requires.whole valid c.count_at-count.ensures.0 c.record_size.ensures in
+    let need = c.side_need-need.ensures _ c.place_list-placement.ensures ∙ ap (side_need_of (card c.args.s)) is in
+    saves_12 c.requires c.args.target.now valid need (omega (arith, c.if-s-need.false, side_places_are (paper c.args.s))) c.saved_head_size.ensures
+    (c.count_at-count.ensures.0 ∙ sym (listed (card c.args.s) c.args.ledger.now c.requires.whole valid))
+    (full c.requires valid c.count_at-count.ensures.0 c.record_size.ensures) c.if-target-saved_head_size.true
+
+pub write_snapshot-requires : goal.write_snapshot-requires
+write_snapshot-requires c =
+    let valid = negated_true c.valid.result (ledger_invalid (card c.args.s) c.args.ledger.now) c.valid.ensures c.if-not-valid.false in
+    record {
+      ok = c.requires.ready.ok;
+      full = full c.requires valid c.count_at-count.ensures.0 c.record_size.ensures;
+      long = c.if-target-saved_head_size.false ∙ ap (λ (z : ℕ). z + length (list c.requires valid c.count_at-count.ensures.0 c.record_size.ensures)) c.saved_head_size.ensures;
+      few = many (card c.args.s) c.args.ledger.now c.requires.whole valid c.count_at-count.ensures.0 c.record_size.ensures;
+    }
 
 pub returns : goal.returns
 returns c =
-    let k = known c.requires c.valid.ensures c.if-not-valid.false c.count_at-count.ensures.0 in
-    let need = c.place_area-need.ensures.0 ∙ ap (side_need_of (card c.args.s)) (lent_list k) in
-    saves_0 c.requires _ k need (omega (arith, c.if-s-need.false, side_places_are (paper c.args.s))) c.saved_head_size.ensures
-    c.record_size.ensures c.if-target-saved_head_size.false c.write_snapshot.ensures
+    let valid = negated_true c.valid.result (ledger_invalid (card c.args.s) c.args.ledger.now) c.valid.ensures c.if-not-valid.false in
+    let is = list_is (card c.args.s) c.args.ledger.now c.requires.whole valid c.count_at-count.ensures.0 c.record_size.ensures in
+    let need = c.side_need-need.ensures _ c.place_list-placement.ensures ∙ ap (side_need_of (card c.args.s)) is in
+    saves_0 c.requires c.args.target.now valid need (omega (arith, c.if-s-need.false, side_places_are (paper c.args.s))) c.saved_head_size.ensures
+    (c.count_at-count.ensures.0 ∙ sym (listed (card c.args.s) c.args.ledger.now c.requires.whole valid))
+    (full c.requires valid c.count_at-count.ensures.0 c.record_size.ensures) c.if-target-saved_head_size.false
+    (c.write_snapshot.ensures ∙ ap (snapshot (paper c.args.s)) is)
