@@ -1,4 +1,2 @@
-mod AreaLaws
 mod DoorLaws
 mod ReadingLaws
-pub mod SnapshotDoorLaws

@@ -1,5 +1,5 @@
 -- What the doors of search and tally answer on every input.
-use Rattle.std.specs.Prelude.{◌≡◌, true, cond, List, [], ◌∷◌, ℕ, ◌<◌, ◌^◌, eqb, length, get_or}
+use Rattle.std.specs.Prelude.{◌≡◌, Bool, true, cond, ◌&&◌, List, [], ◌∷◌, ℕ, ◌<◌, ◌^◌, eqb, length, get_or}
 use Rattle.theory.specs.Lists.{has}
 use Rattle.theory.specs.Settings.{Settings, card_of}
 use Rattle.theory.specs.Lookup.{Answer, bare, accepted, RecordPlace, record_place, driver_number}
@@ -24,6 +24,13 @@ given_with x numbers area =
     cond (eqb x.number 1) (refused (driver_number x) area)
     (unless (eqb (length area) (length numbers)) (refused (driver_number (bare 2)) area)
     (unless (accepted x.number) (refused (driver_number x) area) (record { number = driver_number x; area = numbers })))
+
+-- the same by whether that area is of so many: the answer that is told, and whether the numbers are written
+abbrev pub told_of : Answer → Bool → Answer
+told_of x right = cond (eqb x.number 1) x (unless right (bare 2) x)
+
+abbrev pub is_given : Answer → Bool → Bool
+is_given x right = right && accepted x.number
 
 -- the place of its record, which is 0 and 0 for an absent flow
 abbrev pub place_given : Answer → RecordPlace → List ℕ → Filled

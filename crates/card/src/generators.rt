@@ -11,7 +11,5 @@ pub extern "C" fn flow_generator_next(generator: &mut Generator) -> u64
     ensures { (result ≡ next_number (generator_of generator.old))
         × (generator_of generator.new ≡ stepped (generator_of generator.old)) }
 {
-    let advanced = bench_load::advance(*generator);
-    *generator = advanced.generator;
-    advanced.number
+    generator.next_number()
 }

@@ -1,16 +1,21 @@
 // The doors that only read: search and tally.
-ghost use Rattle.std.specs.Prelude.{◌≡◌, not, [], ◌∷◌, ◌≤◌, length};
+ghost use Rattle.std.specs.Prelude.{◌≡◌, cond, not, [], ◌∷◌, ◌≤◌, eqb, length};
 ghost use Rattle.theory.specs.Lookup.{accepted, driver_number};
 ghost use Rattle.theory.specs.Settings.{settings_of};
+ghost use Rattle.theory.specs.Window.{three_counts};
+ghost use Rattle.memory.specs.Refusals as refusals;
+ghost use Rattle.settings.specs.Checked.{given_of};
 ghost use Rattle.lookup.specs.Answers.{search_of, search_with, answer_of};
 ghost use Rattle.lookup.specs.Bursts.{Burst, burst_of};
 ghost use Rattle.lookup.specs.Locating.{lies_at};
 ghost use Rattle.card.specs.Doors.{Filled};
-ghost use Rattle.card.specs.Reading.{place_given, search_place_of, counts_given, search_counts_of, search_counts_with, tally_of};
+ghost use Rattle.card.specs.Reading.{told_of, is_given, search_place_of, search_counts_of, search_counts_with, tally_of};
 
-use lookup::locating::Located;
-use lookup::searching::{Answer, bare, driver_number};
-use settings::Given;
+use lookup::locating::{Area, Located, RecordPlace};
+use lookup::searching::{Answer, driver_number, refused};
+use memory::refusals::{Refusal, answer_number};
+use settings::areas::LookupAreas;
+use settings::{Given, Settings};
 use tally::Totals;
 
 // The forwarding driver's search, whole by itself.
@@ -40,7 +45,12 @@ pub extern "C" fn flow_search(
         side_places,
         width,
     };
-    lookup::bursts::search_number(given, clipped, buckets, side, key)
+    let areas = LookupAreas {
+        clipped,
+        buckets,
+        side,
+    };
+    lookup::searching::search_number(given, areas, key)
 }
 
 // The same with a table that the driver keeps: one read of it a byte.
@@ -72,7 +82,12 @@ pub extern "C" fn flow_search_lent(
         side_places,
         width,
     };
-    driver_number(lookup::searching::search_with_table(table, given, clipped, buckets, side, key))
+    let areas = LookupAreas {
+        clipped,
+        buckets,
+        side,
+    };
+    driver_number(lookup::searching::search_with_table(table, given, areas, key))
 }
 
 // Many keys at once, with a table that the driver keeps: 1; 2; 3 if `keys` is not of as many keys as there are answers; else each answer is
@@ -106,37 +121,67 @@ pub extern "C" fn flow_search_burst(
         side_places,
         width,
     };
-    lookup::bursts::search_burst(table, given, clipped, buckets, side, keys, answers)
+    let areas = LookupAreas {
+        clipped,
+        buckets,
+        side,
+    };
+    answer_number(lookup::bursts::search_burst(table, given, areas, keys, answers))
 }
 
 // A search is refused by a number between 0 and 100: one test, where a test for each of these two would be two branches.
-fn refused(number: u32) -> bool
+fn is_refusal(number: u32) -> bool
     requires { number ≤ 100 }
     ensures { result ≡ not (accepted number) }
 {
     (0 < number) & (number < 100)
 }
 
-// The number of an answer, and its record's place in a lent area of 2 numbers.
-fn give_place(found: Located, place: &mut [u64]) -> u64
-    requires { found.answer.number ≤ 100 }
-    ensures { ◌≡◌ {A = Filled} (record { number = result; area = place.new })
-        (place_given (answer_of found.answer) (lies_at found) place.old) }
+// The number of an answer, and other numbers of it in a lent area: 1; 2 also when that area is not of so many; then the search's own refusal.
+fn give<T: Copy>(answer: Answer, numbers: &[T], area: &mut [T]) -> u64
+    requires { answer.number ≤ 100 }
+    ensures told { result ≡ driver_number (told_of (answer_of answer) (eqb (length area.old) (length numbers.now))) }
+    ensures given { area.new
+        ≡ cond (is_given (answer_of answer) (eqb (length area.old) (length numbers.now))) numbers.now area.old }
 {
-    let answer = found.answer;
     let number = answer.number;
-    if number == 1 {
+    if number == Refusal::SettingOutOfRange.number() {
         return driver_number(answer);
     }
-    if place.len() != 2 {
-        return driver_number(bare(2));
+    if area.len() != numbers.len() {
+        return driver_number(refused(Refusal::WrongAreaLength));
     }
-    if refused(number) {
-        return driver_number(answer);
+    if !is_refusal(number) {
+        area.copy_from_slice(numbers);
     }
-    place[0] = found.area;
-    place[1] = found.start;
     driver_number(answer)
+}
+
+// Where a record lies, as C has it: area 1 is the buckets, 2 the side store, then the byte of it where the record starts; 0 and 0 for no record.
+fn place_of(found: Located) -> [u64; 2]
+    ensures { result ≡ (lies_at found).area ∷ (lies_at found).start ∷ [] }
+{
+    match found.place {
+        None => [0, 0],
+        Some(RecordPlace { area, start }) => {
+            let area_number = match area {
+                Area::Buckets => 1,
+                Area::Side => 2,
+            };
+            [area_number, start as u64]
+        }
+    }
+}
+
+// Buckets read, records compared, and 1 where the side store was compared.
+fn counts_of(answer: Answer) -> [u32; 3]
+    ensures { result ≡ three_counts (answer_of answer) }
+{
+    [
+        answer.buckets_read,
+        answer.records_compared,
+        answer.side_compared,
+    ]
 }
 
 // Search, with the place of the record: 1; 2, also if `place` is not of 2 numbers; 3; 5; else `place` holds the area, 1 for the buckets, 2 for the side store,
@@ -169,30 +214,13 @@ pub extern "C" fn flow_search_place(
         side_places,
         width,
     };
-    let found = lookup::locating::locate(given, clipped, buckets, side, key);
-    give_place(found, place)
-}
-
-// The number of an answer, and its counts in a lent area of 3 numbers.
-fn give_counts(answer: Answer, counts: &mut [u32]) -> u64
-    requires { answer.number ≤ 100 }
-    ensures { ◌≡◌ {A = Filled} (record { number = result; area = counts.new })
-        (counts_given (answer_of answer) counts.old) }
-{
-    let number = answer.number;
-    if number == 1 {
-        return driver_number(answer);
-    }
-    if counts.len() != 3 {
-        return driver_number(bare(2));
-    }
-    if refused(number) {
-        return driver_number(answer);
-    }
-    counts[0] = answer.buckets_read;
-    counts[1] = answer.records_compared;
-    counts[2] = answer.side_compared;
-    driver_number(answer)
+    let areas = LookupAreas {
+        clipped,
+        buckets,
+        side,
+    };
+    let found = lookup::locating::locate(given, areas, key);
+    give(found.answer, &place_of(found), place)
 }
 
 // Search, with its counts: 1; 2, also if `counts` is not of 3 numbers; 3; 5; else `counts` holds buckets read, records compared, and 1 where the side store
@@ -225,8 +253,13 @@ pub extern "C" fn flow_search_counts(
         side_places,
         width,
     };
-    let found = lookup::locating::locate(given, clipped, buckets, side, key);
-    give_counts(found.answer, counts)
+    let areas = LookupAreas {
+        clipped,
+        buckets,
+        side,
+    };
+    let answer = lookup::locating::locate(given, areas, key).answer;
+    give(answer, &counts_of(answer), counts)
 }
 
 // The same with a table that the driver keeps.
@@ -259,19 +292,13 @@ pub extern "C" fn flow_search_counts_lent(
         side_places,
         width,
     };
-    let found = lookup::counting::search_counted(table, given, clipped, buckets, side, key);
-    give_counts(found, counts)
-}
-
-// Records in buckets, records in the side store, buckets marked 255, fill.
-fn write_totals(x: Totals, totals: &mut [u32])
-    requires { length totals.old ≡ 4 }
-    ensures { totals.new ≡ x.in_buckets ∷ x.in_side ∷ x.marked_255 ∷ x.fill ∷ [] }
-{
-    totals[0] = x.in_buckets;
-    totals[1] = x.in_side;
-    totals[2] = x.marked_255;
-    totals[3] = x.fill;
+    let areas = LookupAreas {
+        clipped,
+        buckets,
+        side,
+    };
+    let answer = lookup::searching::search_with_table(table, given, areas, key);
+    give(answer, &counts_of(answer), counts)
 }
 
 // Tally: 1; 2; 4; 5; else its four numbers.
@@ -303,17 +330,35 @@ pub extern "C" fn flow_tally(
         side_places,
         width,
     };
-    let x = tally::tally(given, ledger, clipped, buckets, side);
-    let number = x.number;
-    if number == 1 {
-        return 1;
-    }
+    let areas = LookupAreas {
+        clipped,
+        buckets,
+        side,
+    };
+    answer_number(give_totals(given, ledger, areas, totals))
+}
+
+// Records in buckets, records in the side store, buckets marked 255, fill.
+#[tactic(auto, using(crate::proofs::ReadingLaws::tally_refusals))]
+fn give_totals(
+    given: Given,
+    ledger: &[u8],
+    areas: LookupAreas<'_>,
+    totals: &mut [u32],
+) -> Result<(), Refusal>
+    ensures { ◌≡◌ {A = Filled} (record { number = refusals.answer_of result; area = totals.new })
+        (tally_of (given_of given) ledger.now areas.entry.clipped.now areas.entry.buckets.now areas.entry.side.now totals.old) }
+{
+    Settings::new(given)?;
     if totals.len() != 4 {
-        return 2;
+        return Err(Refusal::WrongAreaLength);
     }
-    if number != 0 {
-        return number;
-    }
-    write_totals(x, totals);
-    0
+    let Totals {
+        in_buckets,
+        in_side,
+        marked_255,
+        fill,
+    } = tally::tally(given, ledger, areas)?;
+    totals.copy_from_slice(&[in_buckets, in_side, marked_255, fill]);
+    Ok(())
 }

@@ -5,8 +5,11 @@ ghost use Rattle.theory.specs.Calls.{perform};
 ghost use Rattle.theory.specs.CallAreas.{entry_areas, exit_areas, replied};
 ghost use Rattle.theory.specs.Settings.{settings_of};
 
+use memory::refusals::answer_number;
 use settings::Given;
+use settings::areas::Areas;
 use update::editing::Edit;
+use update::{clear, update};
 
 // "Clear lays out the empty list, on areas with any contents."
 #[unsafe(no_mangle)]
@@ -37,7 +40,14 @@ pub extern "C" fn flow_clear(
         side_places,
         width,
     };
-    update::clear(given, ledger, true_counts, clipped, buckets, side)
+    let mut areas = Areas {
+        ledger,
+        true_counts,
+        clipped,
+        buckets,
+        side,
+    };
+    answer_number(clear(given, &mut areas))
 }
 
 // Adds a flow: 1, 2, 3, 4, 6, 8, 9; else the layout of the list with the record put in at its key's place.
@@ -72,18 +82,14 @@ pub extern "C" fn flow_add(
         side_places,
         width,
     };
-    update::update(
-        Edit::Insert,
-        given,
+    let mut areas = Areas {
         ledger,
         true_counts,
         clipped,
         buckets,
         side,
-        work,
-        key,
-        class,
-    )
+    };
+    answer_number(update(Edit::Insert, given, &mut areas, work, key, class))
 }
 
 // Gives a held flow a new class: 1, 2, 3, 4, 7, 9; else the layout of the list with that class.
@@ -118,18 +124,14 @@ pub extern "C" fn flow_change(
         side_places,
         width,
     };
-    update::update(
-        Edit::Replace,
-        given,
+    let mut areas = Areas {
         ledger,
         true_counts,
         clipped,
         buckets,
         side,
-        work,
-        key,
-        class,
-    )
+    };
+    answer_number(update(Edit::Replace, given, &mut areas, work, key, class))
 }
 
 // Takes a held flow out: 1, 2, 3, 4, 7, 9; else the layout of the list without it.
@@ -163,16 +165,12 @@ pub extern "C" fn flow_remove(
         side_places,
         width,
     };
-    update::update(
-        Edit::Remove,
-        given,
+    let mut areas = Areas {
         ledger,
         true_counts,
         clipped,
         buckets,
         side,
-        work,
-        key,
-        0,
-    )
+    };
+    answer_number(update(Edit::Remove, given, &mut areas, work, key, 0))
 }

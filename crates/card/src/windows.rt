@@ -2,12 +2,14 @@
 ghost use Rattle.std.specs.Prelude.{◌≡◌};
 ghost use Rattle.window.specs.Windows.{Written, clear_of, enter_of, remove_of, counts_of};
 
+use memory::refusals::answer_number;
+
 // The window holds no entry.
 #[unsafe(no_mangle)]
 pub extern "C" fn flow_window_clear(window: &mut [u16]) -> u32
     ensures { ◌≡◌ {A = Written} (record { number = result; area = window.new }) (clear_of window.old) }
 {
-    window::clear(window)
+    answer_number(window::clear(window))
 }
 
 // A search enters by the number and the three counts that its door gave.
@@ -16,7 +18,7 @@ pub extern "C" fn flow_window_enter(window: &mut [u16], found: u64, counts: &[u3
     ensures { ◌≡◌ {A = Written} (record { number = result; area = window.new })
         (enter_of window.old found counts.now) }
 {
-    window::enter(window, found, counts)
+    answer_number(window::enter(window, found, counts))
 }
 
 // The oldest entry is removed.
@@ -24,7 +26,7 @@ pub extern "C" fn flow_window_enter(window: &mut [u16], found: u64, counts: &[u3
 pub extern "C" fn flow_window_remove(window: &mut [u16]) -> u32
     ensures { ◌≡◌ {A = Written} (record { number = result; area = window.new }) (remove_of window.old) }
 {
-    window::remove(window)
+    answer_number(window::remove(window))
 }
 
 // Held answers, searches that compared the side store, greatest records compared.
@@ -33,5 +35,5 @@ pub extern "C" fn flow_window_counts(window: &[u16], counts: &mut [u32]) -> u32
     ensures { ◌≡◌ {A = Written} (record { number = result; area = counts.new })
         (counts_of window.now counts.old) }
 {
-    window::counts(window, counts)
+    answer_number(window::counts(window, counts))
 }
