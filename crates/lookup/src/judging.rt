@@ -9,6 +9,7 @@ use settings::areas::LookupAreas;
 use settings::{Given, Settings};
 
 // 1, a setting out of range; 2, the length of an area.
+#[inline(always)]
 fn judge_areas(given: Given, areas: LookupAreas<'_>) -> Result<Settings, Refusal>
     ensures { result ≡ of_areas (judged_areas (given_of given)) areas.entry }
 {
@@ -20,6 +21,7 @@ fn judge_areas(given: Given, areas: LookupAreas<'_>) -> Result<Settings, Refusal
 }
 
 // Then 3, a key not of the card's width.
+#[inline(always)]
 pub fn judge(given: Given, areas: LookupAreas<'_>, key: &[u8]) -> Result<Settings, Refusal>
     ensures { result ≡ at_entry (judged_of (given_of given)) areas key }
 {
@@ -32,6 +34,7 @@ pub fn judge(given: Given, areas: LookupAreas<'_>, key: &[u8]) -> Result<Setting
 
 // The same with a lent table of the hash, whose length is judged with the areas': after them, so that one question for the width serves the table's length, the
 // key's and the hash that follows.
+#[inline(always)]
 pub fn judge_with_table(
     table: &[u64],
     given: Given,

@@ -7,6 +7,7 @@ use memory::records::key_at;
 use settings::Settings;
 
 // Which of the first n records of a place has the key; no other is compared after it.
+#[inline(always)]
 pub fn scan(place: &[u8], n: usize, key: &[u8]) -> Option<usize>
     requires { Scannable place.now n key.now }
     ensures { IsPlaceOf key.now n place.now result }

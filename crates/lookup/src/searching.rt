@@ -67,7 +67,8 @@ pub fn driver_number(a: Answer) -> u64
     u64::from(a.number) * 4294967296 + u64::from(a.class)
 }
 
-// The answer of a scan of some records.
+// The answer of a scan of some records. Like what else a search is made of, it is one piece with each door: a call costs a door some instructions in a hundred.
+#[inline(always)]
 fn compare(place: &[u8], n: usize, key: &[u8], read: u32, side: u32) -> Answer
     requires { Scannable place.now n key.now × (n ≤ 4096) }
     ensures { answer_of result ≡ compared place.now n key.now read side }
@@ -93,6 +94,7 @@ fn compare(place: &[u8], n: usize, key: &[u8], read: u32, side: u32) -> Answer
 }
 
 // The answer of a scan of all places of a bucket, with no branch on what was found: a class is read anyway, and kept or not.
+#[inline(always)]
 fn compare_all(place: &[u8], n: usize, room: usize, key: &[u8], read: u32, side: u32) -> Answer
     requires { AllScannable place.now n room key.now }
     ensures { answer_of result ≡ compared place.now n key.now read side }
@@ -128,7 +130,8 @@ fn compare_bucket(s: Settings, buckets: &[u8], from: usize, n: usize, key: &[u8]
     }
 }
 
-// The records of the side store, which start after its count.
+// The records of the side store, which start after its count. Few searches come here, so that it is no part of their piece.
+#[inline(never)]
 fn compare_side(s: Settings, side: &[u8], n: usize, read: u32, key: &[u8]) -> Answer
     requires { InSide (paper s) side.now key.now n }
     ensures { answer_of result ≡ plain.answer_at (card s) key.now (plain.among (drop 2 side.now) n read 1) }
