@@ -8,7 +8,7 @@ use Prim.Native.Nat.{ℕ, ◌+◌, ◌*◌, ◌/◌, ◌%◌, ◌≤◌}
 use native.Mathlib.Omega.{arith}
 use lib.Dec.{eqb}
 use lib.ListN.{length, take}
-use lib.Seq.{length-take-le}
+use lib.Seq.{take_all, length-take-le}
 use Rattle.theory.specs.Lists.{has, least}
 use Rattle.theory.specs.Hash.{H, numbers_of, hashes}
 use Rattle.theory.specs.Settings as plain
@@ -102,6 +102,11 @@ ready s ok {w} wide n_is {t} made =
       right = rw (n_is, ← wide) made.right;
       long = rw (n_is, ← wide, length-take-le (made_length w) t made.within) made.long;
     }
+
+pub made_ready : (s : Settings) → allowed (paper s) ≡ true → {w : ℕ} → w ≡ (card s).width → {t : List ℕ} → length t ≡ made_length w → MadeFor w t
+    → Ready s t
+made_ready s ok wide {t} long made =
+    let all : take (length t) t ≡ t = take_all (length t) t (omega arith) in rw all at (ready s ok wide long made)
 
 -- ---- and so are the constant tables, each at its width
 module _ (s : Settings) (ok : allowed (paper s) ≡ true) {t : List ℕ} where

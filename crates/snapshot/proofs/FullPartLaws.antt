@@ -1,6 +1,6 @@
 -- Laws of a list whose n records fill a part: its bytes, the records of a ledger as such a part, and its placement.
 use mathlib.Core.Path.{◌≡◌, ◌∙◌}
-use mathlib.Core.Bool.{true, false}
+use mathlib.Core.Bool.{false}
 use mathlib.Core.List.{List, [], append-nil}
 use Prim.Native.Nat.{ℕ, ◌+◌, ◌-◌, ◌*◌, ◌≤◌}
 use native.Mathlib.Nat.{zero-div, mul_comm}
@@ -8,18 +8,13 @@ use native.Mathlib.Omega.{arith}
 use lib.ListN.{length, take, drop}
 use lib.Seq.{take_all, length-take-le}
 use Rattle.theory.specs.Lists.{flat}
-use Rattle.theory.specs.Settings.{allowed, Card, record_size, ledger_length}
+use Rattle.theory.specs.Settings.{Card, record_size, ledger_length}
 use Rattle.theory.specs.Records.{count_of, entries, record_bytes, records}
 use Rattle.theory.specs.Calls.{ledger_records, ledger_invalid}
 use Rattle.theory.proofs.ListLaws.{All}
 use Rattle.theory.proofs.ByteLaws.{Byte, write_records}
 use Rattle.ledger.proofs.LedgerLaws.{room_for, records_room, records_are}
 use Rattle.ledger.proofs.LedgerEditLaws.{few}
-use Rattle.settings.specs.declared.Settings.{Settings}
-use Rattle.settings.specs.Checked.{paper, card}
-use Rattle.hash.specs.Made.{made_length, MadeFor}
-use Rattle.placing.specs.Ready.{Ready}
-use Rattle.placing.proofs.ReadyLaws.{ready}
 use Rattle.placing.specs.Worked.{held, parts}
 use Rattle.placing.proofs.PartLaws.{held_front, front_records}
 
@@ -60,8 +55,3 @@ module _ (c : Card) (a : List ℕ) (whole : length a ≡ ledger_length c) (valid
 
   pub list_is : records c.width n (take (2 + size * n - 2) (drop 2 a)) ≡ ledger_records c a
   list_is = rw list_bytes (front_records c.width n (drop 2 a) (records_room c a whole n many)) ∙ records_are c a n count
-
--- ---- the table that a call makes, for keys of its settings' width
-pub made_ready : (s : Settings) → allowed (paper s) ≡ true → {w : ℕ} → w ≡ (card s).width → {t : List ℕ} → length t ≡ made_length w → MadeFor w t → Ready s t
-made_ready s ok wide {t} long made =
-    let all : take (length t) t ≡ t = take_all (length t) t (omega arith) in rw all at (ready s ok wide long made)

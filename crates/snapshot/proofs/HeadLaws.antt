@@ -60,7 +60,8 @@ module _ (t : plain.Settings) (n : ℕ) (xs : List ℕ) {first second : ℕ} (kn
   pub settings_small : allowed t ≡ true → (k d : ℕ) → k < length (take first (settings_list t)) → get_or (take first (settings_list t)) k d < 65536
   settings_small ok k d h =
       let r = ranges t ok in
-      let all : All (λ n. n < 65536) (settings_list t) = (omega arith, (omega arith, (omega arith, (omega arith, (omega arith, (omega arith, (omega arith, tt)))))))
+      let all : All (λ n. n < 65536) (settings_list t) =
+      (omega arith, (omega arith, (omega arith, (omega arith, (omega arith, (omega arith, (omega arith, tt)))))))
       in
       all_at (λ n. n < 65536) (take first (settings_list t)) k d h (all_take (λ n. n < 65536) first (settings_list t) all)
 
@@ -84,7 +85,14 @@ module _ (t : plain.Settings) (n : ℕ) (xs : List ℕ) {first second : ℕ} (kn
         let two = length_to_bytes 2 first in
         let rest : 2 + (second - 2) ≡ second = omega arith in
         joined
-        ∙ rw (counted, take_at (to_bytes 2 first) (drop 2 xs) 2 two, drop_at (to_bytes 2 first) (drop 2 xs) 2 two, drop-drop (second - 2) 2 xs, rest, append_assoc)
+        ∙ rw (
+          counted,
+          take_at (to_bytes 2 first) (drop 2 xs) 2 two,
+          drop_at (to_bytes 2 first) (drop 2 xs) 2 two,
+          drop-drop (second - 2) 2 xs,
+          rest,
+          append_assoc,
+        )
 
     pub second_within : second + 2 ≡ length y
     second_within = rw (y_is, length-append, front_long, length-drop) (omega (arith, full, place, known))

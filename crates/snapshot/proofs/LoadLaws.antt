@@ -29,7 +29,7 @@ use Rattle.placing.specs.declared.Placement.{Placement}
 use Rattle.placing.specs.Worked.{Placed}
 use Rattle.writing.proofs.LaidLedgerLaws.{LaidLedger}
 use Rattle.writing.proofs.JudgedLaws.{Tested, tested_is}
-use Rattle.writing.proofs.LentRecordLaws.{short_by}
+use Rattle.writing.proofs.LaidLedgerLaws.{short_by}
 use Rattle.snapshot.specs.declared.reading.Head.{Head}
 use Rattle.snapshot.specs.Files.{listed, by_file, Filling, Loading}
 use Rattle.snapshot.proofs.FullPartLaws.{full_bytes}

@@ -23,7 +23,7 @@ use Rattle.settings.specs.declared.Settings.{Settings}
 use Rattle.settings.specs.Checked.{paper, card}
 use Rattle.memory.proofs.SliceLaws.{back, tail_back}
 use Rattle.writing.proofs.JudgedLaws.{Permitted}
-use Rattle.writing.proofs.LentRecordLaws.{short_by}
+use Rattle.writing.proofs.LaidLedgerLaws.{short_by}
 use Rattle.snapshot.specs.Files.{Saving}
 use Rattle.snapshot.proofs.FullPartLaws.{full_bytes}
 

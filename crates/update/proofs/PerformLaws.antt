@@ -3,10 +3,7 @@ use mathlib.Core.Path.{◌≡◌, refl, sym, ◌∙◌}
 use mathlib.Core.Bool.{Bool, true, false, ◌&&◌}
 use mathlib.Core.List.{List, [], ◌∷◌}
 use Prim.Native.Nat.{ℕ}
-use native.Mathlib.Omega.{arith}
 use lib.Dec.{eqb}
-use lib.ListN.{length, take}
-use lib.Seq.{take_all}
 use Rattle.theory.specs.Lists.{all}
 use Rattle.theory.specs.Settings as plain
 use Rattle.theory.specs.Settings.{Card, card_of, allowed, work_length}
@@ -16,10 +13,7 @@ use Rattle.theory.specs.Ledger.{clear, Step, answered}
 use Rattle.theory.specs.Calls.{refused_reply, update, call, all_lengths, lent_lengths, perform}
 use Rattle.theory.specs.CallAreas.{replied}
 use Rattle.settings.specs.declared.Settings.{Settings}
-use Rattle.settings.specs.Checked.{paper, card}
-use Rattle.hash.specs.Made.{made_length, MadeFor}
-use Rattle.placing.specs.Ready.{Ready}
-use Rattle.placing.proofs.ReadyLaws.{ready}
+use Rattle.settings.specs.Checked.{card}
 use Rattle.writing.proofs.JudgedLaws.{Permitted, Tested, tested_is}
 use Rattle.update.specs.declared.editing.Edit.{Edit}
 use Rattle.update.specs.declared.editing.Edit.TheVariants.{Insert, Replace, Remove}
@@ -71,8 +65,3 @@ module _ {t : plain.Settings} {s : Settings} (p : Permitted t s) (a : Areas) {ri
   pub clears : right ≡ true → {b : Areas} → b ≡ layout (card s) [] → replied 0 b ≡ perform t 0 clear a
   unfolding perform lent_lengths call
   clears e f = rw (p.ok, all_right, e, f, p.same)
-
--- ---- the table that a call makes, for keys of its settings' width
-pub made_ready : (s : Settings) → allowed (paper s) ≡ true → {w : ℕ} → w ≡ (card s).width → {t : List ℕ} → length t ≡ made_length w → MadeFor w t → Ready s t
-made_ready s ok wide {t} long made =
-    let all : take (length t) t ≡ t = take_all (length t) t (omega arith) in rw all at (ready s ok wide long made)

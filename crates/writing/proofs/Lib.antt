@@ -4,6 +4,5 @@ pub mod CountLaws
 pub mod BucketLaws
 pub mod SideLaws
 pub mod EmptyLaws
-pub mod LentRecordLaws
 pub mod JudgedLaws
 pub mod LaidLedgerLaws

@@ -10,7 +10,8 @@ use Rattle.settings.specs.declared.Settings.{Settings}
 use Rattle.settings.specs.Checked.{given_of, paper, card}
 use Rattle.settings.proofs.Laws.{refused_arm, key_width}
 use Rattle.writing.proofs.JudgedLaws.{Permitted, permitted, permits, Tested, words_right, areas_right}
-use Rattle.update.proofs.PerformLaws.{made_ready, performs_1, performs_2, performs_on}
+use Rattle.placing.proofs.ReadyLaws.{made_ready}
+use Rattle.update.proofs.PerformLaws.{performs_1, performs_2, performs_on}
 use Rattle.update.proofs.update.Goals as goal
 
 -- the lengths are tested, on settings that are allowed

@@ -5,7 +5,7 @@ use Rattle.theory.proofs.SettingsLaws.{ranges}
 use Rattle.settings.specs.Checked.{paper, card}
 use Rattle.settings.proofs.Laws.{top_is, true_length_is, clipped_length_is}
 use Rattle.writing.proofs.CountLaws.{true_counts_are, clipped_are}
-use Rattle.writing.proofs.LentRecordLaws.{areas_laid}
+use Rattle.writing.proofs.LaidLedgerLaws.{areas_laid}
 use Rattle.writing.proofs.write_areas.Goals as goal
 
 pub copy_from_slice-requires : goal.copy_from_slice-requires

@@ -11,7 +11,7 @@ use Rattle.settings.specs.declared.Settings.{Settings}
 use Rattle.settings.specs.Checked.{paper, card}
 use Rattle.settings.proofs.Laws.{refused_arm, key_width}
 use Rattle.writing.proofs.JudgedLaws.{Permitted, permitted, permits, Tested, words_right, areas_right}
-use Rattle.snapshot.proofs.FullPartLaws.{made_ready}
+use Rattle.placing.proofs.ReadyLaws.{made_ready}
 use Rattle.snapshot.proofs.LoadLaws.{loads_12, loads_1, loads_2}
 use Rattle.snapshot.proofs.loading.load.Goals as goal
 

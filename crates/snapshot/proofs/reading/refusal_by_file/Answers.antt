@@ -35,15 +35,21 @@ returns-then-file-size c =
 
 pub keys_rise-requires : goal.keys_rise-requires
 keys_rise-requires c =
-    let full = full {t = paper c.args.s} c.requires.head c.if-s-count.false c.if-settings-first_count.false c.first_count.ensures c.record_size.ensures c.if-file-size.false
+    let full =
+    full {t = paper c.args.s} c.requires.head c.if-s-count.false c.if-settings-first_count.false c.first_count.ensures c.record_size.ensures
+    c.if-file-size.false
     in rw c.width.ensures (lent_fits full)
 
 pub returns-then-not-keys_rise : goal.returns-then-not-keys_rise
 returns-then-not-keys_rise c =
-    let full = full {t = paper c.args.s} c.requires.head c.if-s-count.false c.if-settings-first_count.false c.first_count.ensures c.record_size.ensures c.if-file-size.false
+    let full =
+    full {t = paper c.args.s} c.requires.head c.if-s-count.false c.if-settings-first_count.false c.first_count.ensures c.record_size.ensures
+    c.if-file-size.false
     in file_13_0 full c.width.ensures c.if-not-keys_rise.ensures
 
 pub returns : goal.returns
 returns c =
-    let full = full {t = paper c.args.s} c.requires.head c.if-s-count.false c.if-settings-first_count.false c.first_count.ensures c.record_size.ensures c.if-file-size.false
+    let full =
+    full {t = paper c.args.s} c.requires.head c.if-s-count.false c.if-settings-first_count.false c.first_count.ensures c.record_size.ensures
+    c.if-file-size.false
     in file_13_0 full c.width.ensures c.if-not-keys_rise.ensures

@@ -8,7 +8,7 @@ use Rattle.theory.proofs.ListLaws.{and_left, and_right}
 use Rattle.settings.specs.Checked.{given_of, paper}
 use Rattle.settings.proofs.Laws.{refused_arm, key_width}
 use Rattle.writing.proofs.JudgedLaws.{permitted, permits}
-use Rattle.snapshot.proofs.FullPartLaws.{made_ready}
+use Rattle.placing.proofs.ReadyLaws.{made_ready}
 use Rattle.snapshot.proofs.SaveLaws.{saves_1, saves_2}
 use Rattle.snapshot.proofs.saving.save.Goals as goal
 

@@ -85,7 +85,10 @@ returns-then-s-need c =
 pub overflow_add-saved_head_size : goal.overflow_add-saved_head_size
 overflow_add-saved_head_size c =
     let valid = negated_true c.valid.result (ledger_invalid (card c.args.s) c.args.ledger.now) c.valid.ensures c.if-not-valid.false in
-    omega (arith, few_sized c.requires valid c.count_at-count.ensures.0 c.record_size.ensures, c.saved_head_size.ensures, first_count_most (paper c.args.s), full c.requires valid c.count_at-count.ensures.0 c.record_size.ensures)
+    let count = c.count_at-count.ensures.0 in
+    let small = few_sized c.requires valid count c.record_size.ensures in
+    let full = full c.requires valid count c.record_size.ensures in
+    omega (arith, small, full, c.saved_head_size.ensures, first_count_most (paper c.args.s))
 
 pub returns-then-target-saved_head_size : goal.returns-then-target-saved_head_size
 returns-then-target-saved_head_size c =
@@ -102,7 +105,9 @@ write_snapshot-requires c =
     record {
       ok = c.requires.ready.ok;
       full = full c.requires valid c.count_at-count.ensures.0 c.record_size.ensures;
-      long = c.if-target-saved_head_size.false ∙ ap (λ (z : ℕ). z + length (list c.requires valid c.count_at-count.ensures.0 c.record_size.ensures)) c.saved_head_size.ensures;
+      long =
+          c.if-target-saved_head_size.false
+          ∙ ap (λ (z : ℕ). z + length (list c.requires valid c.count_at-count.ensures.0 c.record_size.ensures)) c.saved_head_size.ensures;
       few = many (card c.args.s) c.args.ledger.now c.requires.whole valid c.count_at-count.ensures.0 c.record_size.ensures;
     }
 

@@ -19,39 +19,48 @@ around {s = s} p left brought size =
 
 pub overflow_mul-parts : goal.overflow_mul-parts
 overflow_mul-parts c =
-    let a = around c.requires c.counts-left_out.ensures.left_out c.counts-left_out.ensures.brought c.record_size-size.ensures in omega (arith, first_within a, last_within a)
+    let k = c.counts-left_out.ensures in
+    let a = around c.requires k.left_out k.brought c.record_size-size.ensures in omega (arith, first_within a, last_within a)
 
 pub overflow_add-parts : goal.overflow_add-parts
 overflow_add-parts c =
-    let a = around c.requires c.counts-left_out.ensures.left_out c.counts-left_out.ensures.brought c.record_size-size.ensures in omega (arith, first_within a, last_within a)
+    let k = c.counts-left_out.ensures in
+    let a = around c.requires k.left_out k.brought c.record_size-size.ensures in omega (arith, first_within a, last_within a)
 
 pub slice_bounds-parts-end : goal.slice_bounds-parts-end
 slice_bounds-parts-end c =
-    let a = around c.requires c.counts-left_out.ensures.left_out c.counts-left_out.ensures.brought c.record_size-size.ensures in omega (arith, first_within a, last_within a)
+    let k = c.counts-left_out.ensures in
+    let a = around c.requires k.left_out k.brought c.record_size-size.ensures in omega (arith, first_within a, last_within a)
 
 pub slice_bounds-parts-end-2 : goal.slice_bounds-parts-end-2
 slice_bounds-parts-end-2 c =
-    sym (length-take-le _ c.args.«record».now (mid_within (around c.requires c.counts-left_out.ensures.left_out c.counts-left_out.ensures.brought c.record_size-size.ensures)))
+    let k = c.counts-left_out.ensures in
+    sym (length-take-le _ c.args.«record».now (mid_within (around c.requires k.left_out k.brought c.record_size-size.ensures)))
 
 pub overflow_add-parts-2 : goal.overflow_add-parts-2
 overflow_add-parts-2 c =
-    let a = around c.requires c.counts-left_out.ensures.left_out c.counts-left_out.ensures.brought c.record_size-size.ensures in omega (arith, after_within a, last_within a)
+    let k = c.counts-left_out.ensures in
+    let a = around c.requires k.left_out k.brought c.record_size-size.ensures in omega (arith, after_within a, last_within a)
 
 pub overflow_mul-parts-4 : goal.overflow_mul-parts-4
 overflow_mul-parts-4 c =
-    let a = around c.requires c.counts-left_out.ensures.left_out c.counts-left_out.ensures.brought c.record_size-size.ensures in omega (arith, last_within a)
+    let k = c.counts-left_out.ensures in
+    let a = around c.requires k.left_out k.brought c.record_size-size.ensures in omega (arith, last_within a)
 
 pub overflow_add-parts-3 : goal.overflow_add-parts-3
 overflow_add-parts-3 c =
-    let a = around c.requires c.counts-left_out.ensures.left_out c.counts-left_out.ensures.brought c.record_size-size.ensures in omega (arith, last_within a)
+    let k = c.counts-left_out.ensures in
+    let a = around c.requires k.left_out k.brought c.record_size-size.ensures in omega (arith, last_within a)
 
 pub slice_bounds-parts-end-3 : goal.slice_bounds-parts-end-3
-slice_bounds-parts-end-3 c = last_within (around c.requires c.counts-left_out.ensures.left_out c.counts-left_out.ensures.brought c.record_size-size.ensures)
+slice_bounds-parts-end-3 c =
+    let k = c.counts-left_out.ensures in last_within (around c.requires k.left_out k.brought c.record_size-size.ensures)
 
 pub place_parts-requires : goal.place_parts-requires
 place_parts-requires c =
     let p = c.requires in
-    let a = around p c.counts-left_out.ensures.left_out c.counts-left_out.ensures.brought c.record_size-size.ensures in
+    let k = c.counts-left_out.ensures in
+    let a = around p k.left_out k.brought c.record_size-size.ensures in
     record {
       ready = p.ready;
       halves = omega (arith, p.words, work_length_is (paper c.args.s));
@@ -60,4 +69,6 @@ place_parts-requires c =
     }
 
 pub returns : goal.returns
-returns c = λ x f g. rw (new_list (around c.requires c.counts-left_out.ensures.left_out c.counts-left_out.ensures.brought c.record_size-size.ensures) x f g) at c.place_parts.ensures
+returns c =
+    let k = c.counts-left_out.ensures in
+    let a = around c.requires k.left_out k.brought c.record_size-size.ensures in λ x f g. rw (new_list a x f g) at c.place_parts.ensures
