@@ -1,123 +1,162 @@
--- Laws of a call on settings and areas that are judged already: what each kind gives is the call's, and what it asks is at hand; then `perform`'s.
+-- Laws of a call on settings and areas that are judged already: what each gives is the call's, and what it asks is at hand; then `perform`'s.
 use mathlib.Core.Path.{◌≡◌, refl, sym, ◌∙◌}
-use mathlib.Core.Bool.{true, false}
+use mathlib.Core.Bool.{Bool, true, false, cond, not}
 use mathlib.Core.List.{List, []}
 use Prim.Native.Nat.{ℕ}
 use lib.Dec.{eqb}
 use lib.ListN.{length}
+use lib.Seq.{take_all}
+use native.Mathlib.Omega.{arith}
 use borrow.Author.Tests.{eqb-true, eq-eqb}
+use Rattle.std.specs.Prelude.{Result, Ok, Err}
 use Rattle.theory.specs.Lists.{all}
 use Rattle.theory.specs.Settings as plain
-use Rattle.theory.specs.Settings.{Card, allowed, ledger_length, work_length}
+use Rattle.theory.specs.Settings.{Card, card_of, allowed, ledger_length, work_length}
 use Rattle.theory.specs.Layout.{Areas, layout}
-use Rattle.theory.specs.Lookup.{Answer, bare}
-use Rattle.theory.specs.Ledger as ledgers
-use Rattle.theory.specs.Ledger.{Call, Reply, Step, answered, totalled}
-use Rattle.theory.specs.Calls.{refused_reply, update, lookup_invalid, tally_areas, call, lookup_lengths, all_lengths, lent_lengths, perform}
+use Rattle.theory.specs.Lookup.{Answer}
+use Rattle.theory.specs.Ledger.{Call, clear, add, change, remove, search, fetch, tally, Reply, Totals, Step, answered, totalled}
+use Rattle.theory.specs.Calls.{refused_reply, stopped, update, tally_areas, call, lookup_lengths, lent_lengths, perform}
 use Rattle.theory.specs.CallAreas.{replied}
 use Rattle.theory.proofs.ListLaws.{and_left, and_right}
 use Rattle.theory.proofs.CallLaws.{Sized}
 use Rattle.theory.proofs.Demands.{lookup_lengths_right, all_lengths_right}
+use Rattle.memory.specs.Refusals.{number_of}
+use Rattle.memory.specs.declared.refusals.Refusal.{Refusal}
+use Rattle.memory.specs.declared.refusals.Refusal.TheVariants.{SettingOutOfRange, WrongAreaLength}
+use Rattle.hash.specs.Made.{made_length, MadeFor}
 use Rattle.settings.specs.declared.Settings.{Settings}
-use Rattle.settings.specs.Checked.{paper, card}
-use Rattle.settings.proofs.LengthLaws.{lengths_are, sized_by}
+use Rattle.settings.specs.Checked.{paper, card, code}
+use Rattle.settings.specs.Areas.{lookup_part}
+use Rattle.settings.proofs.LengthLaws.{sized_by}
 use Rattle.lookup.specs.Places.{CheckedLookup}
 use Rattle.lookup.proofs.JudgeLaws.{checked_lookup}
-use Rattle.tally.specs.Tallies.{read_areas}
 use Rattle.placing.specs.Ready.{Ready}
-use Rattle.writing.proofs.JudgedLaws.{Permitted}
 use Rattle.update.specs.declared.editing.Edit.{Edit}
+use Rattle.update.specs.declared.editing.Edit.TheVariants.{Insert, Replace, Remove}
 use Rattle.update.specs.Editing.{edit_call, Updating}
-use Rattle.update.proofs.PerformLaws.{refused_is, shape}
-use Rattle.calls.specs.declared.Kind.{Kind}
-use Rattle.calls.specs.declared.Kind.TheVariants.{Clear, Update, Search, Tally}
-use Rattle.calls.specs.Data.{call_of}
-use Rattle.calls.specs.Calling.{searched, Callable}
+use Rattle.update.proofs.PerformLaws.{shape}
+use Rattle.calls.specs.Data.{is_update}
+use Rattle.calls.specs.Calling.{searched, judged, Callable}
 
--- ---- what each kind gives
-module _ {kind : Kind} (s : Card) (k : List ℕ) (x : ℕ) (a : Areas) where
-  pub clear_gives : kind ≡ Clear → {b : Areas} → b ≡ layout s [] → replied 0 b ≡ call s (call_of kind k x) a
+-- the lookup areas alone are judged as all areas are
+pub lookup_right : (s : Card) (b a : Areas) → b ≡ lookup_part a → all (λ x. x) (lookup_lengths s b) ≡ all (λ x. x) (lookup_lengths s a)
+unfolding lookup_lengths
+lookup_right s b a e = rw e
+
+-- ---- what each call gives
+module _ {c : Call} (s : Card) (a : Areas) where
+  pub clear_gives : c ≡ clear → {b : Areas} → b ≡ layout s [] → replied 0 b ≡ call s c a
   unfolding call
   clear_gives e f = rw (e, f)
 
-  pub update_gives : (edit : Edit) → kind ≡ Update edit → {r : Step Areas} → r ≡ update s k (edit_call edit k x) a → r ≡ call s (call_of kind k x) a
-  update_gives edit e f = rw (e, (shape edit k x s 0 a).1) f
+  pub update_gives : (edit : Edit) (k : List ℕ) (x : ℕ) → c ≡ edit_call edit k x → {r : Step Areas} → r ≡ update s k (edit_call edit k x) a → r ≡ call s c a
+  update_gives edit k x e f = rw (e, (shape edit k x s 0 a).1) f
 
-  pub search_gives : kind ≡ Search → {r : Answer} → r ≡ searched s a.clipped_counts a.buckets a.side_store k
-      → ◌≡◌ {A = Step Areas} (record { reply = answered r; state = a }) (call s (call_of kind k x) a)
+  pub search_gives : (k : List ℕ) → c ≡ search k → {b : Areas} → b ≡ lookup_part a → {r : Answer} → r ≡ searched s b k
+      → ◌≡◌ {A = Step Areas} (record { reply = answered r; state = a }) (call s c a)
   unfolding call
-  search_gives e f = rw (e, f)
+  search_gives k e q f = rw (e, f, q)
 
-  pub tally_gives : kind ≡ Tally → {r : ledgers.Totals}
-      → r ≡ tally_areas s (read_areas a.ledger a.clipped_counts a.buckets a.side_store)
-      → ◌≡◌ {A = Step Areas} (record { reply = totalled r; state = a }) (call s (call_of kind k x) a)
-  unfolding call tally_areas lookup_invalid
+  pub tally_gives : c ≡ tally → {r : Totals} → r ≡ tally_areas s a → ◌≡◌ {A = Step Areas} (record { reply = totalled r; state = a }) (call s c a)
+  unfolding call
   tally_gives e f = rw (e, f)
 
 -- ---- and asks
-module _ {s : Settings} {table : List ℕ} {kind : Kind} {k : List ℕ} {x : ℕ} {work : List ℕ} {a : Areas} (c : Callable s table kind k x work a) where
-  all_sized : all (λ x. x) (all_lengths (card s) a) ≡ true → Sized (card s) a
-  all_sized right = sized_by (card s) a (sym (lengths_are (card s) a) ∙ right)
+edit_updates : (edit : Edit) (k : List ℕ) (x : ℕ) → is_update (edit_call edit k x) ≡ true
+edit_updates Insert k x = refl
+edit_updates Replace k x = refl
+edit_updates Remove k x = refl
 
-  pub clear_asks : kind ≡ Clear → Sized (card s) a
+module _ {s : Settings} {table work : List ℕ} {c : Call} {a : Areas} (asked : Callable s table c work a) where
+  pub clear_asks : c ≡ clear → Sized (card s) a
   unfolding lent_lengths
-  clear_asks e = all_sized (rw e at c.lengths)
+  clear_asks e = sized_by (card s) a (rw e at asked.lengths)
 
-  pub update_asks : (edit : Edit) → kind ≡ Update edit → Updating s table work a
-  update_asks edit e =
-      let right = rw (e, (shape edit k x (card s) (length work) a).0) at c.lengths in
+  pub update_asks : (edit : Edit) (k : List ℕ) (x : ℕ) → c ≡ edit_call edit k x → Updating s table work a
+  update_asks edit k x e =
+      let right = rw (e, (shape edit k x (card s) (length work) a).0) at asked.lengths in
       let words = eqb (length work) (work_length (card s)) in
-      record { ready = c.ready edit e; words = eqb-true _ _ (and_left words _ right); sized = all_sized (and_right words _ right) }
+      record {
+        ready = asked.ready (rw e (edit_updates edit k x));
+        words = eqb-true _ _ (and_left words _ right);
+        sized = sized_by (card s) a (and_right words _ right);
+      }
 
-  abbrev Lookup : Type 0
-  Lookup = CheckedLookup (paper s) a.clipped_counts a.buckets a.side_store
+  abbrev Lookup : Areas → Type 0
+  Lookup b = CheckedLookup (paper s) b.clipped_counts b.buckets b.side_store
 
-  right_lookup : all (λ x. x) (lookup_lengths (card s) a) ≡ true → Lookup
+  right_lookup : (b : Areas) → all (λ x. x) (lookup_lengths (card s) b) ≡ true → Lookup b
   unfolding lookup_lengths
-  right_lookup right = checked_lookup (paper s) a.clipped_counts a.buckets a.side_store c.ok right
+  right_lookup b right = checked_lookup (paper s) b.clipped_counts b.buckets b.side_store asked.ok right
 
-  pub search_asks : kind ≡ Search → Lookup
+  pub search_asks : (k : List ℕ) → c ≡ search k → (b : Areas) → b ≡ lookup_part a → Lookup b
   unfolding lent_lengths
-  search_asks e = right_lookup (rw e at c.lengths)
+  search_asks k e b q = right_lookup b (lookup_right (card s) b a q ∙ (rw e at asked.lengths))
 
-  pub tally_asks : kind ≡ Tally → Lookup × (length a.ledger ≡ ledger_length (card s))
+  pub tally_asks : c ≡ tally → Lookup a × (length a.ledger ≡ ledger_length (card s))
   unfolding lent_lengths
   tally_asks e =
-      let right = rw e at c.lengths in
+      let right = rw e at asked.lengths in
       let first = eqb (length a.ledger) (ledger_length (card s)) in
-      (right_lookup (and_right first _ right), eqb-true _ _ (and_left first _ right))
+      (right_lookup a (and_right first _ right), eqb-true _ _ (and_left first _ right))
 
--- ---- `perform`'s: 1, 2, then the call; a refusal of all but tally is the number as an answer
-pub answers : (kind : Kind) → (kind ≡ Tally → ⊥) → (k : List ℕ) (x n : ℕ) → refused_reply (call_of kind k x) n ≡ answered (bare n)
-answers Clear other k x n = refl
-answers (Update edit) other k x n = refused_is edit k x n
-answers Search other k x n = refl
-answers Tally other k x n = absurd (other refl)
+-- the table that is made is ready
+pub made_ready : {s : Settings} {w : ℕ} {table : List ℕ} → allowed (paper s) ≡ true → w ≡ (card s).width → length table ≡ made_length w → MadeFor w table
+    → Ready s table
+made_ready {s} {w} {table} ok width long made =
+    let whole = take_all (made_length w) table (omega (arith, long)) in
+    record { ok = ok; right = rw (← width, ← whole) made.right; long = rw (← width, long) made.long }
 
-pub refuses_1 : (t : plain.Settings) (w : ℕ) (c : Call) (a : Areas) → allowed t ≡ false → {r : Reply} → r ≡ refused_reply c 1
-    → ◌≡◌ {A = Step Areas} (record { reply = r; state = a }) (perform t w c a)
-unfolding perform
-refuses_1 t w c a e f = rw (e, f)
+-- ---- `perform`'s: 1, 2, then the call
+module _ (t : plain.Settings) (w : ℕ) (c : Call) (a : Areas) {r : Result Settings Refusal} (answer : r ≡ judged t w c a) where
+  abbrev by : Bool → Bool → Result Settings Refusal
+  by ok right = cond ok (cond right (Ok (code t)) (Err WrongAreaLength)) (Err SettingOutOfRange)
 
-module _ {t : plain.Settings} {s : Settings} (p : Permitted t s) (w : ℕ) (c : Call) (a : Areas) where
-  pub refuses_2 : all (λ x. x) (lent_lengths (card s) w c a) ≡ false → {r : Reply} → r ≡ refused_reply c 2
-      → ◌≡◌ {A = Step Areas} (record { reply = r; state = a }) (perform t w c a)
-  unfolding perform
-  refuses_2 e f = let wrong = rw p.same at e in rw (p.ok, wrong, f)
+  abbrev performed : Bool → Bool → Step Areas
+  performed ok right = cond (not ok) (stopped (refused_reply c 1) a) (cond (not right) (stopped (refused_reply c 2) a) (call (card_of t) c a))
 
-  pub goes_on : all (λ x. x) (lent_lengths (card s) w c a) ≡ true → {r : Step Areas} → r ≡ call (card s) c a → r ≡ perform t w c a
-  unfolding perform
-  goes_on e f = let right = rw p.same at e in rw (p.ok, right) (rw p.same at f)
+  abbrev right : Bool
+  right = all (λ x. x) (lent_lengths (card_of t) w c a)
+
+  refused_by : (x : Refusal) (ok right : Bool) → Err x ≡ by ok right
+      → ◌≡◌ {A = Step Areas} (stopped (refused_reply c (number_of x)) a) (performed ok right)
+  refused_by x true true q = cc
+  refused_by x true false q = let same : x ≡ WrongAreaLength = cc in rw same
+  refused_by x false right q = let same : x ≡ SettingOutOfRange = cc in rw same
+
+  pub refuses : (x : Refusal) → r ≡ Err x → {y : Reply} → y ≡ refused_reply c (number_of x)
+      → ◌≡◌ {A = Step Areas} (record { reply = y; state = a }) (perform t w c a)
+  unfolding judged perform
+  refuses x e f = rw f (refused_by x (allowed t) right (sym e ∙ answer))
+
+  -- settings that are handed over can be called on
+  pub record Allows (s : Settings) : Type 0 where
+    pub ok : allowed (paper s) ≡ true
+    pub lengths : all (λ x. x) (lent_lengths (card s) w c a) ≡ true
+    pub on : {y : Step Areas} → y ≡ call (card s) c a → y ≡ perform t w c a
+
+  allowed_by : (s : Settings) (ok right : Bool) → Ok s ≡ by ok right → (ok ≡ true) × (right ≡ true) × (s ≡ code t)
+  allowed_by s true true q = (refl, refl, cc)
+  allowed_by s true false q = cc
+  allowed_by s false right q = cc
+
+  pub allows : (s : Settings) → r ≡ Ok s → Allows s
+  unfolding judged perform
+  allows s e =
+      let h = allowed_by s (allowed t) right (sym e ∙ answer) in
+      record { ok = rw h.2 h.0; lengths = rw h.2 h.1; on = λ f. rw (h.0, h.1) (rw h.2 at f) }
 
 -- ---- with the right table, work of its length and areas of theirs, every call can be made
-lengths_right : (s : Card) (w : ℕ) (a : Areas) → w ≡ work_length s → Sized s a → (kind : Kind) (k : List ℕ) (x : ℕ)
-    → all (λ x. x) (lent_lengths s w (call_of kind k x) a) ≡ true
+lengths_right : (s : Card) (w : ℕ) (a : Areas) → w ≡ work_length s → Sized s a → (c : Call) → all (λ x. x) (lent_lengths s w c a) ≡ true
 unfolding lent_lengths
-lengths_right s w a words z Clear k x = all_lengths_right s a z
-lengths_right s w a words z (Update edit) k x = rw ((shape edit k x s w a).0, eq-eqb _ _ words) (all_lengths_right s a z)
-lengths_right s w a words z Search k x = lookup_lengths_right s a z
-lengths_right s w a words z Tally k x = rw (eq-eqb _ _ z.ledger) (lookup_lengths_right s a z)
+lengths_right s w a words z clear = all_lengths_right s a z
+lengths_right s w a words z (add k x) = rw (eq-eqb _ _ words) (all_lengths_right s a z)
+lengths_right s w a words z (change k x) = rw (eq-eqb _ _ words) (all_lengths_right s a z)
+lengths_right s w a words z (remove k) = rw (eq-eqb _ _ words) (all_lengths_right s a z)
+lengths_right s w a words z (search k) = lookup_lengths_right s a z
+lengths_right s w a words z (fetch k) = lookup_lengths_right s a z
+lengths_right s w a words z tally = rw (eq-eqb _ _ z.ledger) (lookup_lengths_right s a z)
 
 pub callable : {s : Settings} {table work : List ℕ} {a : Areas} → Ready s table → length work ≡ work_length (card s) → Sized (card s) a
-    → (kind : Kind) (k : List ℕ) (x : ℕ) → Callable s table kind k x work a
-callable ready words z kind k x = record { ok = ready.ok; ready = λ edit e. ready; lengths = lengths_right _ _ _ words z kind k x }
+    → (c : Call) → Callable s table c work a
+callable ready words z c = record { ok = ready.ok; ready = λ e. ready; lengths = lengths_right _ _ _ words z c }

@@ -1,224 +1,127 @@
 // A call as data: programs that run lists of calls go through `perform`, those that judge settings and lengths once and lend a table through `call`.
 #![tactic(auto)]
 
-ghost use Rattle.std.specs.Prelude.{◌≡◌, true, List, ℕ, length};
+ghost use Rattle.std.specs.Prelude.{◌≡◌, true, length};
 ghost use Rattle.theory.specs.Lists.{all};
-ghost use Rattle.theory.specs.Settings.{allowed};
-ghost use Rattle.theory.specs.Layout.{Areas};
-ghost use Rattle.theory.specs.Lookup.{bare};
-ghost use Rattle.theory.specs.Ledger.{Step, answered};
+ghost use Rattle.theory.specs.Settings.{allowed, ledger_length};
+ghost use Rattle.theory.specs.Layout as layouts;
+ghost use Rattle.theory.specs.Ledger.{Step};
 ghost use Rattle.theory.specs.Calls as plain;
-ghost use Rattle.theory.specs.CallAreas.{areas_now, entry_areas, exit_areas};
 ghost use Rattle.settings.specs.Checked.{paper, card, given_of};
-ghost use Rattle.settings.specs.Lengths.{code_lengths};
+ghost use Rattle.settings.specs.Areas.{contents, lookup_contents, SameSlices};
 ghost use Rattle.lookup.specs.Places.{CheckedLookup};
-ghost use Rattle.lookup.specs.Answers.{answer_of, at_entry};
+ghost use Rattle.lookup.specs.Answers as lookups;
+ghost use Rattle.tally.specs.Tallies.{totals_of};
 ghost use Rattle.calls.specs.Data.{call_of, reply_of};
-ghost use Rattle.calls.specs.Calling.{searched, Callable};
+ghost use Rattle.calls.specs.Calling.{searched, Callable, judged};
 
-use hash::made::{made_length, make_table};
+use crate::data::{Call, Reply, answer_only, refused};
+use hash::made::make_table;
 use lookup::searching::Answer;
-use settings::lengths::{Lengths, lengths_right, lookup_lengths_right};
-use settings::{Checked, Given, Settings};
+use memory::refusals::Refusal;
+use settings::areas::{Areas, LookupAreas};
+use settings::{Given, Settings};
 use tally::Totals;
 use update::editing::Edit;
 
-// The kinds of call; the second search call hands back a part of an area, and is lookup::fetching::fetch.
-#[derive(Clone, Copy)]
-pub enum Kind {
-    Clear,
-    Update(Edit),
-    Search,
-    Tally,
-}
+pub mod data; // data.rt: a call, and what comes back
 
-#[derive(Clone, Copy)]
-pub enum Reply {
-    Answered(Answer),
-    Totalled(Totals),
-}
-
-// Clear and the updates answer their number alone.
-fn answer_only(number: u32) -> Reply
-    ensures { reply_of result ≡ answered (bare number) }
-{
-    Reply::Answered(lookup::searching::bare(number))
-}
-
-// A refused call gives its number alone: tally in totals, the others in an answer.
-fn refused(kind: Kind, number: u32) -> Reply
-    ensures { (key : List ℕ) (class : ℕ) → reply_of result ≡ plain.refused_reply (call_of kind key class) number }
-{
-    match kind {
-        Kind::Tally => Reply::Totalled(tally::no_totals(number)),
-        _ => answer_only(number),
-    }
-}
-
-// The areas that a call of the kind is lent, and a work area of so many words where it takes one, have their lengths; else 2.
-fn lent_right(s: Settings, kind: Kind, words: usize, l: Lengths) -> bool
+// The areas that a call is lent, and a work area of so many words where it takes one, have their lengths; else 2.
+fn lent_right(s: Settings, call: Call<'_>, areas: &Areas<'_>, words: usize) -> bool
     requires { allowed (paper s) ≡ true }
-    ensures { (areas : Areas) (key : List ℕ) (class : ℕ) → l ≡ code_lengths areas
-        → result ≡ all (λ x. x) (plain.lent_lengths (card s) words (call_of kind key class) areas) }
+    ensures { result ≡ all (λ x. x) (plain.lent_lengths (card s) words (call_of call.entry) (contents areas.now)) }
 {
-    match kind {
-        Kind::Clear => lengths_right(s, l),
-        Kind::Update(_) => (words == s.work_length()) & lengths_right(s, l),
-        Kind::Search => lookup_lengths_right(s, l.clipped, l.buckets, l.side),
-        Kind::Tally => {
-            (l.ledger == s.ledger_length()) & lookup_lengths_right(s, l.clipped, l.buckets, l.side)
+    match call {
+        Call::Clear => areas.have_lengths(s),
+        Call::Add { .. } | Call::Change { .. } | Call::Remove { .. } => {
+            (words == s.work_length()) & areas.have_lengths(s)
+        }
+        Call::Search { .. } => areas.lookup().have_lengths(s),
+        Call::Tally => {
+            (areas.ledger.len() == s.ledger_length()) & areas.lookup().have_lengths(s)
         }
     }
 }
 
 // Search on allowed settings and areas of their lengths: 3, then the answer by the key's own H, from the rows.
-fn search_checked(s: Settings, clipped: &[u8], buckets: &[u8], side: &[u8], key: &[u8]) -> Answer
-    requires { CheckedLookup (paper s) clipped.now buckets.now side.now }
-    ensures { answer_of result ≡ at_entry (searched (card s)) clipped buckets side key }
+fn search_checked(s: Settings, areas: LookupAreas<'_>, key: &[u8]) -> Answer
+    requires { CheckedLookup (paper s) areas.clipped.now areas.buckets.now areas.side.now }
+    ensures { lookups.answer_of result ≡ searched (card s) (lookup_contents areas.entry) key.entry.now }
 {
     if key.len() != s.width() {
-        return lookup::searching::bare(3);
+        return lookup::searching::refused(Refusal::WrongKeyLength);
     }
     let h = hash::h_rows(key);
-    lookup::searching::search_at(s, h, clipped, buckets, side, key)
+    lookup::searching::search_at(s, h, areas, key)
+}
+
+// Tally, which reads four of the areas. They are taken apart here: their ledger and what `lookup` gives can't be lent at once.
+fn tally_checked(s: Settings, areas: &Areas<'_>) -> Result<Totals, Refusal>
+    requires checked { CheckedLookup (paper s) areas.now.clipped.now areas.now.buckets.now areas.now.side.now }
+    requires whole { length areas.now.ledger.now ≡ ledger_length (card s) }
+    ensures { totals_of result ≡ plain.tally_areas (card s) (contents areas.now) }
+{
+    let Areas {
+        ledger,
+        clipped,
+        buckets,
+        side,
+        ..
+    } = areas;
+    let lookup = LookupAreas {
+        clipped,
+        buckets,
+        side,
+    };
+    tally::tally_checked(s, ledger, lookup)
 }
 
 // A call on settings and areas that are judged already. The table is lent: an update reads it, the others take any, also an empty one.
 pub fn call(
     s: Settings,
     table: &[u64],
-    kind: Kind,
-    ledger: &mut [u8],
-    true_counts: &mut [u16],
-    clipped: &mut [u8],
-    buckets: &mut [u8],
-    side: &mut [u8],
+    call: Call<'_>,
+    areas: &mut Areas<'_>,
     work: &mut [u16],
-    key: &[u8],
-    class: u32,
 ) -> Reply
-    requires { Callable s table.now kind key.now class work.old (areas_now ledger true_counts clipped buckets side) }
-    ensures { ◌≡◌ {A = Step Areas} (record { reply = reply_of result; state = exit_areas ledger true_counts clipped buckets side })
-        (plain.call (card s) (call_of kind key.now class) (entry_areas ledger true_counts clipped buckets side)) }
+    requires { Callable s table.now (call_of call) work.old (contents areas.old) }
+    ensures called { ◌≡◌ {A = Step layouts.Areas} (record { reply = reply_of result; state = contents areas.new })
+        (plain.call (card s) (call_of call.entry) (contents areas.old)) }
+    ensures same { SameSlices areas.old areas.new }
 {
-    match kind {
-        Kind::Clear => {
-            writing::clear_areas(s, ledger, true_counts, clipped, buckets, side);
-            answer_only(0)
+    let (edit, key, class) = match call {
+        Call::Add { key, class } => (Edit::Insert, key, class),
+        Call::Change { key, class } => (Edit::Replace, key, class),
+        Call::Remove { key } => (Edit::Remove, key, 0),
+        Call::Clear => {
+            writing::clear_areas(areas);
+            return answer_only(Ok(()));
         }
-        Kind::Update(edit) => answer_only(update::update_checked(
-            s,
-            table,
-            edit,
-            ledger,
-            true_counts,
-            clipped,
-            buckets,
-            side,
-            work,
-            key,
-            class,
-        )),
-        Kind::Search => Reply::Answered(search_checked(s, clipped, buckets, side, key)),
-        Kind::Tally => Reply::Totalled(tally::tally_checked(s, ledger, clipped, buckets, side)),
-    }
+        Call::Search { key } => return Reply::Answered(search_checked(s, areas.lookup(), key)),
+        Call::Tally => return Reply::Totalled(tally_checked(s, areas)),
+    };
+    answer_only(update::update_checked(s, table, edit, areas, work, key, class))
 }
 
-// The same with a table that is made here, for an update alone: a search does not pay for it.
-fn call_checked(
-    s: Settings,
-    kind: Kind,
-    ledger: &mut [u8],
-    true_counts: &mut [u16],
-    clipped: &mut [u8],
-    buckets: &mut [u8],
-    side: &mut [u8],
-    work: &mut [u16],
-    key: &[u8],
-    class: u32,
-) -> Reply
-    requires { (allowed (paper s) ≡ true)
-        × (all (λ x. x) (plain.lent_lengths (card s) (length work.old) (call_of kind key.now class) (areas_now ledger true_counts clipped buckets side))
-        ≡ true) }
-    ensures { ◌≡◌ {A = Step Areas} (record { reply = reply_of result; state = exit_areas ledger true_counts clipped buckets side })
-        (plain.call (card s) (call_of kind key.now class) (entry_areas ledger true_counts clipped buckets side)) }
+// What is judged before any call: its settings, then the lengths of what it is lent.
+fn judge(call: Call<'_>, given: Given, areas: &Areas<'_>, words: usize) -> Result<Settings, Refusal>
+    ensures { result ≡ judged (given_of given) words (call_of call.entry) (contents areas.now) }
 {
-    if let Kind::Update(_) = kind {
-        let width = s.width();
-        let entries = made_length(width);
-        let table = make_table(width);
-        return call(
-            s,
-            &table[..entries],
-            kind,
-            ledger,
-            true_counts,
-            clipped,
-            buckets,
-            side,
-            work,
-            key,
-            class,
-        );
+    let s = Settings::new(given)?;
+    if !lent_right(s, call, areas, words) {
+        return Err(Refusal::WrongAreaLength);
     }
-    // the other calls read no table
-    let none = [0u64; 0];
-    call(
-        s,
-        &none[..],
-        kind,
-        ledger,
-        true_counts,
-        clipped,
-        buckets,
-        side,
-        work,
-        key,
-        class,
-    )
+    Ok(s)
 }
 
 // A call, whole by itself: 1, 2, then the call.
-pub fn perform(
-    kind: Kind,
-    given: Given,
-    ledger: &mut [u8],
-    true_counts: &mut [u16],
-    clipped: &mut [u8],
-    buckets: &mut [u8],
-    side: &mut [u8],
-    work: &mut [u16],
-    key: &[u8],
-    class: u32,
-) -> Reply
-    ensures { ◌≡◌ {A = Step Areas} (record { reply = reply_of result; state = exit_areas ledger true_counts clipped buckets side })
-        (plain.perform (given_of given) (length work.old) (call_of kind key.now class)
-        (entry_areas ledger true_counts clipped buckets side)) }
+pub fn perform(call: Call<'_>, given: Given, areas: &mut Areas<'_>, work: &mut [u16]) -> Reply
+    ensures performed { ◌≡◌ {A = Step layouts.Areas} (record { reply = reply_of result; state = contents areas.new })
+        (plain.perform (given_of given) (length work.old) (call_of call.entry) (contents areas.old)) }
+    ensures same { SameSlices areas.old areas.new }
 {
-    let checked = Settings::new(given);
-    let Checked::Allowed(s) = checked else {
-        return refused(kind, 1);
-    };
-    let lengths = Lengths {
-        ledger: ledger.len(),
-        true_counts: true_counts.len(),
-        clipped: clipped.len(),
-        buckets: buckets.len(),
-        side: side.len(),
-    };
-    if !lent_right(s, kind, work.len(), lengths) {
-        return refused(kind, 2);
+    match judge(call, given, areas, work.len()) {
+        Ok(s) => crate::call(s, make_table(s.width()), call, areas, work),
+        Err(refusal) => refused(call, refusal),
     }
-    call_checked(
-        s,
-        kind,
-        ledger,
-        true_counts,
-        clipped,
-        buckets,
-        side,
-        work,
-        key,
-        class,
-    )
 }

@@ -1,26 +1,24 @@
--- `calls::perform` meets its contract: 1, 2, then the call.
-use mathlib.Core.Path.{refl, sym, ◌∙◌}
-use Rattle.theory.specs.CallAreas.{areas_now}
-use Rattle.settings.specs.Checked.{given_of}
-use Rattle.settings.proofs.Laws.{refused_arm}
-use Rattle.writing.proofs.JudgedLaws.{permitted}
-use Rattle.calls.proofs.CallingLaws.{refuses_1, refuses_2, goes_on}
+-- `calls::perform` meets its contract: 1, 2, then the call, with the table of its width.
+use Rattle.std.proofs.Common.{refl}
+use Rattle.settings.specs.Checked.{paper}
+use Rattle.settings.proofs.Laws.{key_width}
+use Rattle.calls.proofs.CallingLaws.{refuses, allows, made_ready}
 use Rattle.calls.proofs.perform.Goals as goal
 
-pub returns-in_default : goal.returns-in_default
-returns-in_default c =
-    refuses_1 (given_of c.args.given) _ _ _ (refused_arm _ _ c.new-checked.ensures c.in_default.is) (c.refused.ensures c.args.key.now c.args.class)
+pub make_table-requires : goal.make_table-requires
+make_table-requires c = key_width (paper c.in-Ok.s) (allows _ _ _ _ c.in-Ok.ensures _ refl).ok c.width.ensures
 
-pub returns-then-not-lent_right : goal.returns-then-not-lent_right
-returns-then-not-lent_right c =
-    let areas = areas_now c.args.ledger c.args.true_counts c.args.clipped c.args.buckets c.args.side in
-    let allowed_as = permitted (given_of c.args.given) c.new-checked.ensures c.in-Allowed.is in
-    let wrong = sym (c.lent_right.ensures areas c.args.key.now c.args.class refl) ∙ c.if-not-lent_right.true in
-    refuses_2 allowed_as _ _ _ wrong (c.refused-then-not-lent_right.ensures c.args.key.now c.args.class)
+pub call-requires : goal.call-requires
+call-requires c =
+    let judged = allows _ _ _ _ c.in-Ok.ensures _ refl in
+    record {
+      ok = judged.ok;
+      ready = λ _. made_ready judged.ok c.width.ensures c.make_table.ensures.length c.make_table.ensures.made;
+      lengths = judged.lengths;
+    }
 
-pub returns : goal.returns
-returns c =
-    let areas = areas_now c.args.ledger c.args.true_counts c.args.clipped c.args.buckets c.args.side in
-    let allowed_as = permitted (given_of c.args.given) c.new-checked.ensures c.in-Allowed.is in
-    let right = sym (c.lent_right.ensures areas c.args.key.now c.args.class refl) ∙ c.if-not-lent_right.false in
-    goes_on allowed_as _ _ _ right c.call_checked.ensures
+pub returns-in-Ok-clause-performed : goal.returns-in-Ok-clause-performed
+returns-in-Ok-clause-performed c = (allows _ _ _ _ c.in-Ok.ensures _ refl).on c.call.ensures.called
+
+pub returns-in-Err-clause-performed : goal.returns-in-Err-clause-performed
+returns-in-Err-clause-performed c = refuses _ _ _ _ c.in-Err.ensures _ refl c.refused.ensures
