@@ -1,6 +1,5 @@
 -- Laws of a head as it is written: numbers of two bytes one after the other, and the first count, the settings and the second count as three parts.
 use mathlib.Core.Path.{◌≡◌, refl, sym, ap, ◌∙◌}
-use mathlib.Core.Bool.{true}
 use mathlib.Core.List.{List, [], ◌∷◌, ◌++◌, append_assoc, append-nil}
 use Prim.Native.Nat.{ℕ, ◌+◌, ◌-◌, ◌*◌, ◌≤◌, ◌<◌}
 use Rattle.std.proofs.Common.{add-one}
@@ -11,9 +10,8 @@ use Rattle.theory.specs.Lists.{flat, All}
 use Rattle.theory.specs.Settings as plain
 use Rattle.theory.specs.Settings.{allowed}
 use Rattle.theory.specs.Records.{to_bytes}
-use Rattle.theory.specs.Snapshot.{first_count, head_size, settings_list}
+use Rattle.theory.specs.Snapshot.{settings_count, first_count, head_size, settings_list}
 use Rattle.theory.proofs.ListLaws.{all_at, all_take}
-use Rattle.theory.proofs.SettingsLaws.{ranges}
 use Rattle.theory.proofs.ByteLaws.{length_to_bytes}
 use Rattle.theory.proofs.SnapshotLaws.{head, length_words, first_count_most}
 use Rattle.memory.proofs.SliceLaws.{back, tail_is, tail_back}
@@ -51,34 +49,28 @@ pub numbers_all : (ns xs : List ℕ) (i : ℕ) {now : List ℕ} → length ns �
 numbers_all ns xs i h full is =
     let none : length xs ≤ 2 * i = omega arith in is ∙ rw (take_all i ns h, drop_of_length-le xs none, append-nil)
 
--- ---- the head, in three parts: x, once the first count is written, y, once the settings are, and the second count
-module _ (t : plain.Settings) (n : ℕ) (xs : List ℕ) {first second : ℕ} (known : first ≡ first_count t) (place : second ≡ 2 + 2 * first)
-    (full : length xs ≡ head_size (first_count t)) where
-  pub settings_long : length (take first (settings_list t)) ≡ first
-  settings_long = length-take-le first (settings_list t) (omega (arith, known, first_count_most t))
+-- ---- the head, in three parts: x, once the first count is written, y, once as many of seven numbers l are, and the second count
+module _ (t : plain.Settings) (n : ℕ) (xs l : List ℕ) (seven : length l ≡ settings_count) {first second : ℕ} (known : first ≡ first_count t)
+    (place : second ≡ 2 + 2 * first) (full : length xs ≡ head_size (first_count t)) where
+  pub numbers_long : length (take first l) ≡ first
+  numbers_long = length-take-le first l (omega (arith, seven, known, first_count_most t))
 
-  pub settings_small : allowed t ≡ true → (k d : ℕ) → k < length (take first (settings_list t)) → get_or (take first (settings_list t)) k d < 65536
-  settings_small ok k d h =
-      let r = ranges t ok in
-      let all : All (λ n. n < 65536) (settings_list t) =
-      (omega arith, (omega arith, (omega arith, (omega arith, (omega arith, (omega arith, (omega arith, tt)))))))
-      in
-      all_at (λ n. n < 65536) (take first (settings_list t)) k d h (all_take (λ n. n < 65536) first (settings_list t) all)
+  pub numbers_small : All (λ n. n < 65536) l → (k d : ℕ) → k < length (take first l) → get_or (take first l) k d < 65536
+  numbers_small small k d h = all_at (λ n. n < 65536) (take first l) k d h (all_take (λ n. n < 65536) first l small)
 
-  pub settings_fill : {x : List ℕ} → x ≡ to_bytes 2 first ++ drop 2 xs
-      → length (take (second - 2) (drop 2 x)) ≡ 2 * length (take first (settings_list t))
-  settings_fill counted =
+  pub numbers_fill : {x : List ℕ} → x ≡ to_bytes 2 first ++ drop 2 xs → length (take (second - 2) (drop 2 x)) ≡ 2 * length (take first l)
+  numbers_fill counted =
       let fits : second - 2 ≤ length (drop 2 xs) = rw length-drop (omega (arith, full, place, known)) in
-      rw (counted, drop_at (to_bytes 2 first) (drop 2 xs) 2 (length_to_bytes 2 first), length-take-le (second - 2) (drop 2 xs) fits, settings_long)
+      rw (counted, drop_at (to_bytes 2 first) (drop 2 xs) 2 (length_to_bytes 2 first), length-take-le (second - 2) (drop 2 xs) fits, numbers_long)
       (omega (arith, place))
 
-  module _ {x y zs : List ℕ} (counted : x ≡ to_bytes 2 first ++ drop 2 xs) (settings : zs ≡ flat (to_bytes 2) (take first (settings_list t)))
+  module _ {x y zs : List ℕ} (counted : x ≡ to_bytes 2 first ++ drop 2 xs) (numbers : zs ≡ flat (to_bytes 2) (take first l))
       (joined : y ≡ back 2 (second - 2) x zs) where
     abbrev front : List ℕ
     front = to_bytes 2 first ++ zs
 
     front_long : length front ≡ second
-    front_long = rw (length-append, length_to_bytes, settings, length_words, settings_long) (sym place)
+    front_long = rw (length-append, length_to_bytes, numbers, length_words, numbers_long) (sym place)
 
     y_is : y ≡ front ++ drop second xs
     y_is =
@@ -94,12 +86,12 @@ module _ (t : plain.Settings) (n : ℕ) (xs : List ℕ) {first second : ℕ} (kn
           append_assoc,
         )
 
-    pub second_within : second + 2 ≡ length y
+    second_within : second + 2 ≡ length y
     second_within = rw (y_is, length-append, front_long, length-drop) (omega (arith, full, place, known))
 
-    pub head_written : {ys : List ℕ} → ys ≡ to_bytes 2 n ++ drop 2 (take (length y - second) (drop second y))
+    pub head_written : l ≡ settings_list t → {ys : List ℕ} → ys ≡ to_bytes 2 n ++ drop 2 (take (length y - second) (drop second y))
         → back second (length y - second) y ys ≡ flat (to_bytes 2) (head t n)
-    head_written {ys} written =
+    head_written listed {ys} written =
         let inside : second ≤ length y = omega (arith, second_within) in
         let none : length xs ≤ second + 2 = omega (arith, full, place, known) in
         tail_back second y ys inside
@@ -111,7 +103,8 @@ module _ (t : plain.Settings) (n : ℕ) (xs : List ℕ) {first second : ℕ} (kn
           drop_at front (drop second xs) second front_long,
           drop-drop 2 second xs,
           drop_of_length-le xs none,
-          settings,
+          numbers,
+          listed,
           ← known,
           flat_append (take first (settings_list t)) (n ∷ []),
           append_assoc,

@@ -1,8 +1,9 @@
 -- the three parts of the head
 use Rattle.std.proofs.Common.{arith, refl, sym}
+use Rattle.theory.proofs.SettingsLaws.{ranges}
 use Rattle.theory.proofs.SnapshotLaws.{first_count_most}
 use Rattle.settings.specs.Checked.{paper}
-use Rattle.snapshot.proofs.HeadLaws.{settings_long, settings_small, settings_fill, head_written}
+use Rattle.snapshot.proofs.HeadLaws.{numbers_long, numbers_small, numbers_fill, head_written}
 use Rattle.snapshot.proofs.saving.write_head.Goals as goal
 
 pub write_number-requires : goal.write_number-requires
@@ -13,17 +14,19 @@ slice_bounds-settings-end c = omega (arith, c.first_count-first.ensures, first_c
 
 pub slice_bounds-write_numbers-end-2 : goal.slice_bounds-write_numbers-end-2
 slice_bounds-write_numbers-end-2 c =
-    sym (settings_long (paper c.args.s) c.args.count c.args.to.now c.first_count-first.ensures refl c.requires.long)
+    sym (numbers_long (paper c.args.s) c.args.count c.args.to.now _ refl c.first_count-first.ensures refl c.requires.long)
 
 pub write_numbers-requires-clause-full : goal.write_numbers-requires-clause-full
 write_numbers-requires-clause-full c =
-    settings_fill (paper c.args.s) c.args.count c.args.to.now c.first_count-first.ensures refl c.requires.long c.write_number.ensures
+    numbers_fill (paper c.args.s) c.args.count c.args.to.now _ refl c.first_count-first.ensures refl c.requires.long c.write_number.ensures
 
 pub write_numbers-requires-clause-small : goal.write_numbers-requires-clause-small
 write_numbers-requires-clause-small c =
-    settings_small (paper c.args.s) c.args.count c.args.to.now c.first_count-first.ensures refl c.requires.long c.requires.ok
+    let r = ranges (paper c.args.s) c.requires.ok in
+    numbers_small (paper c.args.s) c.args.count c.args.to.now _ refl c.first_count-first.ensures refl c.requires.long
+    (omega arith, (omega arith, (omega arith, (omega arith, (omega arith, (omega arith, (omega arith, tt)))))))
 
 pub returns : goal.returns
 returns c =
-    head_written (paper c.args.s) c.args.count c.args.to.now c.first_count-first.ensures refl c.requires.long c.write_number.ensures
-    c.write_numbers.ensures refl c.write_number-2.ensures
+    head_written (paper c.args.s) c.args.count c.args.to.now _ refl c.first_count-first.ensures refl c.requires.long c.write_number.ensures
+    c.write_numbers.ensures refl refl c.write_number-2.ensures
