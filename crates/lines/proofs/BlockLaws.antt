@@ -1,74 +1,76 @@
--- Laws of the lines of an input: after i of k calls the lines so far stand at the start of the buffer, and the rest is still to come.
+-- Laws of the lines of an input: after some calls their lines stand at the start of the buffer, and those of what is left of the input are to come.
 use mathlib.Core.Path.{◌≡◌, refl, sym, ap, ◌∙◌}
-use mathlib.Core.List.{List, ◌++◌, append_assoc, append-nil}
-use Prim.Native.Nat.{ℕ, suc, ◌+◌, ◌-◌, ◌*◌, ◌≤◌, ◌<◌, min}
-use native.Mathlib.Nat.{add-zero, sub-zero, add-sub_cancel_left}
+use mathlib.Core.List.{List, [], ◌∷◌, ◌++◌, append_assoc, append-nil}
+use Prim.Native.Nat.{ℕ, suc, ◌+◌, ◌/◌, ◌≤◌, ◌<◌, min}
+use native.Mathlib.Numerals.{add-one}
 use native.Mathlib.Omega.{arith}
-use lib.Dec.{leb}
-use borrow.Author.Tests.{leb-true, leb-false}
-use lib.ListN.{length, take, drop, length-append, length-drop}
-use lib.Seq.{take_at, take_all, drop-drop}
+use lib.ListN.{length, take, drop, length-append}
+use lib.Seq.{take_at, take_all, drop_at}
+use Rattle.std.proofs.lemmas.List.{drop_all}
 use Rattle.theory.specs.Layout.{Areas}
-use Rattle.theory.specs.Flowrun.{Printed, print_bytes, print_lines}
-use Rattle.theory.proofs.ListLaws.{by_test}
+use Rattle.theory.specs.Flowrun.{Printed, print_bytes, print_lines, call_count}
 use Rattle.io.specs.Counts.{IsPrefixLen}
+use Rattle.text.specs.declared.Text.{Text}
 use Rattle.text.specs.Writing.{Writes}
 use Rattle.lines.specs.Printing.{PrintsAfter, Prints}
 
--- the bytes of call i, of an input that may end before them
-pub call_bytes : (from i : ℕ) (input : List ℕ) → from ≡ 18 * i → from < length input
-    → take (from + min 18 (length input - from) - from) (drop from input) ≡ take 18 (drop (18 * i) input)
-call_bytes from i input e h =
-    rw (add-sub_cancel_left from (min 18 (length input - from)), ← e)
-    (by_test (leb 18 (length input - from))
-    (λ q. let whole : min 18 (length input - from) ≡ 18 = omega (arith, leb-true 18 (length input - from) q) in rw whole)
-    (λ q. let short : length input - from < 18 = leb-false 18 (length input - from) q in
-    take_all (min 18 (length input - from)) (drop from input) (rw length-drop (omega arith))
-    ∙ sym (take_all 18 (drop from input) (rw length-drop (omega arith)))))
+abbrev lines_of : ℕ → ℕ → List ℕ → Areas → Printed
+lines_of w n b a = print_lines w n (call_count b) b a
 
--- k calls of an input from number n on, on areas a, their lines into the buffer empty
-module _ (w n k : ℕ) (input : List ℕ) (a : Areas) (empty : List ℕ) where
-  abbrev rest : ℕ → Areas → Printed
-  rest i b = print_lines w (n + i) (k - i) (drop (18 * i) input) b
+-- the next call's bytes, 18 or all that is left, and the rest
+cut_18 : (piece rest : List ℕ) → length piece ≡ min 18 (length (piece ++ rest)) → (take 18 (piece ++ rest) ≡ piece) × (drop 18 (piece ++ rest) ≡ rest)
+cut_18 piece [] long =
+    let few : length (piece ++ []) ≤ 18 = rw append-nil (omega (arith, rw append-nil at long)) in
+    (take_all 18 (piece ++ []) few ∙ append-nil piece, drop_all 18 (piece ++ []) few)
+cut_18 piece (x ∷ rest) long =
+    let whole : length piece ≡ 18 = omega (arith, rw length-append at long) in
+    (take_at piece (x ∷ rest) 18 whole, drop_at piece (x ∷ rest) 18 whole)
 
-  -- after i calls: the areas b, the buffer to, its text up to at
-  pub record Ran (i : ℕ) (b : Areas) (to : List ℕ) (at : ℕ) : Type 0 where
-    pub lines : print_lines w n k input a ≡ record { text = take at to ++ (rest i b).text; areas = (rest i b).areas }
-    pub text : Writes (take at to) empty to at
+-- an input with bytes is its next call and the rest
+next_call : (w n : ℕ) (b piece rest : List ℕ) (a : Areas) → b ≡ piece ++ rest → length piece ≡ min 18 (length b) → 0 < length b
+    → lines_of w n b a ≡ record {
+      text = (print_bytes w n piece a).text ++ (lines_of w (n + 1) rest (print_bytes w n piece a).areas).text;
+      areas = (lines_of w (n + 1) rest (print_bytes w n piece a).areas).areas;
+    }
+unfolding print_lines call_count
+next_call w n b piece rest a e long some =
+    let split : length b ≡ length piece + length rest = rw (e, length-append) in
+    let count : (length b + 17) / 18 ≡ suc ((length rest + 17) / 18) = omega arith in
+    let cut = cut_18 piece rest (rw e at long) in
+    rw (count, add-one n, e, cut.0, cut.1)
 
-  pub ran_start : Ran 0 a empty 0
-  ran_start =
-      record { lines = rw (add-zero n, sub-zero k); text = (refl, refl) }
+-- the calls of an input from number n on, on areas a, their lines into the buffer empty
+module _ (w n : ℕ) (input : List ℕ) (a : Areas) (empty : List ℕ) where
+  -- what is left of the input is to be run from number m on, over the areas b; the lines so far stand in the text
+  pub record Ran (m : ℕ) (left : List ℕ) (b : Areas) (t : Text) : Type 0 where
+    pub lines : lines_of w n input a ≡ record {
+      text = take t.end t.bytes.now ++ (lines_of w m left b).text;
+      areas = (lines_of w m left b).areas;
+    }
+    pub text : Writes (take t.end t.bytes.now) empty t.bytes.now t.end
 
-  -- the rest is the next call's line, and the rest after it
-  rest_on : (i : ℕ) (b : Areas) → i < k
-      → rest i b ≡ record {
-        text = (print_bytes w (n + i) (take 18 (drop (18 * i) input)) b).text
-            ++ (rest (i + 1) (print_bytes w (n + i) (take 18 (drop (18 * i) input)) b).areas).text;
-        areas = (rest (i + 1) (print_bytes w (n + i) (take 18 (drop (18 * i) input)) b).areas).areas;
-      }
-  unfolding print_lines
-  rest_on i b h =
-      let more : k - i ≡ suc (k - (i + 1)) = omega arith in
-      let number : n + (i + 1) ≡ suc (n + i) = omega arith in
-      let place : 18 * (i + 1) ≡ 18 * i + 18 = omega arith in rw (more, number, place, ← drop-drop 18 (18 * i) input)
+  pub ran_start : (t : Text) → t.bytes.now ≡ empty → t.end ≡ 0 → Ran n input a t
+  ran_start t e f = record { lines = rw f; text = rw (f, e) (refl, refl) }
 
-  pub ran_on : (i v number : ℕ) (b c : Areas) (to next piece : List ℕ) (at end : ℕ) → i < k → v ≡ w → number ≡ n + i → piece ≡ take 18 (drop (18 * i) input)
-      → Ran i b to at
-      → PrintsAfter (print_bytes v number piece b) c to at next end → Ran (i + 1) c next end
-  ran_on i v number b c to next piece at end h f g e r q =
-      let p : PrintsAfter (print_bytes w (n + i) piece b) c to at next end = rw (← f, ← g) q in
-      let x : Printed = print_bytes w (n + i) piece b in
-      let written : Writes (take at to ++ x.text) empty next end = p.1 empty (take at to) r.text in
-      let text : take end next ≡ take at to ++ x.text = ap (take end) written.1 ∙ take_at (take at to ++ x.text) _ end (sym written.0) in
+  pub ran_on : (v m m₁ : ℕ) (left piece rest : List ℕ) (b c : Areas) (t u : Text) → v ≡ w → m₁ ≡ m + 1 → left ≡ piece ++ rest
+      → length piece ≡ min 18 (length left) → 0 < length left → Ran m left b t → PrintsAfter (print_bytes v m piece b) c t u → Ran m₁ rest c u
+  ran_on v m m₁ left piece rest b c t u f g e long some r q =
+      let x : Printed = print_bytes w m piece b in
+      let p : PrintsAfter x c t u = rw f at q in
+      let written : Writes (take t.end t.bytes.now ++ x.text) empty u.bytes.now u.end = p.1.appended empty (take t.end t.bytes.now) r.text in
+      let text : take u.end u.bytes.now ≡ take t.end t.bytes.now ++ x.text =
+      ap (take u.end) written.1 ∙ take_at (take t.end t.bytes.now ++ x.text) _ u.end (sym written.0) in
       record {
-        lines = r.lines ∙ ap (λ (z : Printed). record { text = take at to ++ z.text; areas = z.areas }) (rest_on i b h) ∙ rw (text, p.0, e, append_assoc);
+        lines = r.lines
+            ∙ ap (λ (z : Printed). record { text = take t.end t.bytes.now ++ z.text; areas = z.areas }) (next_call w m left piece rest b e long some)
+            ∙ rw (text, p.0, g, append_assoc);
         text = rw text written;
       }
 
-  pub ran_end : (i : ℕ) (b : Areas) (to : List ℕ) (at : ℕ) → i ≡ k → Ran i b to at → Prints (print_lines w n k input a) b empty to at × IsPrefixLen at to
-  unfolding print_lines
-  ran_end i b to at e r =
-      let none : k - i ≡ 0 = omega arith in
-      let within : at ≤ length to = rw (r.text.1, length-append) (omega (arith, r.text.0)) in
+  pub ran_end : (m : ℕ) (left : List ℕ) (b : Areas) (t : Text) → length left ≡ 0 → Ran m left b t
+      → Prints (lines_of w n input a) b empty t.bytes.now t.end × IsPrefixLen t.end t.bytes.now
+  unfolding print_lines call_count
+  ran_end m left b t e r =
+      let none : (length left + 17) / 18 ≡ 0 = omega arith in
+      let within : t.end ≤ length t.bytes.now = rw (r.text.1, length-append) (omega (arith, r.text.0)) in
       (rw (r.lines, none, append-nil) (refl, r.text), (within, r.text.0))

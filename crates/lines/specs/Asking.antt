@@ -1,12 +1,12 @@
--- What a call's letter asks for, as the code holds it.
-use Rattle.std.specs.Prelude.{List, ℕ}
+-- A call that is read, as the code holds it.
+use Rattle.std.specs.Prelude.{Some, None}
+use Rattle.std.specs.Prelude as prelude
 use Rattle.std.proofs.Math.Option.{Option, none, some}
-use Rattle.theory.specs.Ledger.{Call}
+use Rattle.theory.specs.Ledger as plain
+use Rattle.calls.specs.declared.data.Call.{Call}
 use Rattle.calls.specs.Data.{call_of}
-use Rattle.lines.specs.declared.Asked.{Asked}
-use Rattle.lines.specs.declared.Asked.TheVariants.{Known, Unknown}
 
--- the call, with a key and a class; none for another letter
-abbrev pub call_asked : Asked → List ℕ → ℕ → Option Call
-call_asked (Known kind) key class = some (call_of kind key class)
-call_asked Unknown key class = none
+-- the paper's call; none where there is none
+abbrev pub call_asked : prelude.Option Call → Option plain.Call
+call_asked (Some call) = some (call_of call)
+call_asked None = none
