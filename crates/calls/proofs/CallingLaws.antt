@@ -5,8 +5,6 @@ use mathlib.Core.List.{List, []}
 use Prim.Native.Nat.{ℕ}
 use lib.Dec.{eqb}
 use lib.ListN.{length}
-use lib.Seq.{take_all}
-use native.Mathlib.Omega.{arith}
 use borrow.Author.Tests.{eqb-true, eq-eqb}
 use Rattle.std.specs.Prelude.{Result, Ok, Err}
 use Rattle.theory.specs.Lists.{all}
@@ -23,7 +21,6 @@ use Rattle.theory.proofs.Demands.{lookup_lengths_right, all_lengths_right}
 use Rattle.memory.specs.Refusals.{number_of}
 use Rattle.memory.specs.declared.refusals.Refusal.{Refusal}
 use Rattle.memory.specs.declared.refusals.Refusal.TheVariants.{SettingOutOfRange, WrongAreaLength}
-use Rattle.hash.specs.Made.{made_length, MadeFor}
 use Rattle.settings.specs.declared.Settings.{Settings}
 use Rattle.settings.specs.Checked.{paper, card, code}
 use Rattle.settings.specs.Areas.{lookup_part}
@@ -99,13 +96,6 @@ module _ {s : Settings} {table work : List ℕ} {c : Call} {a : Areas} (asked : 
       let right = rw e at asked.lengths in
       let first = eqb (length a.ledger) (ledger_length (card s)) in
       (right_lookup a (and_right first _ right), eqb-true _ _ (and_left first _ right))
-
--- the table that is made is ready
-pub made_ready : {s : Settings} {w : ℕ} {table : List ℕ} → allowed (paper s) ≡ true → w ≡ (card s).width → length table ≡ made_length w → MadeFor w table
-    → Ready s table
-made_ready {s} {w} {table} ok width long made =
-    let whole = take_all (made_length w) table (omega (arith, long)) in
-    record { ok = ok; right = rw (← width, ← whole) made.right; long = rw (← width, long) made.long }
 
 -- ---- `perform`'s: 1, 2, then the call
 module _ (t : plain.Settings) (w : ℕ) (c : Call) (a : Areas) {r : Result Settings Refusal} (answer : r ≡ judged t w c a) where

@@ -2,7 +2,8 @@
 use Rattle.std.proofs.Common.{refl}
 use Rattle.settings.specs.Checked.{paper}
 use Rattle.settings.proofs.Laws.{key_width}
-use Rattle.calls.proofs.CallingLaws.{refuses, allows, made_ready}
+use Rattle.placing.proofs.ReadyLaws.{made_ready}
+use Rattle.calls.proofs.CallingLaws.{refuses, allows}
 use Rattle.calls.proofs.perform.Goals as goal
 
 pub make_table-requires : goal.make_table-requires
@@ -13,7 +14,7 @@ call-requires c =
     let judged = allows _ _ _ _ c.in-Ok.ensures _ refl in
     record {
       ok = judged.ok;
-      ready = λ _. made_ready judged.ok c.width.ensures c.make_table.ensures.length c.make_table.ensures.made;
+      ready = λ _. made_ready _ judged.ok c.width.ensures c.make_table.ensures.length c.make_table.ensures.made;
       lengths = judged.lengths;
     }
 
