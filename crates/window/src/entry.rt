@@ -6,7 +6,7 @@ ghost use Rattle.theory.specs.Window.{most_compared};
 pub struct Entry {
     pub held: bool,
     pub side_compared: bool,
-    pub records_compared: u16,
+    pub records_compared: u32,
     // No search compares more than 64 records.
     ghost few: { records_compared ≤ most_compared },
 }
@@ -24,7 +24,7 @@ impl Entry {
         Entry {
             held: found / 4294967296 == 0,
             side_compared: counts[2] != 0,
-            records_compared: counts[1].min(64) as u16,
+            records_compared: counts[1].min(64),
         }
     }
 }
@@ -41,7 +41,7 @@ impl From<u16> for Entry {
         Entry {
             held: word % 2 == 1,
             side_compared: word / 2 % 2 == 1,
-            records_compared: (word / 4).min(64),
+            records_compared: (u32::from(word) / 4).min(64),
         }
     }
 }
@@ -54,6 +54,6 @@ impl From<Entry> for u16 {
     ghost from_gives = { λ e word. word ≡ entry_word (entry_in e) };
 
     fn from(e: Entry) -> u16 {
-        u16::from(e.held) + 2 * u16::from(e.side_compared) + 4 * e.records_compared
+        (u32::from(e.held) + 2 * u32::from(e.side_compared) + 4 * e.records_compared) as u16
     }
 }

@@ -31,7 +31,7 @@ const RING: usize = 69;
 pub const LENGTH: usize = 1093;
 
 // The entries that the ring has room for.
-const SIZE: u16 = 1024;
+const SIZE: usize = 1024;
 
 // The number of an accepted search: of a held flow below 2^32, of an absent one from 100 * 2^32 on. By ranges of the whole number, since of two tests for
 // an equal answer the compiler makes two branches, and where held and absent flows come in turn the processor would wait at the first.
@@ -67,15 +67,15 @@ fn take_oldest_out(words: &mut [u16])
     requires { length words.old ≡ window_length }
     ensures { words.new ≡ oldest_out words.old }
 {
-    let place = words[OLDEST] % SIZE;
-    let e = Entry::from(words[RING + usize::from(place)]);
-    words[OLDEST] = (place + 1) % SIZE;
+    let place = usize::from(words[OLDEST]) % SIZE;
+    let e = Entry::from(words[RING + place]);
+    words[OLDEST] = ((place + 1) % SIZE) as u16;
     count(
         words,
         65535,
         65536 - u32::from(e.held),
         65536 - u32::from(e.side_compared),
-        usize::from(e.records_compared),
+        e.records_compared as usize,
     );
 }
 
@@ -84,14 +84,14 @@ fn put_in(words: &mut [u16], e: Entry)
     requires { length words.old ≡ window_length }
     ensures { words.new ≡ put_in (entry_in e) words.old }
 {
-    let place = (usize::from(words[OLDEST]) + usize::from(words[MANY])) % usize::from(SIZE);
+    let place = (usize::from(words[OLDEST]) + usize::from(words[MANY])) % SIZE;
     words[RING + place] = u16::from(e);
     count(
         words,
         1,
         u32::from(e.held),
         u32::from(e.side_compared),
-        usize::from(e.records_compared),
+        e.records_compared as usize,
     );
 }
 
@@ -100,11 +100,12 @@ fn put_for_oldest(words: &mut [u16], e: Entry)
     requires { length words.old ≡ window_length }
     ensures { words.new ≡ put_for_oldest (entry_in e) words.old }
 {
-    let oldest = words[OLDEST] % SIZE;
-    let place = (usize::from(words[OLDEST]) + usize::from(words[MANY])) % usize::from(SIZE);
-    let left = Entry::from(words[RING + usize::from(oldest)]);
+    let first = usize::from(words[OLDEST]);
+    let oldest = first % SIZE;
+    let place = (first + usize::from(words[MANY])) % SIZE;
+    let left = Entry::from(words[RING + oldest]);
     words[RING + place] = u16::from(e);
-    words[OLDEST] = (oldest + 1) % SIZE;
+    words[OLDEST] = ((oldest + 1) % SIZE) as u16;
     raise(
         words,
         HELD,
@@ -115,8 +116,8 @@ fn put_for_oldest(words: &mut [u16], e: Entry)
         SIDE,
         u32::from(e.side_compared) + (65536 - u32::from(left.side_compared)),
     );
-    raise(words, COMPARED + usize::from(left.records_compared), 65535);
-    raise(words, COMPARED + usize::from(e.records_compared), 1);
+    raise(words, COMPARED + (left.records_compared as usize), 65535);
+    raise(words, COMPARED + (e.records_compared as usize), 1);
 }
 
 // Empty: 2 for a wrong length.
@@ -142,7 +143,7 @@ pub fn enter(words: &mut [u16], found: u64, counts: &[u32]) -> Result<(), Refusa
         return Ok(());
     }
     let e = Entry::of_search(found, counts);
-    if SIZE <= words[MANY] {
+    if SIZE <= usize::from(words[MANY]) {
         put_for_oldest(words, e);
     } else {
         put_in(words, e);

@@ -1,5 +1,5 @@
 -- An accepted search's entry is put in, in a full window for the oldest.
-use Rattle.std.proofs.Common.{sym, ◌∙◌}
+use Rattle.std.proofs.Common.{sym, ◌∙◌, arith}
 use Rattle.window.specs.Windows.{enter_of}
 use Rattle.window.proofs.WindowAreaLaws.{not_right, refused, entered_full, entered}
 use Rattle.window.proofs.enter.Goals as goal
@@ -12,12 +12,12 @@ pub returns-then-not-accepted : goal.returns-then-not-accepted
 returns-then-not-accepted c =
     refused (record { long = c.if-words-ne-LENGTH.false; three = c.if-counts-ne3.false }) c.args.found (sym c.accepted.ensures ∙ c.if-not-accepted.true)
 
-pub returns-then-words-ge-SIZE : goal.returns-then-words-ge-SIZE
-returns-then-words-ge-SIZE c =
+pub returns-then-from-ge-SIZE : goal.returns-then-from-ge-SIZE
+returns-then-from-ge-SIZE c =
     entered_full (record { long = c.if-words-ne-LENGTH.false; three = c.if-counts-ne3.false }) c.args.found (sym c.accepted.ensures ∙ c.if-not-accepted.false)
-    c.of_search-e.ensures c.if-words-ge-SIZE.true c.put_for_oldest.ensures
+    c.of_search-e.ensures (omega (arith, c.if-from-ge-SIZE.true, c.from.ensures)) c.put_for_oldest.ensures
 
-pub returns-else-words-ge-SIZE : goal.returns-else-words-ge-SIZE
-returns-else-words-ge-SIZE c =
+pub returns-else-from-ge-SIZE : goal.returns-else-from-ge-SIZE
+returns-else-from-ge-SIZE c =
     entered (record { long = c.if-words-ne-LENGTH.false; three = c.if-counts-ne3.false }) c.args.found (sym c.accepted.ensures ∙ c.if-not-accepted.false)
-    c.of_search-e.ensures c.if-words-ge-SIZE.false c.put_in.ensures
+    c.of_search-e.ensures (omega (arith, c.if-from-ge-SIZE.false, c.from.ensures)) c.put_in.ensures

@@ -5,5 +5,5 @@ use Rattle.window.proofs.put_in.Goals as goal
 pub returns : goal.returns
 returns c =
     let e = c.args.e in
-    come_in _ _ c.from.ensures c.from-2.ensures c.from-4.ensures
-    (rw (c.from-3.ensures, flag_is e.held c.from-5.ensures, flag_is e.side_compared c.from-6.ensures, c.from-7.ensures) at c.count.ensures)
+    come_in _ _ c.from.ensures c.from-2.ensures c.from-3.ensures
+    (rw (flag_is e.held c.from-4.ensures, flag_is e.side_compared c.from-5.ensures) at c.count.ensures)

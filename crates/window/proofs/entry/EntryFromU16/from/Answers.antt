@@ -9,4 +9,4 @@ bit x = grind (arith, nat_tests)
 
 pub returns : goal.returns
 unfolding word_entry
-returns c = rw (bit, bit, c.min.ensures)
+returns c = rw (bit, bit, c.min.ensures, c.from.ensures)
