@@ -6,6 +6,7 @@ ghost use Rattle.theory.specs.Window.{most_compared};
 pub struct Entry {
     pub held: bool,
     pub side_compared: bool,
+    // 32 bits wide, as sums with it are: the processor takes longer over sums of 16 bits.
     pub records_compared: u32,
     // No search compares more than 64 records.
     ghost few: { records_compared ≤ most_compared },

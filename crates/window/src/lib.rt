@@ -170,8 +170,8 @@ fn greatest_compared(words: &[u16]) -> u32
     ensures { result ≡ (counts_told words.now).greatest_compared }
 {
     let mut greatest = 0;
-    for (compared, &many) in words[COMPARED..RING].iter().enumerate() {
-        greatest = pick(many != 0, compared as u32, greatest);
+    for compared in 0..RING - COMPARED {
+        greatest = pick(words[COMPARED + compared] != 0, compared as u32, greatest);
     }
     greatest
 }
