@@ -71,14 +71,14 @@ abbrev pub edited_at : Settings → Edit → ℕ → Record → ℕ → List ℕ
 edited_at s edit at x n ledger = edited edit at x (records (card s).width n (drop 2 ledger))
 
 -- what placing the new list asks, of n records in a ledger area: a place of the edit among them, and room in work and kept
-pub record PlacingNew (s : Settings) (table ledger : List ℕ) (n : ℕ) (edit : Edit) (at : ℕ) (bytes work kept : List ℕ) : Type 0 where
+pub record PlacingNew (s : Settings) (table ledger : List ℕ) (n : ℕ) (c : EditCall) (at : ℕ) (work kept : List ℕ) : Type 0 where
   pub ready : Ready s table
   pub words : length work ≡ work_length (card s)
-  pub choices : n - leaves_out edit + brings edit ≤ length kept
+  pub choices : n - leaves_out c.edit + brings c.edit ≤ length kept
   pub room : 2 + n * ((card s).width + class_width) ≤ length ledger
   pub few : n ≤ 4096
-  pub place : at + leaves_out edit ≤ n
-  pub wide : length bytes ≡ (card s).width + class_width
+  pub place : at + leaves_out c.edit ≤ n
+  pub wide : length c.«record».now ≡ (card s).width + class_width
 
 -- a call holds the record of a key of the right width
 pub record HasRecord (s : Settings) (c : EditCall) : Type 0 where
@@ -106,11 +106,11 @@ pub record Planned (s : Settings) (c : EditCall) (ledger : List ℕ) (r : Plan) 
   pub enough : r.need ≤ (card s).side_places
 
 -- what editing the ledger area asks: its rules, the place of the edit in its list, room for the new list, and the size of the record
-pub record EditingLedger (s : Settings) (edit : Edit) (ledger : List ℕ) (at : ℕ) (bytes : List ℕ) : Type 0 where
+pub record EditingLedger (s : Settings) (c : EditCall) (ledger : List ℕ) (at : ℕ) : Type 0 where
   pub valid : ValidLedger s ledger
-  pub place : at + leaves_out edit ≤ length (ledger_records (card s) ledger)
-  pub room : length (ledger_records (card s) ledger) + brings edit ≤ (card s).capacity + leaves_out edit
-  pub wide : length bytes ≡ record_size (card s)
+  pub place : at + leaves_out c.edit ≤ length (ledger_records (card s) ledger)
+  pub room : length (ledger_records (card s) ledger) + brings c.edit ≤ (card s).capacity + leaves_out c.edit
+  pub wide : length c.«record».now ≡ record_size (card s)
 
 -- what writing it asks: areas of their lengths, and the plan
 pub record Making (s : Settings) (c : EditCall) (areas : Areas) (r : Plan) : Type 0 where

@@ -7,7 +7,7 @@ ghost use Rattle.settings.specs.Checked.{card};
 ghost use Rattle.placing.specs.Worked.{Placed};
 ghost use Rattle.update.specs.Editing.{call_of, edited_at, judged_number, PlacingNew, Judging, Planned};
 
-use crate::editing::{Edit, EditCall};
+use crate::editing::EditCall;
 use ledger::spots::find_spot;
 use memory::numbers::count_at;
 use memory::refusals::Refusal;
@@ -28,22 +28,21 @@ fn place_new<'a>(
     table: &[u64],
     ledger: &[u8],
     count: usize,
-    edit: Edit,
+    call: EditCall<'_>,
     at: usize,
-    record: &[u8],
     work: &'a mut [u16],
     kept: &'a mut [u16],
 ) -> Placement<'a>
-    requires { PlacingNew s table.now ledger.now count edit at «record».now work.old kept.old }
-    ensures { (x : Record) → record_bytes x ≡ «record».now → Fit (card s).width x
-        → Placed (card s) (edited_at s edit at x count ledger.now) result }
+    requires { PlacingNew s table.now ledger.now count call at work.old kept.old }
+    ensures { (x : Record) → record_bytes x ≡ call.entry.«record».now → Fit (card s).width x
+        → Placed (card s) (edited_at s call.entry.edit at x count ledger.now) result }
 {
-    let (left_out, brought) = edit.counts();
+    let (left_out, brought) = call.edit.counts();
     let size = s.record_size();
     let from = at + left_out;
     let parts = Parts {
         before: &ledger[2..2 + at * size],
-        between: &record[..brought * size],
+        between: &call.record[..brought * size],
         after: &ledger[2 + from * size..2 + count * size],
     };
     placing::place_parts(
@@ -74,17 +73,7 @@ pub fn judge<'a>(
     let count = count_at(ledger);
     let spot = find_spot(&ledger[2..], count, call.key);
     let at = call.edit.place(s, spot, count)?;
-    let placement = place_new(
-        s,
-        table,
-        ledger,
-        count,
-        call.edit,
-        at,
-        call.record,
-        work,
-        kept,
-    );
+    let placement = place_new(s, table, ledger, count, call, at, work, kept);
     let need = placing::side_need(s, placement);
     if s.side_places < need {
         return Err(Refusal::SideStoreFull);

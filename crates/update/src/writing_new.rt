@@ -13,14 +13,14 @@ use settings::Settings;
 use settings::areas::Areas;
 
 // The ledger area of the new list.
-fn edit_ledger(s: Settings, edit: Edit, ledger: &mut [u8], at: usize, record: &[u8])
-    requires { EditingLedger s edit ledger.old at «record».now }
-    ensures { (x : Record) → record_bytes x ≡ «record».now
-        → ledger.new ≡ counted_places (card s) (card s).capacity (edited edit at x (ledger_records (card s) ledger.old)) }
+fn edit_ledger(s: Settings, call: EditCall<'_>, ledger: &mut [u8], at: usize)
+    requires { EditingLedger s call ledger.old at }
+    ensures { (x : Record) → record_bytes x ≡ call.entry.«record».now
+        → ledger.new ≡ counted_places (card s) (card s).capacity (edited call.entry.edit at x (ledger_records (card s) ledger.old)) }
 {
-    match edit {
-        Edit::Insert => ledger::edits::insert_record(s, ledger, at, record),
-        Edit::Replace => ledger::edits::replace_record(s, ledger, at, record),
+    match call.edit {
+        Edit::Insert => ledger::edits::insert_record(s, ledger, at, call.record),
+        Edit::Replace => ledger::edits::replace_record(s, ledger, at, call.record),
         Edit::Remove => ledger::edits::remove_record(s, ledger, at),
     }
 }
@@ -31,6 +31,6 @@ pub fn write_new(s: Settings, plan: Plan<'_>, call: EditCall<'_>, areas: &mut Ar
     ensures written { contents areas.new ≡ layout (card s) (edited_list s call.entry areas.old.ledger.now) }
     ensures same { SameSlices areas.old areas.new }
 {
-    edit_ledger(s, call.edit, areas.ledger, plan.at, call.record);
+    edit_ledger(s, call, areas.ledger, plan.at);
     writing::write_areas(s, plan.placement, plan.need, areas);
 }

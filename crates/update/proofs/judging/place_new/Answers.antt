@@ -6,14 +6,14 @@ use Rattle.settings.specs.Checked.{paper, card}
 use Rattle.settings.specs.declared.Settings.{Settings}
 use Rattle.settings.proofs.Laws.{work_length_is}
 use Rattle.update.specs.Editing.{PlacingNew, brings, leaves_out}
-use Rattle.update.specs.declared.editing.Edit.{Edit}
+use Rattle.update.specs.declared.editing.EditCall.{EditCall}
 use Rattle.update.proofs.EditKindLaws.{brings_most, size_is, Around, first_within, mid_within, after_within, last_within, all_held, new_list, total_is}
 use Rattle.update.proofs.judging.place_new.Goals as goal
 
 -- what lies around the edit's place, by how many records it leaves out and brings and the size of a record
-around : {s : Settings} {table ledger : List ℕ} {n : ℕ} {edit : Edit} {at : ℕ} {bytes work kept : List ℕ}
-    → PlacingNew s table ledger n edit at bytes work kept → {lo k size : ℕ} → lo ≡ leaves_out edit → k ≡ brings edit → size ≡ record_size (card s)
-    → Around (card s).width edit at n ledger bytes lo k size
+around : {s : Settings} {table ledger : List ℕ} {n : ℕ} {call : EditCall} {at : ℕ} {work kept : List ℕ} → PlacingNew s table ledger n call at work kept
+    → {lo k size : ℕ} → lo ≡ leaves_out call.edit → k ≡ brings call.edit → size ≡ record_size (card s)
+    → Around (card s).width call.edit at n ledger call.«record».now lo k size
 around {s = s} p left brought size =
     record { fits = p.place; room = p.room; wide = p.wide; left = left; brought = brought; size = size ∙ size_is (card s) }
 
@@ -35,7 +35,7 @@ slice_bounds-parts-end c =
 pub slice_bounds-parts-end-2 : goal.slice_bounds-parts-end-2
 slice_bounds-parts-end-2 c =
     let k = c.counts-left_out.ensures in
-    sym (length-take-le _ c.args.«record».now (mid_within (around c.requires k.left_out k.brought c.record_size-size.ensures)))
+    sym (length-take-le _ c.args.call.«record».now (mid_within (around c.requires k.left_out k.brought c.record_size-size.ensures)))
 
 pub overflow_add-parts-2 : goal.overflow_add-parts-2
 overflow_add-parts-2 c =
@@ -64,7 +64,7 @@ place_parts-requires c =
     record {
       ready = p.ready;
       halves = omega (arith, p.words, work_length_is (paper c.args.s));
-      few = omega (arith, all_held a, p.few, brings_most c.args.edit);
+      few = omega (arith, all_held a, p.few, brings_most c.args.call.edit);
       places = length-take-le _ c.args.kept.now (omega (arith, total_is a, p.choices)) ∙ total_is a ∙ sym (all_held a);
     }
 
