@@ -1,6 +1,6 @@
 -- each answer is the definition's
-use Rattle.std.proofs.Common.{◌≡◌, ◌+◌, ◌*◌, ◌≤◌, ℕ, List, ◌-◌, length, take, drop, false, arith, sym, ap, ◌∙◌}
-use Rattle.theory.specs.Settings.{record_size}
+use Rattle.std.proofs.Common.{◌≡◌, ◌+◌, ◌*◌, ◌≤◌, ℕ, List, ◌-◌, length, take, drop, Bool, true, false, not, arith, sym, ap, ◌∙◌}
+use Rattle.theory.specs.Settings.{Card, record_size}
 use Rattle.theory.specs.Records.{count_of}
 use Rattle.theory.specs.Ledger.{side_need_of}
 use Rattle.theory.specs.Calls.{ledger_invalid}
@@ -19,6 +19,10 @@ use Rattle.snapshot.proofs.FileLaws.{few_bytes}
 use Rattle.snapshot.proofs.FullPartLaws.{many, list_within, list_full, list_is}
 use Rattle.snapshot.proofs.SaveLaws.{saves_4, saves_9, saves_12, saves_0}
 use Rattle.snapshot.proofs.saving.save_checked.Goals as goal
+
+-- the ledger was judged to be within its rules
+within_rules : (c : Card) (ledger : List ℕ) {judged : Bool} → judged ≡ not (ledger_invalid c ledger) → judged ≡ true → ledger_invalid c ledger ≡ false
+within_rules c ledger answered told = negated_true _ _ answered told
 
 -- the ledger is within its rules, and has n records of a size
 module _ {s : Settings} {table work ledger : List ℕ} (g : Saving s table work ledger) (valid : ledger_invalid (card s) ledger ≡ false) {n size : ℕ}
@@ -46,22 +50,22 @@ count_at-count-requires c = has_count (card c.args.s) c.args.ledger.now c.requir
 
 pub overflow_mul-list : goal.overflow_mul-list
 overflow_mul-list c =
-    let valid = negated_true c.valid.result (ledger_invalid (card c.args.s) c.args.ledger.now) c.valid.ensures c.if-not-valid.false in
+    let valid = within_rules (card c.args.s) c.args.ledger.now c.valid.ensures c.if-not-valid.false in
     omega (arith, few_sized c.requires valid c.count_at-count.ensures.0 c.record_size.ensures)
 
 pub overflow_add-list : goal.overflow_add-list
 overflow_add-list c =
-    let valid = negated_true c.valid.result (ledger_invalid (card c.args.s) c.args.ledger.now) c.valid.ensures c.if-not-valid.false in
+    let valid = within_rules (card c.args.s) c.args.ledger.now c.valid.ensures c.if-not-valid.false in
     omega (arith, few_sized c.requires valid c.count_at-count.ensures.0 c.record_size.ensures)
 
 pub slice_bounds-list-end : goal.slice_bounds-list-end
 slice_bounds-list-end c =
-    let valid = negated_true c.valid.result (ledger_invalid (card c.args.s) c.args.ledger.now) c.valid.ensures c.if-not-valid.false in
+    let valid = within_rules (card c.args.s) c.args.ledger.now c.valid.ensures c.if-not-valid.false in
     list_within (card c.args.s) c.args.ledger.now c.requires.whole valid c.count_at-count.ensures.0 c.record_size.ensures
 
 pub place_list-placement-requires : goal.place_list-placement-requires
 place_list-placement-requires c =
-    let valid = negated_true c.valid.result (ledger_invalid (card c.args.s) c.args.ledger.now) c.valid.ensures c.if-not-valid.false in
+    let valid = within_rules (card c.args.s) c.args.ledger.now c.valid.ensures c.if-not-valid.false in
     let few = few_kept c.requires valid c.count_at-count.ensures.0 c.record_size.ensures in
     record {
       ready = c.requires.ready;
@@ -77,14 +81,14 @@ side_need-need-requires-clause-within c = placed_within c.place_list-placement.e
 -- the records of the ledger are placed, so the side need is theirs
 pub returns-then-s-need : goal.returns-then-s-need
 returns-then-s-need c =
-    let valid = negated_true c.valid.result (ledger_invalid (card c.args.s) c.args.ledger.now) c.valid.ensures c.if-not-valid.false in
+    let valid = within_rules (card c.args.s) c.args.ledger.now c.valid.ensures c.if-not-valid.false in
     let is = list_is (card c.args.s) c.args.ledger.now c.requires.whole valid c.count_at-count.ensures.0 c.record_size.ensures in
     let need = c.side_need-need.ensures _ c.place_list-placement.ensures ∙ ap (side_need_of (card c.args.s)) is in
     saves_9 c.requires c.args.target.now valid need (omega (arith, c.if-s-need.true, side_places_are (paper c.args.s)))
 
 pub overflow_add-saved_head_size : goal.overflow_add-saved_head_size
 overflow_add-saved_head_size c =
-    let valid = negated_true c.valid.result (ledger_invalid (card c.args.s) c.args.ledger.now) c.valid.ensures c.if-not-valid.false in
+    let valid = within_rules (card c.args.s) c.args.ledger.now c.valid.ensures c.if-not-valid.false in
     let count = c.count_at-count.ensures.0 in
     let small = few_sized c.requires valid count c.record_size.ensures in
     let full = full c.requires valid count c.record_size.ensures in
@@ -92,7 +96,7 @@ overflow_add-saved_head_size c =
 
 pub returns-then-target-saved_head_size : goal.returns-then-target-saved_head_size
 returns-then-target-saved_head_size c =
-    let valid = negated_true c.valid.result (ledger_invalid (card c.args.s) c.args.ledger.now) c.valid.ensures c.if-not-valid.false in
+    let valid = within_rules (card c.args.s) c.args.ledger.now c.valid.ensures c.if-not-valid.false in
     let is = list_is (card c.args.s) c.args.ledger.now c.requires.whole valid c.count_at-count.ensures.0 c.record_size.ensures in
     let need = c.side_need-need.ensures _ c.place_list-placement.ensures ∙ ap (side_need_of (card c.args.s)) is in
     saves_12 c.requires c.args.target.now valid need (omega (arith, c.if-s-need.false, side_places_are (paper c.args.s))) c.saved_head_size.ensures
@@ -101,7 +105,7 @@ returns-then-target-saved_head_size c =
 
 pub write_snapshot-requires : goal.write_snapshot-requires
 write_snapshot-requires c =
-    let valid = negated_true c.valid.result (ledger_invalid (card c.args.s) c.args.ledger.now) c.valid.ensures c.if-not-valid.false in
+    let valid = within_rules (card c.args.s) c.args.ledger.now c.valid.ensures c.if-not-valid.false in
     record {
       ok = c.requires.ready.ok;
       full = full c.requires valid c.count_at-count.ensures.0 c.record_size.ensures;
@@ -113,7 +117,7 @@ write_snapshot-requires c =
 
 pub returns : goal.returns
 returns c =
-    let valid = negated_true c.valid.result (ledger_invalid (card c.args.s) c.args.ledger.now) c.valid.ensures c.if-not-valid.false in
+    let valid = within_rules (card c.args.s) c.args.ledger.now c.valid.ensures c.if-not-valid.false in
     let is = list_is (card c.args.s) c.args.ledger.now c.requires.whole valid c.count_at-count.ensures.0 c.record_size.ensures in
     let need = c.side_need-need.ensures _ c.place_list-placement.ensures ∙ ap (side_need_of (card c.args.s)) is in
     saves_0 c.requires c.args.target.now valid need (omega (arith, c.if-s-need.false, side_places_are (paper c.args.s))) c.saved_head_size.ensures

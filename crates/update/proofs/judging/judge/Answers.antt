@@ -1,8 +1,9 @@
 -- the ledger's rules, then the place of the key, then the side need of the list that the edit would make
-use Rattle.std.proofs.Common.{◌≡◌, ℕ, ◌-◌, ◌≤◌, List, length, take, drop, false, arith, sym, ap, ◌∙◌}
+use Rattle.std.proofs.Common.{◌≡◌, ℕ, ◌-◌, ◌≤◌, List, length, take, drop, Bool, true, false, not, arith, sym, ap, ◌∙◌}
 use Rattle.std.proofs.lemmas.Result.{err_from_is_err_and}
 use Rattle.std.specs.Prelude.{Result}
 use Rattle.theory.proofs.ListLaws.{negated_false, negated_true}
+use Rattle.theory.specs.Settings.{Card}
 use Rattle.theory.specs.Records.{Record, count_of, records}
 use Rattle.theory.specs.Calls.{ledger_records, ledger_invalid}
 use Rattle.theory.proofs.SettingsLaws.{ranges, sound}
@@ -25,6 +26,10 @@ use Rattle.update.proofs.PlanLaws.{judged_4, judged_by_list, judged_9, judged_0}
 use Rattle.memory.proofs.SliceLaws.{bytes_of}
 use Rattle.update.proofs.WriteLaws.{all_edited}
 use Rattle.update.proofs.judging.judge.Goals as goal
+
+-- the ledger was judged to be within its rules
+within_rules : (c : Card) (ledger : List ℕ) {judged : Bool} → judged ≡ not (ledger_invalid c ledger) → judged ≡ true → ledger_invalid c ledger ≡ false
+within_rules c ledger answered told = negated_true _ _ answered told
 
 module _ {s : Settings} {table ledger : List ℕ} {call : EditCall} {work kept : List ℕ} (asked : Judging s table ledger call work kept) where
   -- the record of the call
@@ -73,17 +78,17 @@ slice_bounds-find_spot-start c = has_count (card c.args.s) c.args.ledger.now c.r
 
 pub find_spot-spot-requires-clause-room : goal.find_spot-spot-requires-clause-room
 find_spot-spot-requires-clause-room c =
-    let valid = negated_true c.valid.result (ledger_invalid (card c.args.s) c.args.ledger.now) c.valid.ensures c.if-not-valid.false in
+    let valid = within_rules (card c.args.s) c.args.ledger.now c.valid.ensures c.if-not-valid.false in
     search_room _ _ c.requires.whole valid _ c.count_at-count.ensures.0 c.args.call.key.now c.requires.call.wide
 
 pub find_spot-spot-requires-clause-rising : goal.find_spot-spot-requires-clause-rising
 find_spot-spot-requires-clause-rising c =
-    let valid = negated_true c.valid.result (ledger_invalid (card c.args.s) c.args.ledger.now) c.valid.ensures c.if-not-valid.false in
+    let valid = within_rules (card c.args.s) c.args.ledger.now c.valid.ensures c.if-not-valid.false in
     search_rises _ _ c.requires.whole valid _ c.count_at-count.ensures.0 c.args.call.key.now c.requires.call.wide
 
 pub returns-in_err-at-clause-number : goal.returns-in_err-at-clause-number
 returns-in_err-at-clause-number c =
-    let valid = negated_true c.valid.result (ledger_invalid (card c.args.s) c.args.ledger.now) c.valid.ensures c.if-not-valid.false in
+    let valid = within_rules (card c.args.s) c.args.ledger.now c.valid.ensures c.if-not-valid.false in
     let known = found c.requires valid c.count_at-count.ensures.0 c.find_spot-spot.result c.find_spot-spot.ensures in
     let p = err_from_is_err_and c.from_residual.result c.from_residual.ensures.1 in
     let by_list = c.in_err-at.ensures.number in
@@ -91,7 +96,7 @@ returns-in_err-at-clause-number c =
 
 pub place_new-placement-requires : goal.place_new-placement-requires
 place_new-placement-requires c =
-    let valid = negated_true c.valid.result (ledger_invalid (card c.args.s) c.args.ledger.now) c.valid.ensures c.if-not-valid.false in
+    let valid = within_rules (card c.args.s) c.args.ledger.now c.valid.ensures c.if-not-valid.false in
     let count = c.count_at-count.ensures.0 in
     let accepted = accepted c.requires valid count c.find_spot-spot.result c.find_spot-spot.ensures (sym c.in_ok-at.ensures.number) in
     let t = paper c.args.s in
@@ -115,7 +120,7 @@ side_need-need-requires-clause-within c =
 -- the new list is placed, so the side need is its own
 pub returns-then-s-need-clause-number : goal.returns-then-s-need-clause-number
 returns-then-s-need-clause-number c =
-    let valid = negated_true c.valid.result (ledger_invalid (card c.args.s) c.args.ledger.now) c.valid.ensures c.if-not-valid.false in
+    let valid = within_rules (card c.args.s) c.args.ledger.now c.valid.ensures c.if-not-valid.false in
     let count = c.count_at-count.ensures.0 in
     let accepted = accepted c.requires valid count c.find_spot-spot.result c.find_spot-spot.ensures (sym c.in_ok-at.ensures.number) in
     let placed = placed c.requires c.find_spot-spot.result count c.in_ok-at.ensures.place
@@ -124,7 +129,7 @@ returns-then-s-need-clause-number c =
 
 pub returns-clause-number : goal.returns-clause-number
 returns-clause-number c =
-    let valid = negated_true c.valid.result (ledger_invalid (card c.args.s) c.args.ledger.now) c.valid.ensures c.if-not-valid.false in
+    let valid = within_rules (card c.args.s) c.args.ledger.now c.valid.ensures c.if-not-valid.false in
     let count = c.count_at-count.ensures.0 in
     let accepted = accepted c.requires valid count c.find_spot-spot.result c.find_spot-spot.ensures (sym c.in_ok-at.ensures.number) in
     let placed = placed c.requires c.find_spot-spot.result count c.in_ok-at.ensures.place
@@ -133,7 +138,7 @@ returns-clause-number c =
 
 pub returns-clause-planned : goal.returns-clause-planned
 returns-clause-planned c =
-    let valid = negated_true c.valid.result (ledger_invalid (card c.args.s) c.args.ledger.now) c.valid.ensures c.if-not-valid.false in
+    let valid = within_rules (card c.args.s) c.args.ledger.now c.valid.ensures c.if-not-valid.false in
     let count = c.count_at-count.ensures.0 in
     let accepted = accepted c.requires valid count c.find_spot-spot.result c.find_spot-spot.ensures (sym c.in_ok-at.ensures.number) in
     let placed = placed c.requires c.find_spot-spot.result count c.in_ok-at.ensures.place
