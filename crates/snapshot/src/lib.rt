@@ -45,7 +45,7 @@ fn saved_head_size(s: Settings) -> usize
     head_size(first_count(s))
 }
 
-// The list of `count` records that fill a part, placed.
+// The list of `count` records that fill a part, placed. The count is at hand where this is called, and would be a division here.
 fn place_list<'a>(
     s: Settings,
     table: &[u64],

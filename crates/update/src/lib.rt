@@ -35,7 +35,7 @@ fn record_in<'a>(buffer: &'a mut [u8], key: &[u8], class: u32) -> &'a [u8]
     &*place
 }
 
-// The ledger area, to be read.
+// The ledger area, lent to be read: what is lent so comes back as it was.
 fn ledger_of<'a>(areas: &'a Areas<'_>) -> &'a [u8]
     ensures { result.now ≡ areas.now.ledger.now }
 {
