@@ -1,21 +1,22 @@
 -- Laws of a trial's numbers: what a call adds, and that 64 bits hold what 2^32 calls add.
-use mathlib.Core.Path.{◌≡◌}
-use mathlib.Core.Bool.{cond}
-use Prim.Native.Nat.{ℕ, ◌+◌, ◌*◌, ◌≤◌, ◌<◌}
+use mathlib.Core.Path.{◌≡◌, refl}
+use mathlib.Core.Bool.{Bool, true, false, cond}
+use mir.Val.{bool_byte}
+use Prim.Native.Nat.{ℕ, ◌+◌, ◌*◌, ◌≤◌, ◌<◌, max}
 use native.Mathlib.Omega.{arith}
-use lib.Dec.{eqb}
-use Rattle.theory.specs.Ledger.{Reply}
-use Rattle.theory.specs.Calls.{reply_number, reply_compared}
-use Rattle.theory.specs.Trials.{Numbers, no_numbers, greater, counted}
+use lib.Dec.{ltb}
+use borrow.Author.Tests.{ltb-true, ltb-false}
+use Rattle.theory.specs.Trials.{Numbers, no_numbers, greater}
+use Rattle.theory.proofs.ListLaws.{by_test}
 use Rattle.trials.specs.Data.{Growing, Grown}
 
--- the six fields by the reply's number and its records compared
-pub counted_is : (r : Reply) (need number compared : ℕ) (x : Numbers) (a b c d e : ℕ) → number ≡ reply_number r → compared ≡ reply_compared r
-    → a ≡ greater x.greatest_need need → b ≡ x.refused_6 + cond (eqb number 6) 1 0 → c ≡ x.refused_7 + cond (eqb number 7) 1 0
-    → d ≡ x.refused_8 + cond (eqb number 8) 1 0 → e ≡ x.refused_9 + cond (eqb number 9) 1 0
-    → record { greatest_need = a; refused_6 = b; refused_7 = c; refused_8 = d; refused_9 = e; compared = x.compared + compared } ≡ counted r need x
-unfolding counted
-counted_is r need number compared x a b c d e f₁ f₂ f₃ f₄ f₅ f₆ f₇ = rw (f₃, f₄, f₅, f₆, f₇, f₁, f₂)
+pub byte_is : (b : Bool) → bool_byte b ≡ cond b 1 0
+byte_is true = refl
+byte_is false = refl
+
+pub greater_is : (a b : ℕ) → max a b ≡ greater a b
+greater_is a b =
+    by_test (ltb a b) (λ q. let less : a < b = ltb-true a b q in rw q (omega arith)) (λ q. let more : b ≤ a = ltb-false a b q in rw q (omega arith))
 
 -- with so many calls left, of 2^32 at most
 pub record Bounded (left : ℕ) (x : Numbers) : Type 0 where

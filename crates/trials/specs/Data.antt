@@ -1,12 +1,13 @@
 -- A trial's numbers and what its settings are judged to be, as the code holds them.
-use Rattle.std.specs.Prelude.{cond, not, List, ℕ, ◌+◌, ◌≤◌, ◌<◌, ltb, length}
+use Rattle.std.specs.Prelude.{cond, not, List, ℕ, ◌+◌, ◌≤◌, ◌<◌, ltb, length, Result, Ok, Err}
 use Rattle.theory.specs.Settings.{allowed, card_of}
 use Rattle.theory.specs.Trials as plain
 use Rattle.theory.specs.Trials.{trial_settings, area_above}
+use Rattle.memory.specs.declared.refusals.Refusal.{Refusal}
+use Rattle.memory.specs.declared.refusals.Refusal.TheVariants.{SettingOutOfRange, WrongAreaLength, UnknownCall}
+use Rattle.settings.specs.declared.Settings.{Settings}
 use Rattle.settings.specs.Checked.{code}
 use Rattle.trials.specs.declared.numbers.Numbers.{Numbers}
-use Rattle.trials.specs.declared.judging.Judged.{Judged}
-use Rattle.trials.specs.declared.judging.Judged.TheVariants.{Ready, Refused}
 
 abbrev pub numbers_of : Numbers → plain.Numbers
 numbers_of x =
@@ -18,6 +19,11 @@ numbers_of x =
       refused_9 = x.refused_9;
       compared = x.compared;
     }
+
+-- the numbers that a line shows: zeros where the trial is refused
+abbrev pub numbers_told : Result Numbers Refusal → plain.Numbers
+numbers_told (Ok x) = numbers_of x
+numbers_told (Err e) = plain.no_numbers
 
 -- numbers to which a call can still add: one to a refusal, and 32 bits of records compared
 pub record Growing (x : plain.Numbers) : Type 0 where
@@ -36,7 +42,8 @@ pub record Grown (x y : plain.Numbers) : Type 0 where
   pub compared : y.compared ≤ x.compared + 4294967295
 
 -- what the bytes of a trial are judged to be: refused with `trial_answer`, else its settings
-unfoldable pub judged_trial : List ℕ → Judged
+unfoldable pub judged_trial : List ℕ → Result Settings Refusal
 judged_trial b =
-    cond (ltb (length b) 12) (Refused 14)
-    (cond (not (allowed (trial_settings b))) (Refused 1) (cond (area_above (card_of (trial_settings b))) (Refused 2) (Ready (code (trial_settings b)))))
+    cond (ltb (length b) 12) (Err UnknownCall)
+    (cond (not (allowed (trial_settings b))) (Err SettingOutOfRange)
+    (cond (area_above (card_of (trial_settings b))) (Err WrongAreaLength) (Ok (code (trial_settings b)))))

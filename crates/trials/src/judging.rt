@@ -1,28 +1,24 @@
 // A trial's answer, from the bytes of its settings: 14, 1, 2, else 0.
-ghost use Rattle.std.specs.Prelude.{◌≡◌, true, ◌<◌, ◌≤◌, ltb, length};
+ghost use Rattle.std.specs.Prelude.{◌≡◌, true, ◌<◌, ◌≤◌, length};
 ghost use Rattle.theory.specs.Settings.{allowed};
 ghost use Rattle.theory.specs.Trials.{trial_setting, trial_settings, area_above};
 ghost use Rattle.settings.specs.Checked.{paper, given_of, card};
 ghost use Rattle.trials.specs.Data.{judged_trial};
 
 use memory::numbers::count_at;
-use settings::{Checked, Given, Settings};
-
-#[derive(Clone, Copy)]
-pub enum Judged {
-    Ready(Settings),
-    Refused(u32),
-}
+use memory::refusals::Refusal;
+use settings::{Given, Settings};
 
 // "six two-byte settings": setting i, from 0.
 fn setting(bytes: &[u8], i: usize) -> u64
-    requires { (12 ≤ length bytes.now) × (i < 6) }
+    requires bytes { 12 ≤ length bytes.now }
+    requires few { i < 6 }
     ensures { result ≡ trial_setting bytes.now i }
 {
-    let at = 2 * i;
-    count_at(&bytes[at..]) as u64
+    count_at(&bytes[2 * i..]) as u64
 }
 
+#[tactic(auto, unfolding(theory::specs::Trials::trial_settings))]
 fn read_settings(bytes: &[u8]) -> Given
     requires { 12 ≤ length bytes.now }
     ensures { given_of result ≡ trial_settings bytes.now }
@@ -41,40 +37,33 @@ fn read_settings(bytes: &[u8]) -> Given
 // "64 KiB"
 pub const AREA_MOST: usize = 65536;
 
-fn above(bytes: usize) -> bool
-    ensures { result ≡ ltb 65536 bytes }
-{
-    AREA_MOST < bytes
-}
-
 // "an area above 64 KiB": one of document 01's six, of which true counts and work have two bytes a number.
+#[tactic(auto, unfolding(theory::specs::Trials::area_above, theory::specs::Trials::area_bytes))]
 fn area_above(s: Settings) -> bool
     requires { allowed (paper s) ≡ true }
     ensures { result ≡ area_above (card s) }
 {
-    let ledger = above(s.ledger_length());
-    let true_counts = above(2 * s.true_length());
-    let clipped = above(s.clipped_length());
-    let buckets = above(s.buckets_length());
-    let side = above(s.side_length());
-    let work = above(2 * s.work_length());
-    ledger | (true_counts | (clipped | (buckets | (side | work))))
+    let areas = [
+        s.ledger_length(),
+        2 * s.true_length(),
+        s.clipped_length(),
+        s.buckets_length(),
+        s.side_length(),
+        2 * s.work_length(),
+    ];
+    areas.iter().any(|bytes| AREA_MOST < *bytes)
 }
 
 // "1 (a setting out of range), 2 (an area above 64 KiB) or 14 (settings cut short)"
-pub fn judge(bytes: &[u8]) -> Judged
+pub fn judge(bytes: &[u8]) -> Result<Settings, Refusal>
     ensures { result ≡ judged_trial bytes.now }
 {
     if bytes.len() < 12 {
-        return Judged::Refused(14);
+        return Err(Refusal::UnknownCall);
     }
-    let given = read_settings(bytes);
-    let checked = Settings::new(given);
-    let Checked::Allowed(s) = checked else {
-        return Judged::Refused(1);
-    };
+    let s = Settings::new(read_settings(bytes))?;
     if area_above(s) {
-        return Judged::Refused(2);
+        return Err(Refusal::WrongAreaLength);
     }
-    Judged::Ready(s)
+    Ok(s)
 }

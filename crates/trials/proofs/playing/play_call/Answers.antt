@@ -1,19 +1,35 @@
 -- `trials::playing::play_call` meets its contract: the call is made of the two numbers, the law `played_by`.
-use native.Mathlib.Omega.{arith}
+use Rattle.std.proofs.Common.{◌≡◌, ap, ◌∙◌, arith, length}
+use Rattle.theory.specs.Records.{count_of}
+use Rattle.theory.specs.Layout.{Areas}
+use Rattle.theory.specs.BenchLoad.{draw, load_call}
+use Rattle.theory.proofs.SettingsLaws.{sound}
 use Rattle.settings.specs.Checked.{paper, card}
 use Rattle.settings.proofs.Laws.{bounds}
+use Rattle.bench_load.specs.Loads.{generator_of, flows_of}
+use Rattle.calls.specs.Data.{call_of}
 use Rattle.calls.proofs.CallingLaws.{callable}
-use Rattle.trials.proofs.PlayLaws.{played_by}
+use Rattle.trials.proofs.PlayLaws.{holds_sized, holds_next, played_by}
 use Rattle.trials.proofs.playing.play_call.Goals as goal
 
 pub call-reply-requires : goal.call-reply-requires
-call-reply-requires c = let playing = c.requires.0 in callable playing.ready playing.words playing.sized _ _ _
+call-reply-requires c =
+    let playing = c.requires.playing in
+    callable playing.ready playing.words (holds_sized (card c.args.s) (sound (paper c.args.s) playing.ready.ok) playing.held) _
 
-pub count_at-requires : goal.count_at-requires
-count_at-requires c =
-    omega (arith, c.call-reply.auto.side, c.requires.0.sized.side_store, (bounds (paper c.args.s) c.requires.0.ready.ok).side_least)
+pub count_at-need-requires : goal.count_at-need-requires
+count_at-need-requires c =
+    let playing = c.requires.playing in
+    let is : call_of c.picked_call.result ≡ load_call (flows_of c.args.flows) (draw (generator_of c.args.generator.now)) =
+    c.picked_call.ensures _ _ (c.write_key.ensures _) ∙ ap (load_call (flows_of c.args.flows)) c.next_two-first.ensures.numbers in
+    let after = holds_next _ _ playing is c.call-reply.ensures.called in
+    let long = (holds_sized (card c.args.s) (sound (paper c.args.s) playing.ready.ok) after).side_store in
+    let side = ap (λ (z : Areas). length z.side_store) c.lookup.ensures in
+    omega (arith, long, side, (bounds (paper c.args.s) playing.ready.ok).side_least)
 
-pub returns : goal.returns
-returns c =
-    played_by (card c.args.s) c.args.flows c.args.first c.args.second c.kind_of.result _ _ (c.kind_of.ensures c.args.flows c.args.second)
-    (c.write_key.ensures c.args.first) (c.class_of.ensures c.args.second) _ _ _ _ _ _ c.call-reply.ensures c.count_at.ensures.0 c.counted.ensures
+pub returns-clause-played : goal.returns-clause-played
+returns-clause-played c =
+    let is : call_of c.picked_call.result ≡ load_call (flows_of c.args.flows) (draw (generator_of c.args.generator.now)) =
+    c.picked_call.ensures _ _ (c.write_key.ensures _) ∙ ap (load_call (flows_of c.args.flows)) c.next_two-first.ensures.numbers in
+    played_by _ is c.call-reply.ensures.called
+    (c.count_at-need.ensures.0 ∙ ap (λ (z : Areas). count_of z.side_store) c.lookup.ensures) c.count.ensures.counted c.count.ensures.grown
