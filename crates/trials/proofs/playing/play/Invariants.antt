@@ -9,7 +9,7 @@ use Rattle.trials.proofs.playing.play.Given as goal
 abbrev pub invariant-loop-call : goal.invariant-loop-call
 invariant-loop-call l =
     record {
-      going : Going l.s l.table (flows_of l.load.flows) (generator_of l.initial.generator) l._call-end (contents l.initial.areas)
+      going : Going l.s l.table (flows_of l.flows) (generator_of l.initial.generator) l._call-end (contents l.initial.areas)
           (numbers_of l.initial.numbers) l.work (contents l.areas) (generator_of l.generator) (l._call-end - l._call) (numbers_of l.numbers);
       slices : SameSlices l.initial.areas l.areas;
     }
