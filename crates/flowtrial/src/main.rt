@@ -2,115 +2,86 @@
 // is run. It only reads and writes; crate trials judges, plays and makes the lines, and crate streams reads and writes.
 #![tactic(auto)]
 
-ghost use Rattle.std.specs.Prelude.{◌≡◌, true, suc, length};
+ghost use Rattle.std.specs.Bool.{OnTrue};
+ghost use Rattle.std.specs.Prelude.{◌≡◌, suc, IfOk};
+ghost use Rattle.settings.specs.Areas.{contents, SameSlices};
 ghost use Rattle.trials.specs.Playing.{Playable, Lent};
 ghost use Rattle.trials.specs.Telling.{TrialsPlayable};
 
-use bench_load::{Asked, BenchLoad};
-use streams::Got;
+use bench_load::BenchLoad;
+use settings::areas::Areas;
+use streams::Failed;
 use trials::Trials;
 
-// 64 KiB of two-byte numbers.
-fn large_numbers() -> [u16; 32768]
-    ensures { length result ≡ 32768 }
-{
-    [0; 32768]
-}
+// Nothing says that an input ends, and a proved loop has to: no run comes to so many trials.
+const MOST_TRIALS: u64 = 1125899906842623;
 
-// What is left after a trial, and whether its line was written and more may follow.
-#[derive(Clone, Copy)]
-struct Next {
-    left: Trials,
-    more: bool,
-}
-
-// The next trial: its settings read, its line written.
+// The next trial: its settings read, its line written. Whether more may follow.
 fn run_next(
     rt: &HostRuntime,
-    left: Trials,
-    ledger: &mut [u8],
-    true_counts: &mut [u16],
-    clipped: &mut [u8],
-    buckets: &mut [u8],
-    side: &mut [u8],
+    left: &mut Trials,
+    areas: &mut Areas<'_>,
     work: &mut [u16],
-) -> Next
-    requires { TrialsPlayable left × Lent ledger.old true_counts.old clipped.old buckets.old side.old work.old }
-    ensures { result.more ≡ true → (result.left.load ≡ left.load) × (result.left.number ≡ suc left.number) }
+) -> Result<bool, Failed>
+    requires playable { TrialsPlayable left.old }
+    requires lent { Lent (contents areas.old) work.old }
+    ensures next { IfOk result (λ more. OnTrue more ((left.new.load ≡ left.old.load) × (left.new.number ≡ suc left.old.number))) }
+    ensures kept { Lent (contents areas.new) work.new }
+    ensures same { SameSlices areas.old areas.new }
 {
     let mut settings = [0u8; 12];
-    let read = streams::read_full(rt, &mut settings);
-    let Got::Bytes(got) = read else {
-        return Next { left, more: false };
+    let Some(got) = streams::read_full(rt, &mut settings)? else {
+        return Ok(false);
     };
     let mut line = [0u8; 168];
-    let told = trials::tell_next(
-        left,
-        &settings[..got],
-        ledger,
-        true_counts,
-        clipped,
-        buckets,
-        side,
-        work,
-        &mut line,
-    );
-    let bytes = told.bytes;
-    let rest = told.rest;
-    Next {
-        left: rest,
-        more: streams::write_all(rt, &line[..bytes]) & (got == 12),
-    }
+    let bytes = left.tell_next(&settings[..got], areas, work, &mut line);
+    streams::write_all(rt, &line[..bytes])?;
+    Ok(got == 12)
 }
 
-// Trials up to the end of the input. A proved loop has to end, and nothing says that an input does: no run comes to the last number.
+// Trials up to the end of the input.
 fn run_trials(
     rt: &HostRuntime,
     load: BenchLoad,
-    ledger: &mut [u8],
-    true_counts: &mut [u16],
-    clipped: &mut [u8],
-    buckets: &mut [u8],
-    side: &mut [u8],
+    areas: &mut Areas<'_>,
     work: &mut [u16],
-)
-    requires { Playable load × Lent ledger.old true_counts.old clipped.old buckets.old side.old work.old }
+) -> Result<(), Failed>
+    requires playable { Playable load }
+    requires lent { Lent (contents areas.old) work.old }
 {
     let mut left = trials::all_trials(load);
-    while left.number < 1125899906842624 {
-        let next = run_next(rt, left, ledger, true_counts, clipped, buckets, side, work);
-        if !next.more {
-            return;
+    for _trial in 0..MOST_TRIALS {
+        if !run_next(rt, &mut left, areas, work)? {
+            break;
         }
-        left = next.left;
     }
+    Ok(())
 }
 
 // "A bad load gives 15 and prints nothing." Each trial is lent parts of six areas of 64 KiB.
-fn main(rt: HostRuntime) {
+fn run(rt: &HostRuntime) -> Result<(), Failed> {
     let mut input = [0u8; 32];
-    let read = streams::read_full(&rt, &mut input);
-    let Got::Bytes(got) = read else {
-        return;
+    let got = streams::read_full(rt, &mut input)?.unwrap_or(0);
+    let Ok(load) = trials::read_load(&input[..got]) else {
+        return Ok(());
     };
-    let asked = trials::read_load(&input[..got]);
-    let Asked::Load(load) = asked else {
-        return;
+    let mut ledger = [0u8; 65536];
+    let mut true_counts = [0u16; 32768];
+    let mut clipped = [0u8; 65536];
+    let mut buckets = [0u8; 65536];
+    let mut side = [0u8; 65536];
+    let mut work = [0u16; 32768];
+    let mut areas = Areas {
+        ledger: &mut ledger,
+        true_counts: &mut true_counts,
+        clipped: &mut clipped,
+        buckets: &mut buckets,
+        side: &mut side,
     };
-    let mut ledger = io::large_buffer();
-    let mut true_counts = large_numbers();
-    let mut clipped = io::large_buffer();
-    let mut buckets = io::large_buffer();
-    let mut side = io::large_buffer();
-    let mut work = large_numbers();
-    run_trials(
-        &rt,
-        load,
-        &mut ledger,
-        &mut true_counts,
-        &mut clipped,
-        &mut buckets,
-        &mut side,
-        &mut work,
-    );
+    run_trials(rt, load, &mut areas, &mut work)
+}
+
+// What fails is said where it fails.
+fn main(rt: HostRuntime) {
+    let _ = run(&rt);
 }
