@@ -137,22 +137,23 @@ fn is_refusal(number: u32) -> bool
     (0 < number) & (number < 100)
 }
 
-// The number of an answer, and other numbers of it in a lent area: 1; 2 also when that area is not of so many; then the search's own refusal.
-fn give<T: Copy>(answer: Answer, numbers: &[T], area: &mut [T]) -> u64
+// The number of an answer, and other numbers of it in a lent area: 1; 2 also when that area is not of so many; then the search's own refusal. The area is
+// written as an array: by `copy_from_slice` it would cost half a nanosecond more, since the compiler asks whether the two overlap.
+fn give<T: Copy, const N: usize>(answer: Answer, numbers: [T; N], area: &mut [T]) -> u64
     requires { answer.number ≤ 100 }
-    ensures told { result ≡ driver_number (told_of (answer_of answer) (eqb (length area.old) (length numbers.now))) }
+    ensures told { result ≡ driver_number (told_of (answer_of answer) (eqb (length area.old) (length numbers))) }
     ensures given { area.new
-        ≡ cond (is_given (answer_of answer) (eqb (length area.old) (length numbers.now))) numbers.now area.old }
+        ≡ cond (is_given (answer_of answer) (eqb (length area.old) (length numbers))) numbers area.old }
 {
     let number = answer.number;
     if number == Refusal::SettingOutOfRange.number() {
         return driver_number(answer);
     }
-    if area.len() != numbers.len() {
+    let Some(area) = area.as_mut_array() else {
         return driver_number(refused(Refusal::WrongAreaLength));
-    }
+    };
     if !is_refusal(number) {
-        area.copy_from_slice(numbers);
+        *area = numbers;
     }
     driver_number(answer)
 }
@@ -220,7 +221,7 @@ pub extern "C" fn flow_search_place(
         side,
     };
     let found = lookup::locating::locate(given, areas, key);
-    give(found.answer, &place_of(found), place)
+    give(found.answer, place_of(found), place)
 }
 
 // Search, with its counts: 1; 2, also if `counts` is not of 3 numbers; 3; 5; else `counts` holds buckets read, records compared, and 1 where the side store
@@ -259,7 +260,7 @@ pub extern "C" fn flow_search_counts(
         side,
     };
     let answer = lookup::locating::locate(given, areas, key).answer;
-    give(answer, &counts_of(answer), counts)
+    give(answer, counts_of(answer), counts)
 }
 
 // The same with a table that the driver keeps.
@@ -298,7 +299,7 @@ pub extern "C" fn flow_search_counts_lent(
         side,
     };
     let answer = lookup::searching::search_with_table(table, given, areas, key);
-    give(answer, &counts_of(answer), counts)
+    give(answer, counts_of(answer), counts)
 }
 
 // Tally: 1; 2; 4; 5; else its four numbers.

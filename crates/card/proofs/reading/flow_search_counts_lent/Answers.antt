@@ -1,11 +1,11 @@
 -- What the search says, given with its counts.
-use Rattle.std.proofs.Common.{◌∙◌}
+use Rattle.std.proofs.Common.{◌∙◌, arith}
 use Rattle.lookup.proofs.WithTableLaws.{with_few}
 use Rattle.card.proofs.ReadingLaws.{given_is, counted_with, given_few}
 use Rattle.card.proofs.reading.flow_search_counts_lent.Goals as goal
 
 pub give-requires : goal.give-requires
-give-requires c = given_few (with_few _ _ _ _ _ _) c.search_with_table-answer.ensures
+give-requires c = (omega arith, given_few (with_few _ _ _ _ _ _) c.search_with_table-answer.ensures)
 
 pub returns : goal.returns
 returns c =
