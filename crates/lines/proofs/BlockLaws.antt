@@ -49,9 +49,6 @@ module _ (w n : ℕ) (input : List ℕ) (a : Areas) (empty : List ℕ) where
     }
     pub text : Writes (take t.end t.bytes.now) empty t.bytes.now t.end
 
-  pub ran_start : (t : Text) → t.bytes.now ≡ empty → t.end ≡ 0 → Ran n input a t
-  ran_start t e f = record { lines = rw f; text = rw (f, e) (refl, refl) }
-
   pub ran_on : (v m m₁ : ℕ) (left piece rest : List ℕ) (b c : Areas) (t u : Text) → v ≡ w → m₁ ≡ m + 1 → left ≡ piece ++ rest
       → length piece ≡ min 18 (length left) → 0 < length left → Ran m left b t → PrintsAfter (print_bytes v m piece b) c t u → Ran m₁ rest c u
   ran_on v m m₁ left piece rest b c t u f g e long some r q =
@@ -60,12 +57,7 @@ module _ (w n : ℕ) (input : List ℕ) (a : Areas) (empty : List ℕ) where
       let written : Writes (take t.end t.bytes.now ++ x.text) empty u.bytes.now u.end = p.1.appended empty (take t.end t.bytes.now) r.text in
       let text : take u.end u.bytes.now ≡ take t.end t.bytes.now ++ x.text =
       ap (take u.end) written.1 ∙ take_at (take t.end t.bytes.now ++ x.text) _ u.end (sym written.0) in
-      record {
-        lines = r.lines
-            ∙ ap (λ (z : Printed). record { text = take t.end t.bytes.now ++ z.text; areas = z.areas }) (next_call w m left piece rest b e long some)
-            ∙ rw (text, p.0, g, append_assoc);
-        text = rw text written;
-      }
+      record { lines = r.lines ∙ rw (next_call w m left piece rest b e long some, text, p.0, g, append_assoc); text = rw text written }
 
   pub ran_end : (m : ℕ) (left : List ℕ) (b : Areas) (t : Text) → length left ≡ 0 → Ran m left b t
       → Prints (lines_of w n input a) b empty t.bytes.now t.end × IsPrefixLen t.end t.bytes.now

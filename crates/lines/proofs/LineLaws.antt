@@ -1,26 +1,17 @@
 -- Laws of a line: the six fields one after another, and what a call shows.
 use mathlib.Core.Path.{◌≡◌}
-use mathlib.Core.Logic.{◌≢◌}
 use mathlib.Core.List.{List, [], ◌∷◌, ◌++◌}
-use mathlib.Core.Option.{none}
 use Prim.Native.Nat.{ℕ}
-use borrow.Author.Tests.{ne_eqb}
 use lib.ListN.{get_or}
 use Rattle.theory.specs.Ledger.{Call, Reply, Step}
 use Rattle.theory.specs.Lookup.{Answer}
 use Rattle.theory.specs.Layout.{Areas}
 use Rattle.theory.specs.Calls.{perform}
-use Rattle.theory.specs.Flowrun.{flowrun_settings, decimal, line_text, letter_call, call_in, printed, print_bytes}
+use Rattle.theory.specs.Flowrun.{flowrun_settings, decimal, line_text, call_in, printed, print_bytes}
 use Rattle.std.proofs.Math.Option.{some}
 use Rattle.text.specs.declared.Text.{Text}
 use Rattle.text.specs.Writing.{Grows}
 use Rattle.text.proofs.TextLaws.{grows_then}
-
--- another letter
-pub no_call : (letter : ℕ) → letter ≢ 73 → letter ≢ 67 → letter ≢ 68 → letter ≢ 83 → letter ≢ 88 → (key : List ℕ) (class : ℕ)
-    → none ≡ letter_call letter key class
-unfolding letter_call
-no_call x a b c d e key class = rw (ne_eqb x 73 a, ne_eqb x 67 b, ne_eqb x 68 c, ne_eqb x 83 d, ne_eqb x 88 e)
 
 -- the six fields of a line, each after the text before it
 pub line_grows : (call letter : ℕ) (x : Answer) {t₀ t₁ t₂ t₃ t₄ t₅ t₆ : Text}

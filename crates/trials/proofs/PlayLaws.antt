@@ -34,7 +34,7 @@ module _ (s : Card) (ok : Sound s) {a : Areas} (h : Holds s a) where
   pub holds_sized : Sized s a
   holds_sized = rw h.same (sized s ok h.list h.fits)
 
-  pub holds_on : (c : Call) → Small c → {b : Areas} → b ≡ (call s c a).state → Holds s b
+  holds_on : (c : Call) → Small c → {b : Areas} → b ≡ (call s c a).state → Holds s b
   holds_on c small e =
       record {
         list = (plain s c h.list).state;
@@ -46,14 +46,14 @@ next_small : (flows : ℕ) (g : Generator) → Small (load_call flows (draw g))
 unfolding load_calls draws
 next_small flows g = (small_calls flows 1 g).0
 
--- the areas after the next call of a load
+-- the areas hold a list after the next call of a load
 pub holds_next : {s : Settings} {table work : List ℕ} {a after : Areas} (flows : ℕ) (g : Generator) → Playing s table work a → {c : Call}
     → c ≡ load_call flows (draw g) → {r : Reply} → ◌≡◌ {A = Step Areas} (record { reply = r; state = after }) (call (card s) c a) → Holds (card s) after
 holds_next {s} flows g playing is made =
     holds_on (card s) (sound (paper s) playing.ready.ok) playing.held _ (rw is (next_small flows g)) (ap (λ (z : Step Areas). z.state) made)
 
--- which can be played on
-pub plays_on : {s : Settings} {table work work' : List ℕ} {a after : Areas} {x y : Numbers} (flows : ℕ) (g : Generator) → Playing s table work a
+-- and can be played on
+plays_on : {s : Settings} {table work work' : List ℕ} {a after : Areas} {x y : Numbers} (flows : ℕ) (g : Generator) → Playing s table work a
     → Played (card s) (load_call flows (draw g)) a x after y → length work' ≡ length work → Playing s table work' after
 plays_on {s} flows g playing p words =
     record {
@@ -78,7 +78,7 @@ module _ {s : Settings} {table : List ℕ} {flows : ℕ} {g₀ : Generator} {cou
       let step = rw one at h.rest in
       record {
         playing = plays_on flows g h.playing p words;
-        bounded = bounded_less h.bounded (omega arith) p.grown less;
+        bounded = bounded_less h.bounded p.grown less;
         rest = rw (next, p.areas, p.numbers) (sym (played_next (card s) flows d g a x) ∙ step);
       }
 

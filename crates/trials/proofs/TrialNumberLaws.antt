@@ -8,7 +8,7 @@ use lib.Dec.{ltb}
 use borrow.Author.Tests.{ltb-true, ltb-false}
 use Rattle.theory.specs.Trials.{Numbers, no_numbers, greater}
 use Rattle.theory.proofs.ListLaws.{by_test}
-use Rattle.trials.specs.Data.{Growing, Grown}
+use Rattle.trials.specs.Data.{Grown}
 
 pub byte_is : (b : Bool) → bool_byte b ≡ cond b 1 0
 byte_is true = refl
@@ -30,23 +30,12 @@ pub bounded_none : (left : ℕ) → left ≤ 4294967296 → Bounded left no_numb
 bounded_none left h =
     record { refused_6 = omega arith; refused_7 = omega arith; refused_8 = omega arith; refused_9 = omega arith; compared = omega arith }
 
-module _ {left : ℕ} {x : Numbers} (h : Bounded left x) (some : 0 < left) where
-  pub growing : Growing x
-  growing =
-      record {
-        refused_6 = omega (arith, h.refused_6);
-        refused_7 = omega (arith, h.refused_7);
-        refused_8 = omega (arith, h.refused_8);
-        refused_9 = omega (arith, h.refused_9);
-        compared = omega (arith, h.compared);
-      }
-
-  pub bounded_less : {y : Numbers} {less : ℕ} → Grown x y → less + 1 ≡ left → Bounded less y
-  bounded_less g e =
-      record {
-        refused_6 = omega (arith, h.refused_6, g.refused_6);
-        refused_7 = omega (arith, h.refused_7, g.refused_7);
-        refused_8 = omega (arith, h.refused_8, g.refused_8);
-        refused_9 = omega (arith, h.refused_9, g.refused_9);
-        compared = omega (arith, h.compared, g.compared);
-      }
+pub bounded_less : {left less : ℕ} {x y : Numbers} → Bounded left x → Grown x y → less + 1 ≡ left → Bounded less y
+bounded_less h g e =
+    record {
+      refused_6 = omega (arith, h.refused_6, g.refused_6);
+      refused_7 = omega (arith, h.refused_7, g.refused_7);
+      refused_8 = omega (arith, h.refused_8, g.refused_8);
+      refused_9 = omega (arith, h.refused_9, g.refused_9);
+      compared = omega (arith, h.compared, g.compared);
+    }
