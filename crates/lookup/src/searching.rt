@@ -130,8 +130,8 @@ fn compare_bucket(s: Settings, buckets: &[u8], from: usize, n: usize, key: &[u8]
     }
 }
 
-// The records of the side store, which start after its count. Few searches come here, so that it is no part of their piece.
-#[inline(never)]
+// The records of the side store, which start after its count.
+#[inline(always)]
 fn compare_side(s: Settings, side: &[u8], n: usize, read: u32, key: &[u8]) -> Answer
     requires { InSide (paper s) side.now key.now n }
     ensures { answer_of result ≡ plain.answer_at (card s) key.now (plain.among (drop 2 side.now) n read 1) }
