@@ -112,10 +112,10 @@ fn append_line(text: &mut Text<'_>, call: u64, letter: u8, x: Answer)
 {
     text.push_decimal(call, b' ');
     text.push_letter(letter, b' ');
-    text.push_decimal(x.number as u64, b' ');
-    text.push_decimal(x.class as u64, b' ');
-    text.push_decimal(x.buckets_read as u64, b' ');
-    text.push_decimal(x.records_compared as u64, b'\n');
+    text.push_decimal(u64::from(x.number), b' ');
+    text.push_decimal(u64::from(x.class), b' ');
+    text.push_decimal(u64::from(x.buckets_read), b' ');
+    text.push_decimal(u64::from(x.records_compared), b'\n');
 }
 
 // Runs a call, and appends its line.

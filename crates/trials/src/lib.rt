@@ -77,7 +77,7 @@ fn append_line(text: &mut Text<'_>, number: u64, trial: Result<Numbers, Refusal>
         Err(refusal) => (refusal.number(), Numbers::default()),
     };
     text.push_decimal(number, b' ');
-    text.push_decimal(answer as u64, b' ');
+    text.push_decimal(u64::from(answer), b' ');
     text.push_decimal(x.greatest_need, b' ');
     text.push_decimal(x.refused_6, b' ');
     text.push_decimal(x.refused_7, b' ');

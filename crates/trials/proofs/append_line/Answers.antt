@@ -8,7 +8,8 @@ use Rattle.trials.proofs.append_line.Goals.{in-Ok, in-Err}
 
 pub returns-clause-grows : goal.returns-clause-grows
 returns-clause-grows c =
-    let shown = line_grows c.args.number c.match-trial.answer.0 (numbers_of c.match-trial.answer.1) c.push_decimal.ensures.grows c.push_decimal-2.ensures.grows
+    let shown = line_grows c.args.number c.match-trial.answer.0 (numbers_of c.match-trial.answer.1) c.push_decimal.ensures.grows
+    (rw c.from.ensures at c.push_decimal-2.ensures.grows)
     c.push_decimal-3.ensures.grows c.push_decimal-4.ensures.grows c.push_decimal-5.ensures.grows c.push_decimal-6.ensures.grows
     c.push_decimal-7.ensures.grows c.push_decimal-8.ensures.grows in
     elim c.match-trial.branch [
