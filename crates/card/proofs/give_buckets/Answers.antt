@@ -1,5 +1,5 @@
 -- Settings in their ranges ask what the hashes and the numbers need; what is written is what the definition gives.
-use Rattle.std.proofs.Common.{◌≡◌, Ok, refl, ap, ◌∙◌}
+use Rattle.std.proofs.Common.{◌≡◌, Ok, refl, ap, ◌∙◌, arith}
 use Rattle.theory.specs.Settings as plain
 use Rattle.theory.specs.Settings.{allowed}
 use Rattle.theory.proofs.SettingsLaws.{Ranges, ranges}
@@ -23,7 +23,7 @@ pub numbers_of-found-requires-clause-power : goal.numbers_of-found-requires-clau
 numbers_of-found-requires-clause-power c = (in_ranges _ _ c.in_ok-s.ensures).p_high
 
 pub numbers_of-found-requires-clause-few : goal.numbers_of-found-requires-clause-few
-numbers_of-found-requires-clause-few c = (in_ranges _ _ c.in_ok-s.ensures).k_high
+numbers_of-found-requires-clause-few c = let here : Ranges (paper c.in_ok-s.s) = in_ranges _ _ c.in_ok-s.ensures in omega arith
 
 pub returns : goal.returns
 returns c =
