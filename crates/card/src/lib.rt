@@ -177,20 +177,8 @@ fn give_lent_hash(width: u64, lent: &[u64], key: &[u8], h: &mut [u64]) -> Result
     if key.len() != bytes {
         return Err(Refusal::WrongKeyLength);
     }
-    h.copy_from_slice(&[hash_by(lent, key)]);
+    h.copy_from_slice(&[h_with_table(lent, key)]);
     Ok(())
-}
-
-// At the width of an IPv4 flow's key by a constant, which the compiler knows.
-fn hash_by(lent: &[u64], key: &[u8]) -> u64
-    requires { has (length lent.now) (table_lengths (length key.now)) ≡ true }
-    ensures { result ≡ H_by lent.now key.now }
-{
-    if key.len() == Settings::IPV4_WIDTH {
-        by_bytes(lent, &key[..Settings::IPV4_WIDTH])
-    } else {
-        h_with_table(lent, key)
-    }
 }
 
 // A key's hashes and bucket numbers: 1; 2 if `hashes` is not of 4 numbers, or `numbers` not of 5; 3 if the key is not of the width.

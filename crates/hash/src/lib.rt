@@ -75,13 +75,17 @@ pub fn fill_table(width: usize, out: &mut [u64])
     }
 }
 
-// The xor of a lent table's entries for a key, with one read a byte or two by the table's length; a right table gives H.
+// The xor of a lent table's entries for a key, with one read a byte or two by the table's length; a right table gives H. The width of an IPv4 flow's key stands
+// here as a constant, which the compiler knows, and whoever hashes is one piece with this: its own question for the width serves here too.
+#[inline(always)]
 pub fn h_with_table(table: &[u64], key: &[u8]) -> u64
     requires { has (length table.now) (table_lengths (length key.now)) ≡ true }
     ensures entries { result ≡ H_by table.now key.now }
     ensures right { TableFor (length key.now) table.now → result ≡ H_of key.now }
 {
-    if table.len() == key.len() * 256 {
+    if key.len() == Settings::IPV4_WIDTH {
+        by_bytes(table, &key[..Settings::IPV4_WIDTH])
+    } else if table.len() == key.len() * 256 {
         by_bytes(table, key)
     } else {
         by_halves(table, key)

@@ -12,7 +12,6 @@ ghost use Rattle.lookup.specs.Bursts.{burst_key, per_key, CountersFit, packed_of
 use crate::counters::{KeyCounters, read_counters};
 use crate::judging::judge_burst;
 use crate::searching::{driver_number, search_chosen};
-use hash::by_table::by_bytes;
 use hash::h_with_table;
 use memory::records::key_at;
 use memory::refusals::Refusal;
@@ -53,11 +52,7 @@ fn hash_all(s: Settings, table: &[u64], keys: &[u8], answers: &mut [u64])
     let width = s.width();
     for (i, h) in answers.iter_mut().enumerate() {
         let one = key_at(keys, i, width, width);
-        *h = if width == Settings::IPV4_WIDTH {
-            by_bytes(table, &one[..Settings::IPV4_WIDTH])
-        } else {
-            h_with_table(table, one)
-        };
+        *h = h_with_table(table, one);
     }
 }
 

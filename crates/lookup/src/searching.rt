@@ -18,7 +18,6 @@ use crate::counters::{KeyCounters, read_counters};
 use crate::judging::{judge, judge_with_table};
 use crate::places::{Place, place_by};
 use crate::scanning::{scan, scan_all};
-use hash::by_table::by_bytes;
 use hash::h_with_table;
 use memory::picks::pick;
 use memory::records::class_at;
@@ -205,14 +204,6 @@ pub fn search_with_table(table: &[u64], given: Given, areas: LookupAreas<'_>, ke
 {
     match judge_with_table(table, given, areas, key) {
         Err(refusal) => refused(refusal),
-        Ok(s) => {
-            // the width of an IPv4 flow's key as a constant, which the compiler knows
-            let h = if s.width() == Settings::IPV4_WIDTH {
-                by_bytes(table, &key[..Settings::IPV4_WIDTH])
-            } else {
-                h_with_table(table, key)
-            };
-            search_at(s, h, areas, key)
-        }
+        Ok(s) => search_at(s, h_with_table(table, key), areas, key),
     }
 }

@@ -42,12 +42,7 @@ fn h_of(s: Settings, table: &[u64], key: &[u8]) -> u64
     requires wide { length key.now ≡ (card s).width }
     ensures { result ≡ H_of key.now }
 {
-    // the width of an IPv4 flow's key as a constant, which the compiler knows
-    if s.width == Settings::IPV4_WIDTH {
-        by_bytes(table, &key[..Settings::IPV4_WIDTH])
-    } else {
-        h_with_table(table, key)
-    }
+    h_with_table(table, key)
 }
 
 // The list that a call would make, placed: work holds its true counts, then its choosers.

@@ -3,11 +3,9 @@ use Rattle.std.proofs.Common.{◌≡◌, ap, ◌∙◌, true, List, ℕ, ◌*◌
 use Rattle.theory.specs.Lists.{has}
 use Rattle.memory.proofs.SliceLaws.{length_part}
 use Rattle.hash.specs.Table.{table_lengths, H_by}
-use Rattle.hash.proofs.KeyHashLaws.{ipv4_fits, ipv4_gives}
 use Rattle.lookup.specs.Bursts.{burst_key}
 use Rattle.lookup.proofs.BurstLaws.{passed_more, passed_all, key_within}
 use Rattle.lookup.proofs.bursts.hash_all.Goals as goal
-use Rattle.lookup.proofs.bursts.hash_all.Goals.{then-width-eq-IPV4_WIDTH, else-width-eq-IPV4_WIDTH}
 
 -- ---- key i is part i of the keys, of the card's width
 module _ (keys : List ℕ) (n w width i : ℕ) (size_is : length keys ≡ n * w) (width_is : width ≡ w) (here : i < n) (key : List ℕ)
@@ -18,15 +16,6 @@ module _ (keys : List ℕ) (n w width i : ℕ) (size_is : length keys ≡ n * w)
   long : (table : List ℕ) → has (length table) (table_lengths w) ≡ true → has (length table) (table_lengths (length key)) ≡ true
   long table right = ap (λ (n : ℕ). has (length table) (table_lengths n)) (size ∙ width_is) ∙ right
 
-pub by_bytes-requires : goal.by_bytes-requires
-by_bytes-requires c =
-    let here : c.loop-i.i < length c.args.answers.now = omega (arith, c.loop-i.invariant.long) in
-    ipv4_fits c.args.table.now c.key_at-one.result.now
-    (long c.args.keys.now _ _ c.width-width.result c.loop-i.i c.requires.1 c.width-width.ensures here c.key_at-one.result.now c.key_at-one.ensures
-    c.args.table.now c.requires.0)
-    (size c.args.keys.now _ _ c.width-width.result c.loop-i.i c.requires.1 c.width-width.ensures here c.key_at-one.result.now c.key_at-one.ensures
-    ∙ c.if-width-eq-IPV4_WIDTH.true)
-
 pub h_with_table-requires : goal.h_with_table-requires
 h_with_table-requires c =
     let here : c.loop-i.i < length c.args.answers.now = omega (arith, c.loop-i.invariant.long) in
@@ -35,18 +24,7 @@ h_with_table-requires c =
 
 pub loop-i-preserved : goal.loop-i-preserved
 loop-i-preserved c =
-    let table = c.args.table.now in
-    let key = c.key_at-one.result.now in
-    let here : c.loop-i.i < length c.args.answers.now = omega (arith, c.loop-i.invariant.long) in
-    let long = long c.args.keys.now _ _ c.width-width.result c.loop-i.i c.requires.1 c.width-width.ensures here key c.key_at-one.ensures table
-    c.requires.0 in
-    let size = size c.args.keys.now _ _ c.width-width.result c.loop-i.i c.requires.1 c.width-width.ensures here key c.key_at-one.ensures in
-    let hashed : c.if-width-eq-IPV4_WIDTH.h ≡ H_by table key =
-    elim c.if-width-eq-IPV4_WIDTH.branch [
-      | then-width-eq-IPV4_WIDTH w ↦ w.h-is ∙ ipv4_gives table key long (size ∙ w.if-width-eq-IPV4_WIDTH.true) w.by_bytes.ensures.entries
-      | else-width-eq-IPV4_WIDTH w ↦ w.h-is ∙ w.h_with_table.ensures.entries
-    ] in
-    passed_more c.loop-i.invariant _ (omega arith) (hashed ∙ ap (H_by table) c.key_at-one.ensures)
+    passed_more c.loop-i.invariant _ (omega arith) (c.h_with_table.ensures.entries ∙ ap (H_by c.args.table.now) c.key_at-one.ensures)
 
 pub returns : goal.returns
 returns c = rw (← c.width-width.ensures) (passed_all c.loop-i.invariant (omega arith))
