@@ -31,6 +31,7 @@ pub fn advance(generator: Generator) -> (Generator, u64)
     (Generator { s, w }, number)
 }
 
+// Methods, and no Iterator: its numbers never end.
 impl Generator {
     // The same where the generator is held.
     pub fn next_number(&mut self) -> u64

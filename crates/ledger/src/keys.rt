@@ -46,7 +46,7 @@ pub fn below_key(a: &[u8], b: &[u8]) -> bool
     a < b
 }
 
-// The keys of n records rise.
+// The keys of n records rise. A count beside the places: it stands in the lent area before them, and may be less than there is room for.
 pub fn keys_rise(places: &[u8], n: usize, width: usize) -> bool
     requires { n * (width + class_width) ≤ length places.now }
     ensures { result ≡ rising (records width n places.now) }

@@ -63,7 +63,7 @@ fn written(class: u32, x: Answer) -> Answer
     }
 }
 
-// "class (found or written, else 0)"
+// "class (found or written, else 0)"; of tally nothing, for which no letter stands.
 fn printed(call: Call<'_>, reply: Reply) -> Answer
     ensures { answer_of result ≡ flowrun.printed (call_of call.entry) (reply_of reply) }
 {

@@ -33,7 +33,8 @@ fn picked_call(first: u64, key: &[u8]) -> Call<'_>
     }
 }
 
-// The next call of a load, on the table; it is counted.
+// The next call of a load, on the table; it is counted. Flows and generator side by side: of a load lent as one its contract would have to say that the flows
+// stay.
 fn play_call(
     s: Settings,
     table: &[u64],
