@@ -71,9 +71,9 @@ pub fn choose_more(
     let m = s.buckets();
     let width = s.width();
     let size = s.record_size();
-    for i in 0..choices.len() {
+    for (i, kept) in choices.iter_mut().enumerate() {
         let choice = choose(s, table, counts, key_at(part, i, size, width));
-        choices[i] = choice.unwrap_or(m) as u16;
+        *kept = choice.unwrap_or(m) as u16;
         add_choice(choosers, choice);
     }
 }

@@ -40,10 +40,9 @@ fn open_buckets(s: Settings, placement: Placement<'_>, buckets: &mut [u8])
     ensures { buckets.new ≡ blank_buckets (card s) (crowded_by (card s) placement.entry.choosers.now) (card s).buckets }
 {
     let size = s.bucket_size();
-    for b in 0..placement.choosers.len() {
+    for (b, &choosers) in placement.choosers.iter().enumerate() {
         let at = b * size;
-        let choosers = usize::from(placement.choosers[b]);
-        open_bucket(&mut buckets[at..at + size], s.room < choosers);
+        open_bucket(&mut buckets[at..at + size], s.room < usize::from(choosers));
     }
 }
 

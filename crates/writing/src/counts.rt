@@ -11,9 +11,9 @@ pub fn write_clipped(top: usize, clipped: &mut [u8], counts: &[u16])
     requires pairs { 2 * length clipped.old ≤ length counts.now }
     ensures { clipped.new ≡ clipped_bytes top (nth counts.now) (length clipped.old) }
 {
-    for i in 0..clipped.len() {
+    for (i, byte) in clipped.iter_mut().enumerate() {
         let low = TrueCount::of_number(counts[2 * i]).clip(top);
         let high = TrueCount::of_number(counts[2 * i + 1]).clip(top);
-        clipped[i] = ClippedCount::byte_of(low, high);
+        *byte = ClippedCount::byte_of(low, high);
     }
 }

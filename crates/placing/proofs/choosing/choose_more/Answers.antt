@@ -1,7 +1,7 @@
 -- `placing::choosing::choose_more` meets its contract: after i records these have chosen, and the first i places of choices hold their choices.
-use mathlib.Core.Path.{◌≡◌, ap, ◌∙◌}
+use mathlib.Core.Path.{◌≡◌, refl, ap, ◌∙◌}
 use native.Mathlib.Omega.{arith}
-use lib.ListN.{length}
+use lib.ListN.{length, length-set}
 use Rattle.std.proofs.Common.{ℕ, ◌+◌, ◌*◌, ◌/◌, ◌≤◌, List, Option}
 use Rattle.std.specs.Option.{unwrap_or}
 use Rattle.std.proofs.Math.Nat.{div-mul-le_self}
@@ -28,7 +28,7 @@ choices_fit : (w n : ℕ) (part : List ℕ) → n ≡ length part / (w + 4) → 
 choices_fit w n part e = rw e (div-mul-le_self (length part) (w + 4))
 
 pub loop-i-init : goal.loop-i-init
-loop-i-init c = chose_none (card c.args.s) c.args.counts.now _ c.args.part.now c.args.choosers.now c.args.choices.now
+loop-i-init c = (refl, chose_none (card c.args.s) c.args.counts.now _ c.args.part.now c.args.choosers.now c.args.choices.now)
 
 pub key_at-requires : goal.key_at-requires
 key_at-requires c =
@@ -40,8 +40,8 @@ choose-choice-requires-clause-wide c =
     ∙ key_length (sizes c.args.s c.record_size-size.ensures c.width-width.ensures) _ c.loop-i.i c.args.part.now (choices_fit _ _ _ c.requires.places)
     c.loop-i-test.true
 
-pub overflow_cast-choices : goal.overflow_cast-choices
-overflow_cast-choices c =
+pub overflow_cast-kept : goal.overflow_cast-kept
+overflow_cast-kept c =
     let kept = kept_is c.choose-choice.result _ _ _ c.unwrap_or.ensures c.buckets-m.ensures in
     let small = kept_within (card c.args.s) (sound_card _ _ c.requires.ready) (nth c.args.counts.now) _ _ _ c.choose-choice.ensures kept in
     omega (arith, small, (bounds (paper c.args.s) c.requires.ready.ok).buckets_most)
@@ -53,7 +53,7 @@ add_choice-requires-clause-within c =
 
 pub add_choice-requires-clause-few : goal.add_choice-requires-clause-few
 add_choice-requires-clause-few c =
-    chose_bound (card c.args.s) c.args.counts.now _ _ _ _ _ _ _ c.loop-i.invariant (omega (arith, c.requires.places)) c.requires.few
+    chose_bound (card c.args.s) c.args.counts.now _ _ _ _ _ _ _ c.loop-i.invariant.1 (omega (arith, c.requires.places)) c.requires.few
 
 pub loop-i-preserved : goal.loop-i-preserved
 loop-i-preserved c =
@@ -61,8 +61,12 @@ loop-i-preserved c =
     let key_here = c.key_at.ensures ∙ key_is (sizes c.args.s c.record_size-size.ensures c.width-width.ensures) c.loop-i.i c.args.part.now in
     let choice_is = c.choose-choice.ensures ∙ ap (choice_of s (nth c.args.counts.now)) key_here in
     let kept = kept_is c.choose-choice.result _ _ _ c.unwrap_or.ensures c.buckets-m.ensures in
-    chose_more s c.args.counts.now _ _ _ _ _ c.loop-i.choices c.loop-i.invariant _ choice_is _ c.add_choice.ensures _ kept (omega arith)
+    let long = c.loop-i.invariant.0 in (
+      simp length-set long,
+      chose_more s c.args.counts.now _ _ _ _ _ c.loop-i.choices c.loop-i.invariant.1 _ choice_is _ c.add_choice.ensures _ kept (omega (arith, long)),
+    )
 
 pub returns : goal.returns
 returns c =
-    chose_all (card c.args.s) c.args.counts.now _ _ _ _ _ _ _ c.loop-i.invariant (omega (arith, c.requires.places)) (omega (arith, c.requires.places))
+    chose_all (card c.args.s) c.args.counts.now _ _ _ _ _ _ _ c.loop-i.invariant.1 (omega (arith, c.requires.places, c.loop-i.invariant.0))
+    (omega (arith, c.requires.places, c.loop-i.invariant.0))

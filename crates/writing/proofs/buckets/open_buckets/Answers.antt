@@ -58,7 +58,7 @@ loop-b-preserved c =
     inside c.args.s c.loop-b.b _ size (length c.loop-b.buckets) c.loop-b-test.true c.requires.places c.bucket_size-size.ensures
     (c.loop-b.auto.buckets ∙ c.requires.long) in
     let test =
-    ap (ltb c.args.s.room) c.from-choosers.ensures ∙ ap (λ (room : ℕ). ltb room (nth c.args.placement.choosers.now c.loop-b.b)) (sym (room_is (paper c.args.s))) in
+    ap (ltb c.args.s.room) c.from.ensures ∙ ap (λ (room : ℕ). ltb room (nth c.args.placement.choosers.now c.loop-b.b)) (sym (room_is (paper c.args.s))) in
     rw (sym (row_next (c.loop-b.b * size) c.loop-b.b size refl))
     (opened_more s (crowded_by s c.args.placement.choosers.now) c.loop-b.b (c.loop-b.b * size) size c.loop-b.buckets c.open_bucket.new.part _
     c.bucket_size-size.ensures here test c.open_bucket.ensures c.loop-b.invariant)
