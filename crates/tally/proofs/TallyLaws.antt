@@ -1,13 +1,20 @@
 -- Laws of tally: each loop over the buckets counts what the definition counts, and the call is `perform`'s.
 use mathlib.Core.Path.{◌≡◌, refl, sym, ap, ◌∙◌}
 use mathlib.Core.Bool.{Bool, true, false, cond, not, ◌&&◌, ◌||◌}
-use mathlib.Core.List.{List, [], ◌∷◌, map}
+use mathlib.Core.List.{List, [], ◌∷◌, ◌++◌, map}
 use Prim.Native.Nat.{ℕ, zero, suc, ◌+◌, ◌-◌, ◌*◌, ◌/◌, ◌≤◌, ◌<◌}
 use native.Mathlib.Numerals.{add-one}
+use native.Mathlib.Nat.{zero-mul}
 use native.Mathlib.Omega.{arith}
 use lib.Dec.{eqb, ltb, leb}
 use borrow.Author.Tests.{eqb-true, leb-true, leb-false, lt-ltb, le-ltb}
-use lib.ListN.{length, get_or}
+use lib.ListN.{length, get_or, drop, length-append, length-drop}
+use lib.Seq.{take_at, drop_at, drop-drop}
+use denote.Ref.{Bor}
+use Rattle.std.proofs.Math.Nat.{lt_of_mul-lt-mul_right}
+use Rattle.std.proofs.Common.{Some, None}
+use Rattle.std.specs.declared.slice.ChunksExact.{ChunksExact}
+use Rattle.std.specs.Slice.Iter.{chunks_exact_rest, chunks_exact_size, chunks_exact_steps}
 use Rattle.theory.specs.Lists.{filter, any, all, upto, sum}
 use Rattle.theory.specs.Settings.{Settings, allowed, card_of, bucket_size, ledger_length, clipped_length, buckets_length}
 use Rattle.theory.specs.Lookup.{counter, bucket_part}
@@ -15,14 +22,14 @@ use Rattle.theory.specs.Records.{count_of}
 use Rattle.theory.specs.Layout.{Areas}
 use Rattle.theory.specs.Ledger.{tally, Totals, no_totals, Step, totalled}
 use Rattle.theory.specs.Calls.{marks, lookup_invalid, tally_areas, call, lookup_lengths, lent_lengths, perform}
-use Rattle.theory.proofs.ListLaws.{by_test, and_left, and_right, all_every, map_cong}
+use Rattle.theory.proofs.ListLaws.{by_test, and_left, and_right}
 use Rattle.theory.proofs.SettingsLaws.{sound}
 use Rattle.settings.specs.declared.Settings as settings
 use Rattle.std.specs.Prelude.{Ok, Err}
 use Rattle.memory.specs.declared.refusals.Refusal.{Refusal}
 use Rattle.memory.specs.Refusals.{number_of}
 use Rattle.settings.specs.Checked.{paper, card, checked_of}
-use Rattle.settings.proofs.Laws.{allowed_arm, refused_arm, bounds, bucket_within}
+use Rattle.settings.proofs.Laws.{allowed_arm, refused_arm}
 use Rattle.lookup.specs.Places.{CheckedLookup}
 use Rattle.lookup.specs.Answers.{lookup_areas}
 use Rattle.lookup.proofs.PlaceLaws.{mark_is}
@@ -52,7 +59,7 @@ module _ {p : ℕ → Bool} {m : ℕ} where
       pub any_on : p b ≡ false → AnyLeft p m (b + 1)
       any_on e = record { few = omega arith; same = sym (next ∙ rw e) }
 
--- ---- a loop that sums g of the numbers below b: one more, a bound, and what a filter sums and counts
+-- ---- a loop that sums g of the numbers below b: one more, and what a filter sums and counts
 abbrev pub sum_below : (ℕ → ℕ) → ℕ → ℕ
 sum_below g b = sum (map g (upto 0 b))
 
@@ -63,12 +70,6 @@ sum_last g a (suc n) =
 
 pub sum_more : (g : ℕ → ℕ) (b : ℕ) → sum_below g (b + 1) ≡ sum_below g b + g b
 sum_more g b = let e : 0 + b ≡ b = omega arith in rw add-one (rw e at (sum_last g 0 b))
-
-pub sum_most : (g : ℕ → ℕ) (k : ℕ) → ((b : ℕ) → g b ≤ k) → (b : ℕ) → sum_below g b ≤ k * b
-sum_most g k h zero = omega arith
-sum_most g k h (suc b) =
-    let e : 0 + b ≡ b = omega arith in
-    let s = rw e at (sum_last g 0 b) in omega (arith, s, h b, sum_most g k h b)
 
 kept_sum : (f : ℕ → ℕ) (l : List ℕ) → sum (filter (λ x. not (eqb x 255)) (map f l)) ≡ sum (map (λ b. cond (eqb (f b) 255) 0 (f b)) l)
 kept_sum f [] = refl
@@ -82,58 +83,98 @@ any_map : (p : ℕ → Bool) (f : ℕ → ℕ) (l : List ℕ) → any p (map f l
 any_map p f [] = refl
 any_map p f (x ∷ xs) = rw (any_map p f xs)
 
--- ---- the marks of m buckets of a size
-abbrev pub mark_at : List ℕ → ℕ → ℕ → ℕ
-mark_at buckets size b = get_or buckets (b * size) 0
+-- ---- the marks of the buckets
+abbrev pub mark_at : Settings → List ℕ → ℕ → ℕ
+mark_at t buckets b = get_or (bucket_part (card_of t) buckets b) 0 0
 
 -- what bucket b adds to the two sums
-abbrev pub records_of : List ℕ → ℕ → ℕ → ℕ
-records_of buckets size b = cond (eqb (mark_at buckets size b) 255) 0 (mark_at buckets size b)
+abbrev pub records_of : Settings → List ℕ → ℕ → ℕ
+records_of t buckets b = cond (eqb (mark_at t buckets b) 255) 0 (mark_at t buckets b)
 
-abbrev pub is_255 : List ℕ → ℕ → ℕ → ℕ
-is_255 buckets size b = cond (eqb (mark_at buckets size b) 255) 1 0
+abbrev pub is_255 : Settings → List ℕ → ℕ → ℕ
+is_255 t buckets b = cond (eqb (mark_at t buckets b) 255) 1 0
 
--- neither sum is more than a byte a bucket
-small : (t : Bool) (x y : ℕ) → x ≤ 255 → y ≤ 255 → cond t x y ≤ 255
-small true x y h k = h
-small false x y h k = k
+module _ (t : Settings) (buckets : List ℕ) where
+  pub marks_any : (p : ℕ → Bool) → any p (marks (card_of t) buckets) ≡ any (λ b. p (mark_at t buckets b)) (upto 0 (card_of t).buckets)
+  unfolding marks
+  marks_any p = any_map p (mark_at t buckets) (upto 0 (card_of t).buckets)
 
-pub sums_few : (buckets : List ℕ) (size : ℕ) → ((i : ℕ) → get_or buckets i 0 ≤ 255) → (b : ℕ)
-    → (sum_below (records_of buckets size) b ≤ 255 * b) × (sum_below (is_255 buckets size) b ≤ 255 * b)
-sums_few buckets size bytes b = (
-  sum_most (records_of buckets size) 255 (λ i. small (eqb (mark_at buckets size i) 255) 0 (mark_at buckets size i) (omega arith) (bytes (i * size))) b,
-  sum_most (is_255 buckets size) 255 (λ i. small (eqb (mark_at buckets size i) 255) 1 0 (omega arith) (omega arith)) b,
-)
+  pub marks_sum : sum (filter (λ x. not (eqb x 255)) (marks (card_of t) buckets)) ≡ sum_below (records_of t buckets) (card_of t).buckets
+  unfolding marks
+  marks_sum = kept_sum (mark_at t buckets) (upto 0 (card_of t).buckets)
 
-pub record Rows (t : Settings) (buckets : List ℕ) (m size : ℕ) : Type 0 where
+  pub marks_count : length (filter (λ x. eqb x 255) (marks (card_of t) buckets)) ≡ sum_below (is_255 t buckets) (card_of t).buckets
+  unfolding marks
+  marks_count = kept_count (mark_at t buckets) (upto 0 (card_of t).buckets)
+
+pub mark_byte : (t : Settings) (buckets : List ℕ) → allowed t ≡ true → ((i : ℕ) → get_or buckets i 0 ≤ 255) → (b : ℕ) → mark_at t buckets b ≤ 255
+mark_byte t buckets ok bytes b = rw (mark_is {t = t} {buckets = buckets} {b = b} (record { ok = ok; start = refl })) (bytes _)
+
+pub bucket_some : (t : Settings) → allowed t ≡ true → 0 < bucket_size (card_of t)
+unfolding bucket_size
+bucket_some t ok = omega arith
+
+-- ---- a loop over the buckets after i of them: the chunks that are left
+pub record Left (t : Settings) (buckets : List ℕ) (i : ℕ) (s : ChunksExact ℕ) : Type 0 where
   pub ok : allowed t ≡ true
   pub long : length buckets ≡ buckets_length (card_of t)
-  pub m_is : m ≡ (card_of t).buckets
-  pub size_is : size ≡ bucket_size (card_of t)
+  pub size_is : chunks_exact_size s ≡ bucket_size (card_of t)
+  pub within : i * bucket_size (card_of t) ≤ length buckets
+  pub rest_is : chunks_exact_rest s ≡ drop (i * bucket_size (card_of t)) buckets
 
-module _ {t : Settings} {buckets : List ℕ} {m size : ℕ} (r : Rows t buckets m size) where
-  marks_are : marks (card_of t) buckets ≡ map (mark_at buckets size) (upto 0 m)
-  unfolding marks
-  marks_are =
-      rw (r.m_is, r.size_is)
-      (map_cong (λ b. get_or (bucket_part (card_of t) buckets b) 0 0) (mark_at buckets (bucket_size (card_of t))) (upto 0 (card_of t).buckets)
-      (all_every (λ b. mark_is {t = t} {buckets = buckets} {b = b} (record { ok = r.ok; start = refl })) (upto 0 (card_of t).buckets)))
+pub record Chunk (t : Settings) (buckets : List ℕ) (i : ℕ) (x : List ℕ) (u : ChunksExact ℕ) : Type 0 where
+  pub mark : get_or x 0 0 ≡ mark_at t buckets i
+  pub some : 0 < length x
+  pub few : i < (card_of t).buckets
+  pub next : Left t buckets (i + 1) u
 
-  pub mark_there : (b : ℕ) → b < m → (b * size < length buckets) × (b * size ≤ 675840)
-  mark_there b lt =
-      let bound = bounds t r.ok in
-      let within = bucket_within t b (omega (arith, r.m_is)) in
-      rw r.size_is (omega (arith, within, r.long), omega (arith, within, r.long))
+pub left_start : {t : Settings} {buckets : List ℕ} {s u : ChunksExact ℕ} → allowed t ≡ true → length buckets ≡ buckets_length (card_of t)
+    → u ≡ s → chunks_exact_rest s ≡ buckets → chunks_exact_size s ≡ bucket_size (card_of t) → Left t buckets 0 u
+left_start ok long e f g = rw e (record { ok = ok; long = long; size_is = g; within = omega arith; rest_is = rw zero-mul f })
 
-  pub marks_any : (p : ℕ → Bool) → any p (marks (card_of t) buckets) ≡ any (λ b. p (mark_at buckets size b)) (upto 0 m)
-  marks_any p = ap (any p) marks_are ∙ any_map p (mark_at buckets size) (upto 0 m)
+-- a multiple of the bucket size within the buckets is of a number of buckets
+within_few : (t : Settings) (n i : ℕ) → allowed t ≡ true → n ≡ buckets_length (card_of t) → i * bucket_size (card_of t) ≤ n → i ≤ (card_of t).buckets
+unfolding buckets_length
+within_few t n i ok e le =
+    let size = bucket_size (card_of t) in
+    let some = bucket_some t ok in
+    let next : ((card_of t).buckets + 1) * size ≡ (card_of t).buckets * size + size = omega arith in
+    let lt : i < (card_of t).buckets + 1 = lt_of_mul-lt-mul_right size (omega (arith, next, le, e, some)) in omega (arith, lt)
 
-  pub marks_sum : sum (filter (λ x. not (eqb x 255)) (marks (card_of t) buckets))
-      ≡ sum_below (λ b. cond (eqb (mark_at buckets size b) 255) 0 (mark_at buckets size b)) m
-  marks_sum = ap (λ (l : List ℕ). sum (filter (λ x. not (eqb x 255)) l)) marks_are ∙ kept_sum (mark_at buckets size) (upto 0 m)
+module _ {t : Settings} {buckets : List ℕ} {i : ℕ} {s u : ChunksExact ℕ} (left : Left t buckets i s) where
+  pub chunk : (x : Bor (List ℕ)) → chunks_exact_steps s (Some x) u → Chunk t buckets i x.now u
+  unfolding bucket_part
+  chunk x step =
+      let size = bucket_size (card_of t) in
+      let here : drop (i * size) buckets ≡ x.now ++ chunks_exact_rest u = sym left.rest_is ∙ step.1.0 in
+      let long : length x.now ≡ size = step.1.1 ∙ left.size_is in
+      let next : (i + 1) * size ≡ i * size + size = omega arith in
+      let rest : length buckets - i * size ≡ length x.now + length (chunks_exact_rest u) =
+      sym (length-drop (i * size) buckets) ∙ ap length here ∙ length-append x.now _ in
+      let within : (i + 1) * size ≤ length buckets = omega (arith, left.within, next, rest, long) in
+      record {
+        mark = rw (here, take_at x.now (chunks_exact_rest u) size long);
+        some = rw long (bucket_some t left.ok);
+        few = let le = within_few t _ (i + 1) left.ok left.long within in omega (arith, le);
+        next = record {
+          ok = left.ok;
+          long = left.long;
+          size_is = step.0 ∙ left.size_is;
+          within = within;
+          rest_is = rw (next, ← drop-drop size (i * size) buckets, here, drop_at x.now (chunks_exact_rest u) size long);
+        };
+      }
 
-  pub marks_count : length (filter (λ x. eqb x 255) (marks (card_of t) buckets)) ≡ sum_below (λ b. cond (eqb (mark_at buckets size b) 255) 1 0) m
-  marks_count = ap (λ (l : List ℕ). length (filter (λ x. eqb x 255) l)) marks_are ∙ kept_count (mark_at buckets size) (upto 0 m)
+  pub left_none : chunks_exact_steps s None u → i ≡ (card_of t).buckets
+  unfolding buckets_length
+  left_none step =
+      let size = bucket_size (card_of t) in
+      let short : length (drop (i * size) buckets) < size = rw (← left.rest_is, ← left.size_is) step.1.0 in
+      let short_left : length buckets - i * size < size = rw length-drop at short in
+      let next : (i + 1) * size ≡ i * size + size = omega arith in
+      let few = within_few t _ i left.ok left.long left.within in
+      let lt : (card_of t).buckets < i + 1 = lt_of_mul-lt-mul_right size (omega (arith, next, short_left, left.within, left.long)) in
+      omega (arith, few, lt)
 
 pub counter_in : (t : Settings) (clipped : List ℕ) (b m : ℕ) → allowed t ≡ true → length clipped ≡ clipped_length (card_of t) → m ≡ (card_of t).buckets
     → b < m → b / 2 < length clipped

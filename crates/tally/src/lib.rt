@@ -48,10 +48,8 @@ fn marks_valid(s: Settings, buckets: &[u8]) -> bool
     requires { (allowed (paper s) ≡ true) × (length buckets.now ≡ buckets_length (card s)) }
     ensures { result ≡ not (any (λ x. ltb s.room x && not (eqb x 255)) (marks (card s) buckets.now)) }
 {
-    let m = s.buckets();
-    let size = s.bucket_size();
-    for b in 0..m {
-        let mark = buckets[b * size] as usize;
+    for bucket in buckets.chunks_exact(s.bucket_size()) {
+        let mark = usize::from(bucket[0]);
         if (s.room < mark) & (mark != 255) {
             return false;
         }
@@ -71,16 +69,14 @@ fn sum_marks(s: Settings, buckets: &[u8]) -> Marks
     ensures in_buckets { result.in_buckets ≡ sum (filter (λ x. not (eqb x 255)) (marks (card s) buckets.now)) }
     ensures marked_255 { result.marked_255 ≡ length (filter (λ x. eqb x 255) (marks (card s) buckets.now)) }
 {
-    let m = s.buckets();
-    let size = s.bucket_size();
     let mut in_buckets: u32 = 0;
     let mut marked_255: u32 = 0;
-    for b in 0..m {
-        let mark = buckets[b * size];
+    for bucket in buckets.chunks_exact(s.bucket_size()) {
+        let mark = bucket[0];
         if mark == 255 {
             marked_255 += 1;
         } else {
-            in_buckets += mark as u32;
+            in_buckets += u32::from(mark);
         }
     }
     Marks {
@@ -95,13 +91,9 @@ fn lookup_valid(s: Settings, areas: LookupAreas<'_>) -> bool
     ensures { (ledger : List ℕ) → result
         ≡ not (lookup_invalid (card s) (read_areas ledger areas.entry.clipped.now areas.entry.buckets.now areas.entry.side.now)) }
 {
-    if !counters_valid(s, areas.clipped) {
-        return false;
-    }
-    if !marks_valid(s, areas.buckets) {
-        return false;
-    }
-    count_at(areas.side) <= s.side_places
+    counters_valid(s, areas.clipped)
+        && marks_valid(s, areas.buckets)
+        && count_at(areas.side) <= s.side_places
 }
 
 // "100 × ledger count / m to the nearest whole number"; "a half goes to the even neighbour".

@@ -1,7 +1,11 @@
--- Whether a mark from bucket b on cannot be is whether any cannot.
-use Rattle.std.proofs.Common.{not, ◌&&◌, eqb, ltb}
-use Rattle.tally.proofs.TallyLaws.{AnyLeft, mark_at}
+-- Whether a mark of the buckets that are left cannot be is whether any cannot.
+use Rattle.std.proofs.Common.{not, ◌&&◌, eqb, ltb, length}
+use Rattle.settings.specs.Checked.{paper, card}
+use Rattle.tally.proofs.TallyLaws.{AnyLeft, Left, mark_at}
 use Rattle.tally.proofs.marks_valid.Given as goal
 
-abbrev pub invariant-loop-b : goal.invariant-loop-b
-invariant-loop-b l = AnyLeft (λ b. ltb l.s.room (mark_at l.buckets l.size b) && not (eqb (mark_at l.buckets l.size b) 255)) l.m l.b
+abbrev pub invariant-loop-bucket : goal.invariant-loop-bucket
+invariant-loop-bucket l = record {
+  left : Left (paper l.s) l.buckets (length l.yielded) l.bucket-iterator;
+  valid : AnyLeft (λ b. ltb l.s.room (mark_at (paper l.s) l.buckets b) && not (eqb (mark_at (paper l.s) l.buckets b) 255)) (card l.s).buckets (length l.yielded);
+}
