@@ -21,6 +21,7 @@ pub enum Call<'a> {
     Tally,
 }
 
+// Tally's answer has another shape than the others'.
 #[derive(Clone, Copy)]
 pub enum Reply {
     Answered(Answer),

@@ -26,7 +26,7 @@ use update::editing::Edit;
 
 pub mod data; // data.rt: a call, and what comes back
 
-// The areas that a call is lent, and a work area of so many words where it takes one, have their lengths; else 2.
+// The areas that a call is lent, and a work area of so many words where it takes one, have their lengths.
 fn lent_right(s: Settings, call: Call<'_>, areas: &Areas<'_>, words: usize) -> bool
     requires { allowed (paper s) ≡ true }
     ensures { result ≡ all (λ x. x) (plain.lent_lengths (card s) words (call_of call.entry) (contents areas.now)) }

@@ -17,7 +17,7 @@ pub fn by_bytes(table: &[u64], key: &[u8]) -> u64
     h
 }
 
-// Two reads a byte, of its low half and of its high half.
+// Two reads a byte, of its low half and of its high half. A loop of its own: one over digits of 4 or of 8 bits would ask which at each read.
 pub fn by_halves(table: &[u64], key: &[u8]) -> u64
     requires { table_length 4 (2 * length key.now) ≤ length table.now }
     ensures { result ≡ H_by_from 4 table.now 0 (halves key.now) }

@@ -2,11 +2,11 @@
 // The constants are in entries.rt, half_entries.rt and rows.rt, which bin/hash-constants writes.
 #![tactic(auto)]
 
-mod by_rows; // by_rows.rt: H of parts of a key by the rows, and the tables by byte made of them
+mod by_rows; // by_rows.rt: H of a key by the rows, and the tables by byte that are made of them
 pub mod by_table; // by_table.rt: what a lent table gives for a key
 mod entries;
 mod half_entries;
-pub mod made; // made.rt: the table that a call makes once
+pub mod made; // made.rt: the table of keys of a width
 mod rows;
 
 ghost use Rattle.std.specs.Prelude.{◌≡◌, true, ◌*◌, ◌^◌, ◌<◌, ◌≤◌, length};

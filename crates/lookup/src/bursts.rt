@@ -19,7 +19,7 @@ use settings::areas::LookupAreas;
 use settings::counts::ClippedCount;
 use settings::{Given, Settings};
 
-// What the counters say, as one number, and back.
+// What the counters say, as one number, which stands in the lent answers until the third pass; and back. No From: one of the two requires a range.
 fn packed(choice: Option<KeyCounters>) -> u64
     requires { CountersFit choice }
     ensures { result ≡ packed_of choice }
@@ -42,7 +42,7 @@ fn unpacked(x: u64) -> Option<KeyCounters>
     })
 }
 
-// The first pass: what the table gives for each key.
+// The first pass: what the table gives for each key. By enumerate, here and below: after a zip with iter_mut nothing is known of what was written.
 fn hash_all(s: Settings, table: &[u64], keys: &[u8], answers: &mut [u64])
     requires { (has (length table.now) (table_lengths (card s).width) ≡ true)
         × (length keys.now ≡ length answers.old * (card s).width) }

@@ -85,7 +85,7 @@ fn ports_cut<V: Version>(packet: &[u8]) -> bool
     V::has_ports(packet) & (packet.len() - V::header_length(packet) < 4)
 }
 
-// The version's number of a wrong header, 11; else 0.
+// A wrong header, or ports that are cut off.
 fn judge<V: Version>(packet: &[u8]) -> Result<(), Refusal>
     ensures { answer_of result
         ≡ refusal_of (reading_of V.WIDTH (number_of V.WRONG_HEADER) (V.said packet.now) packet.now) }

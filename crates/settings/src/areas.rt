@@ -8,6 +8,7 @@ ghost use Rattle.settings.specs.Areas.{contents, lookup_contents, lookup_part};
 
 use super::Settings;
 
+// The five of a table. That a call hands back the slices that it was lent is a clause of each (`SameSlices`): no type says it of a `&mut`.
 #[derive(Drop)]
 pub struct Areas<'a> {
     pub ledger: &'a mut [u8],
@@ -25,7 +26,7 @@ pub struct LookupAreas<'a> {
 }
 
 impl LookupAreas<'_> {
-    // Each is as the settings say; else 2.
+    // Each is as the settings say.
     pub fn have_lengths(self, s: Settings) -> bool
         requires { allowed (paper s) ≡ true }
         ensures { result ≡ all (λ x. x) (lookup_lengths (card s) (lookup_contents self.entry)) }
@@ -49,7 +50,7 @@ impl Areas<'_> {
         }
     }
 
-    // Each is as the settings say; else 2.
+    // Each is as the settings say.
     pub fn have_lengths(&self, s: Settings) -> bool
         requires { allowed (paper s) ≡ true }
         ensures { result ≡ all (λ x. x) (all_lengths (card s) (contents self.now)) }

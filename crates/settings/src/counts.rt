@@ -94,7 +94,7 @@ impl TrueCount {
         ClippedCount(u64::from(self.0).min(top as u64))
     }
 
-    // As of a clipped count: count and bucket as one number.
+    // As of a clipped count, and said again: the two are types of their own, so that neither is taken for the other.
     pub fn rank(self, bucket: u64) -> u64
         requires { bucket < 65536 }
         ensures { result ≡ self.0 * 65536 + bucket }

@@ -11,7 +11,8 @@ use memory::refusals::Refusal;
 pub mod areas; // areas.rt: the areas that a call is lent
 pub mod counts; // counts.rt: true counts and clipped counts, each a type of its own
 
-// In the paper's order and letters: p, k, B, T, N, S, the key width.
+// In the paper's order and letters: p, k, B, T, N, S, the key width. No invariant says that they are in range: `width` and others promise their answer of any
+// settings (docs/PROOFS.md).
 #[derive(Clone, Copy)]
 pub struct Settings {
     pub p: usize,

@@ -1,4 +1,4 @@
-// A trial's answer, from the bytes of its settings: 14, 1, 2, else 0.
+// A trial judged by the bytes of its settings: 14, 1, 2.
 ghost use Rattle.std.specs.Prelude.{◌≡◌, true, ◌<◌, ◌≤◌, length};
 ghost use Rattle.theory.specs.Settings.{allowed};
 ghost use Rattle.theory.specs.Trials.{trial_setting, trial_settings, area_above};

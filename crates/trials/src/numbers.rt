@@ -6,6 +6,7 @@ ghost use Rattle.calls.specs.Data.{reply_of};
 ghost use Rattle.trials.specs.Data.{numbers_of, Growing, Grown};
 
 use calls::data::Reply;
+use memory::refusals::Refusal;
 
 // "greatest side need of a list held, refusals 6, 7, 8 and 9, and records compared in all"
 #[derive(Clone, Copy, Default)]
@@ -48,10 +49,10 @@ impl Numbers {
     {
         let number = number_of(reply);
         self.greatest_need = self.greatest_need.max(need);
-        self.refused_6 += u64::from(number == 6);
-        self.refused_7 += u64::from(number == 7);
-        self.refused_8 += u64::from(number == 8);
-        self.refused_9 += u64::from(number == 9);
+        self.refused_6 += u64::from(number == Refusal::AlreadyHeld.number());
+        self.refused_7 += u64::from(number == Refusal::NotHeld.number());
+        self.refused_8 += u64::from(number == Refusal::LedgerFull.number());
+        self.refused_9 += u64::from(number == Refusal::SideStoreFull.number());
         self.compared += u64::from(compared_of(reply));
     }
 }

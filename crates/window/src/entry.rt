@@ -2,6 +2,7 @@
 ghost use Rattle.std.specs.Prelude.{◌≤◌};
 ghost use Rattle.theory.specs.Window.{most_compared};
 
+// Two flags that are what an entry is, and no value beside one of them.
 #[derive(Clone, Copy)]
 pub struct Entry {
     pub held: bool,

