@@ -18,7 +18,9 @@ use Rattle.theory.proofs.ListLaws.{by_test}
 use Rattle.theory.proofs.RankLaws.{any_numbers, rank, rank_least, rank_chosen}
 use Rattle.theory.proofs.RankLaws.{rest_start, rest_next, rest_hash, any_again, any_end, best_again, best_end}
 use Rattle.std.specs.Prelude.{None, Some}
-use Rattle.lookup.specs.Choosing.{card_at, key_counters_at}
+use Rattle.settings.specs.declared.counts.ClippedCount.{ClippedCount}
+use Rattle.lookup.specs.Choosing.{card_at, key_counters_at, CountersOf}
+use Rattle.lookup.specs.declared.counters.KeyCounters.{KeyCounters}
 
 -- the greater of two is above when one is
 pub above_higher : (top count most : ℕ) → ltb top (cond (ltb count most) most count) ≡ (ltb top most || ltb top count)
@@ -72,15 +74,21 @@ module _ {t : Settings} {clipped : List ℕ} {m : ℕ} (g : Counters t clipped m
       let even = (sound t g.ok).even in omega (arith, g.size)
 
   -- all hashes are read
-  pub choice_of : {h rest most best j : ℕ} → SoFar t.top t.k m h clipped rest most best (t.top * 65536 + m) j → t.k ≤ j
-      → key_counters_at t clipped h ≡ cond (ltb t.top most) None (Some (record { least = record { 0 = best / 65536 }; bucket = best % 65536 }))
-  unfolding key_counters_at card_at card_of
-  choice_of {h} {rest} {most} {best} {j} f le =
+  pub read_of : {h rest most best j : ℕ} → SoFar t.top t.k m h clipped rest most best (t.top * 65536 + m) j → t.k ≤ j
+      → CountersOf t h clipped (record { 0 = most }) (record { least = record { 0 = best / 65536 }; bucket = best % 65536 })
+  unfolding card_at card_of
+  read_of {h} {rest} {most} {best} {j} f le =
       let few : 2 ^ t.p ≤ 2 ^ 12 = pow_mono {j = 12} (ranges t g.ok).p_high in
       let seen = any_end m h j t.k (λ x. ltb t.top (counter clipped x)) (ltb t.top most) f.above le in
       let low = rw g.m_is at (best_end m h j t.k (counter clipped) best f.ranked le) in
-      rw (
-        rw g.m_is at seen ∙ sym (any_numbers (λ x. ltb t.top (counter clipped x)) (2 ^ t.p) t.k h),
-        rank_least (card_at t h) (counter clipped) t.k h best (pow_pos t.p) (omega arith) low [] refl,
-        rank_chosen (card_at t h) (counter clipped) t.k h best (pow_pos t.p) (omega arith) low [] refl,
-      )
+      record {
+        above = rw g.m_is at seen ∙ sym (any_numbers (λ x. ltb t.top (counter clipped x)) (2 ^ t.p) t.k h);
+        least = λ key. rank_least (card_at t h) (counter clipped) t.k h best (pow_pos t.p) (omega arith) low key refl;
+        bucket = λ key. rank_chosen (card_at t h) (counter clipped) t.k h best (pow_pos t.p) (omega arith) low key refl;
+      }
+
+-- what is read is what the counters say
+pub choice_is : {t : Settings} {h : ℕ} {clipped : List ℕ} {greatest : ClippedCount} {r : KeyCounters} → CountersOf t h clipped greatest r
+    → key_counters_at t clipped h ≡ cond (ltb t.top greatest.0) None (Some r)
+unfolding key_counters_at
+choice_is f = rw (← f.above, ← f.least [], ← f.bucket [])

@@ -9,7 +9,7 @@ ghost use Rattle.lookup.specs.Choosing.{key_counters_at};
 ghost use Rattle.lookup.specs.Answers.{at_entry};
 ghost use Rattle.lookup.specs.Bursts.{burst_key, per_key, CountersFit, packed_of, unpacked_of, number_by, ByPacked, Burst, burst_of};
 
-use crate::counters::{KeyCounters, read_counters};
+use crate::counters::{KeyCounters, key_counters};
 use crate::judging::judge_burst;
 use crate::searching::{driver_number, search_chosen};
 use hash::h_with_table;
@@ -63,7 +63,7 @@ fn read_all_counters(s: Settings, clipped: &[u8], answers: &mut [u64])
         ≡ per_key (λ j. packed_of (key_counters_at (paper s) clipped.now (get_or answers.old j 0))) (length answers.old) }
 {
     for answer in answers.iter_mut() {
-        *answer = packed(read_counters(s, *answer, clipped));
+        *answer = packed(key_counters(s, *answer, clipped));
     }
 }
 

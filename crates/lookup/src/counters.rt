@@ -3,7 +3,7 @@ ghost use Rattle.std.specs.Prelude.{◌≡◌, true, ◌/◌, ◌<◌, length};
 ghost use Rattle.theory.specs.Settings.{allowed, clipped_length};
 ghost use Rattle.theory.specs.Lookup as plain;
 ghost use Rattle.settings.specs.Checked.{paper, card};
-ghost use Rattle.lookup.specs.Choosing.{key_counters_at};
+ghost use Rattle.lookup.specs.Choosing.{key_counters_at, CountersOf};
 
 use settings::Settings;
 use settings::counts::ClippedCount;
@@ -23,11 +23,12 @@ pub fn counter(clipped: &[u8], b: usize) -> ClippedCount
     ClippedCount::of_byte(clipped[b / 2], b)
 }
 
-// None where one counter is above T. The least rank of the counters has the least counter and the lowest bucket with it: no branch. Repeated hashes are read
-// again and alter nothing.
-pub fn read_counters(s: Settings, h: u64, clipped: &[u8]) -> Option<KeyCounters>
+// The greatest of a key's counters, and what they choose. The least rank of the counters has the least counter and the lowest bucket with it: no branch.
+// Repeated hashes are read again and alter nothing.
+#[inline(always)]
+pub fn read_counters(s: Settings, h: u64, clipped: &[u8]) -> (ClippedCount, KeyCounters)
     requires { (allowed (paper s) ≡ true) × (length clipped.now ≡ clipped_length (card s)) }
-    ensures { result ≡ key_counters_at (paper s) clipped.now h }
+    ensures { CountersOf (paper s) h clipped.now result.0 result.1 }
 {
     let m = s.buckets() as u64;
     // H from hash j on
@@ -41,11 +42,23 @@ pub fn read_counters(s: Settings, h: u64, clipped: &[u8]) -> Option<KeyCounters>
         best = count.rank(b).min(best);
         rest /= 65536;
     }
-    if most.above(s.top) {
-        return None;
-    }
-    Some(KeyCounters {
+    let choice = KeyCounters {
         least: ClippedCount::of_rank(best),
         bucket: (best % 65536) as usize,
-    })
+    };
+    (most, choice)
+}
+
+// What they choose; None where one counter is above T.
+#[inline(always)]
+pub fn key_counters(s: Settings, h: u64, clipped: &[u8]) -> Option<KeyCounters>
+    requires { (allowed (paper s) ≡ true) × (length clipped.now ≡ clipped_length (card s)) }
+    ensures { result ≡ key_counters_at (paper s) clipped.now h }
+{
+    let (most, choice) = read_counters(s, h, clipped);
+    if most.above(s.top) {
+        None
+    } else {
+        Some(choice)
+    }
 }

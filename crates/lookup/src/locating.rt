@@ -6,7 +6,7 @@ ghost use Rattle.lookup.specs.Places.{CheckedLookup};
 ghost use Rattle.lookup.specs.Answers.{at_entry};
 ghost use Rattle.lookup.specs.Locating.{Placeable, record_from, LocatedAt, LocatedCall};
 
-use crate::counters::read_counters;
+use crate::counters::key_counters;
 use crate::judging::judge;
 use crate::places::{Place, place_by};
 use crate::searching::{Answer, refused, search_place};
@@ -57,7 +57,7 @@ fn locate_at(s: Settings, h: u64, areas: LookupAreas<'_>, key: &[u8]) -> Located
     let size = s.record_size();
     let looked = place_by(
         s,
-        read_counters(s, h, areas.clipped),
+        key_counters(s, h, areas.clipped),
         areas.buckets,
         areas.side,
     );

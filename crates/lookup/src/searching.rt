@@ -14,7 +14,7 @@ ghost use Rattle.lookup.specs.Places.{place_of, place_by, ByPlace, ByCounters, I
 ghost use Rattle.lookup.specs.Scanning.{Scannable, AllScannable};
 ghost use Rattle.lookup.specs.Answers.{answer_of, compared, at_entry, search_of, search_with};
 
-use crate::counters::{KeyCounters, read_counters};
+use crate::counters::{KeyCounters, key_counters};
 use crate::judging::{judge, judge_with_table};
 use crate::places::{Place, place_by};
 use crate::scanning::{scan, scan_all};
@@ -115,7 +115,7 @@ fn compare_all(place: &[u8], n: usize, room: usize, key: &[u8], read: u32, side:
 // The records of a bucket, which start after its mark: at the width of an IPv4 flow's key, as a constant that the compiler knows, all of its places; of a wider
 // key, of which every place would cost more than a branch not foreseen, record by record up to the one with the key.
 #[inline(always)]
-fn compare_bucket(s: Settings, buckets: &[u8], from: usize, n: usize, key: &[u8]) -> Answer
+pub fn compare_bucket(s: Settings, buckets: &[u8], from: usize, n: usize, key: &[u8]) -> Answer
     requires { InBucket (paper s) buckets.now key.now from n }
     ensures { answer_of result ≡ plain.answer_at (card s) key.now
         (plain.among (take (bucket_size (card s) - 1) (drop from buckets.now)) n 1 0) }
@@ -131,7 +131,7 @@ fn compare_bucket(s: Settings, buckets: &[u8], from: usize, n: usize, key: &[u8]
 
 // The records of the side store, which start after its count.
 #[inline(always)]
-fn compare_side(s: Settings, side: &[u8], n: usize, read: u32, key: &[u8]) -> Answer
+pub fn compare_side(s: Settings, side: &[u8], n: usize, read: u32, key: &[u8]) -> Answer
     requires { InSide (paper s) side.now key.now n }
     ensures { answer_of result ≡ plain.answer_at (card s) key.now (plain.among (drop 2 side.now) n read 1) }
 {
@@ -176,7 +176,7 @@ pub fn search_at(s: Settings, h: u64, areas: LookupAreas<'_>, key: &[u8]) -> Ans
     requires wide { length key.now ≡ (card s).width }
     ensures { answer_of result ≡ at_entry (plain.search_areas (card_at (paper s) h)) areas key }
 {
-    search_chosen(s, read_counters(s, h, areas.clipped), areas, key)
+    search_chosen(s, key_counters(s, h, areas.clipped), areas, key)
 }
 
 // Search, whole by itself: the key is hashed from the rows.

@@ -10,12 +10,12 @@ pub loop-answer-init : goal.loop-answer-init
 loop-answer-init c = passed_none
 
 pub packed-requires : goal.packed-requires
-packed-requires c = rw c.read_counters.ensures (at_small (paper c.args.s) c.requires.0 c.args.clipped.now _)
+packed-requires c = rw c.key_counters.ensures (at_small (paper c.args.s) c.requires.0 c.args.clipped.now _)
 
 pub loop-answer-preserved : goal.loop-answer-preserved
 loop-answer-preserved c =
     passed_more c.loop-answer.invariant _ (omega arith)
-    (c.packed.ensures ∙ ap packed_of (c.read_counters.ensures
+    (c.packed.ensures ∙ ap packed_of (c.key_counters.ensures
     ∙ ap (key_counters_at (paper c.args.s) c.args.clipped.now) (c.loop-answer.invariant.left c.loop-answer.answer-index (omega arith))))
 
 pub returns : goal.returns

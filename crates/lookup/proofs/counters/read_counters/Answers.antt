@@ -1,12 +1,12 @@
 -- `lookup::counters::read_counters` meets its contract: the least rank is the choice of the definition.
-use Rattle.std.proofs.Common.{◌≡◌, sym, ap, ◌∙◌, ◌%◌, ◌<◌, ◌≤◌, ℕ, List, length, arith, true, min}
+use Rattle.std.proofs.Common.{◌≡◌, ap, ◌∙◌, ◌%◌, ◌<◌, ◌≤◌, ℕ, List, length, arith, true, min}
 use native.Mathlib.Nat.{mod-lt}
 use Rattle.theory.specs.Settings as plain
 use Rattle.theory.specs.Settings.{allowed, card_of, clipped_length}
 use Rattle.theory.proofs.SettingsLaws.{ranges}
 use Rattle.settings.specs.Checked.{paper}
 use Rattle.settings.proofs.Laws.{buckets_are, bounds}
-use Rattle.lookup.proofs.CounterLaws.{Counters, so_far_start, so_far_next, is_hash, counter_there, choice_of}
+use Rattle.lookup.proofs.CounterLaws.{Counters, so_far_start, so_far_next, is_hash, counter_there, read_of}
 use Rattle.lookup.proofs.counters.read_counters.Goals as goal
 
 -- ---- the settings are allowed
@@ -58,13 +58,7 @@ loop-j-preserved c =
     so_far_next c.loop-j.invariant (omega arith) c.counter-count.ensures.0 c.higher-most.ensures
     (c.min-best.ensures ∙ ap (λ (x : ℕ). min x c.loop-j.best) c.rank.ensures)
 
-pub returns-then-above : goal.returns-then-above
-returns-then-above c =
-    sym (choice_of (all (paper c.args.s) c.args.clipped.now c.buckets-m.result c.requires.0 c.requires.1 c.buckets-m.ensures) c.loop-j.invariant c.loop-j-test.false
-    ∙ rw (sym c.above.ensures ∙ c.if-above.true))
-
 pub returns : goal.returns
 returns c =
     rw c.of_rank.ensures
-    (sym (choice_of (all (paper c.args.s) c.args.clipped.now c.buckets-m.result c.requires.0 c.requires.1 c.buckets-m.ensures) c.loop-j.invariant c.loop-j-test.false
-    ∙ rw (sym c.above.ensures ∙ c.if-above.false)))
+    (read_of (all (paper c.args.s) c.args.clipped.now c.buckets-m.result c.requires.0 c.requires.1 c.buckets-m.ensures) c.loop-j.invariant c.loop-j-test.false)

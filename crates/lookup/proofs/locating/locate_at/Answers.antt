@@ -36,16 +36,16 @@ module _ (t : plain.Settings) (h : ℕ) (clipped buckets side key : List ℕ) (g
 
 pub place_by-looked-requires : goal.place_by-looked-requires
 place_by-looked-requires c =
-    rw c.read_counters.ensures (places_of c.requires.checked, key_counters_fit (paper c.args.s) c.args.h c.args.areas.clipped.now c.requires.checked.ok)
+    rw c.key_counters.ensures (places_of c.requires.checked, key_counters_fit (paper c.args.s) c.args.h c.args.areas.clipped.now c.requires.checked.ok)
 
 pub search_place-answer-requires : goal.search_place-answer-requires
 search_place-answer-requires c =
-    at_place (paper c.args.s) c.args.h _ _ _ c.args.key.now c.requires.checked c.requires.wide _ c.read_counters.ensures _ c.place_by-looked.ensures
+    at_place (paper c.args.s) c.args.h _ _ _ c.args.key.now c.requires.checked c.requires.wide _ c.key_counters.ensures _ c.place_by-looked.ensures
 
 pub record_of-place-requires : goal.record_of-place-requires
 record_of-place-requires c =
     let t = paper c.args.s in
-    let at = at_place t c.args.h _ _ _ c.args.key.now c.requires.checked c.requires.wide _ c.read_counters.ensures _ c.place_by-looked.ensures in
+    let at = at_place t c.args.h _ _ _ c.args.key.now c.requires.checked c.requires.wide _ c.key_counters.ensures _ c.place_by-looked.ensures in
     let inside = in_bucket at c.in-Bucket.is in
     let b = bounds t c.requires.checked.ok in
     record {
@@ -69,8 +69,8 @@ returns-in-Bucket c =
     let t = paper c.args.s in
     let key = c.args.key.now in
     let is = c.search_place-answer.ensures
-    ∙ whole t c.args.h _ _ _ key c.requires.checked c.requires.wide _ c.read_counters.ensures _ c.place_by-looked.ensures in
-    let to = goes t c.args.h _ _ _ key c.requires.checked c.requires.wide _ c.read_counters.ensures _ c.place_by-looked.ensures _ c.in-Bucket.is in
+    ∙ whole t c.args.h _ _ _ key c.requires.checked c.requires.wide _ c.key_counters.ensures _ c.place_by-looked.ensures in
+    let to = goes t c.args.h _ _ _ key c.requires.checked c.requires.wide _ c.key_counters.ensures _ c.place_by-looked.ensures _ c.in-Bucket.is in
     record {
       answers = is;
       lies = lies_among t c.args.h _ _ _ key _ is true to.0 area.Buckets refl _ to.1 _ c.record_size-size.ensures c.record_of-place.ensures;
@@ -81,8 +81,8 @@ returns-in-Side c =
     let t = paper c.args.s in
     let key = c.args.key.now in
     let is = c.search_place-answer.ensures
-    ∙ whole t c.args.h _ _ _ key c.requires.checked c.requires.wide _ c.read_counters.ensures _ c.place_by-looked.ensures in
-    let to = goes t c.args.h _ _ _ key c.requires.checked c.requires.wide _ c.read_counters.ensures _ c.place_by-looked.ensures _ c.in-Side.is in
+    ∙ whole t c.args.h _ _ _ key c.requires.checked c.requires.wide _ c.key_counters.ensures _ c.place_by-looked.ensures in
+    let to = goes t c.args.h _ _ _ key c.requires.checked c.requires.wide _ c.key_counters.ensures _ c.place_by-looked.ensures _ c.in-Side.is in
     record {
       answers = is;
       lies = lies_among t c.args.h _ _ _ key _ is false to area.Side refl 2 refl _ c.record_size-size.ensures c.record_of-place-in-Side.ensures;
@@ -93,7 +93,7 @@ returns-in-Invalid c =
     let t = paper c.args.s in
     let key = c.args.key.now in
     let is = c.search_place-answer.ensures
-    ∙ whole t c.args.h _ _ _ key c.requires.checked c.requires.wide _ c.read_counters.ensures _ c.place_by-looked.ensures in
+    ∙ whole t c.args.h _ _ _ key c.requires.checked c.requires.wide _ c.key_counters.ensures _ c.place_by-looked.ensures in
     record {
       answers = is;
       lies = lies_nowhere t c.args.h _ _ _ key _ is (none_held (card_of t) key c.args.areas.buckets.now c.args.areas.side.now _ _ c.search_place-answer.ensures c.in-Invalid.is);

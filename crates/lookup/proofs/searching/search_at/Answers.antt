@@ -6,7 +6,7 @@ use Rattle.lookup.proofs.searching.search_at.Goals as goal
 
 pub search_chosen-requires : goal.search_chosen-requires
 search_chosen-requires c =
-    rw c.read_counters.ensures
+    rw c.key_counters.ensures
     (record {
       checked = places_of c.requires.checked;
       fits = key_counters_fit (paper c.args.s) c.args.h c.args.areas.clipped.now c.requires.checked.ok;
@@ -21,4 +21,4 @@ returns c =
     let side = c.args.areas.side.now in
     let key = c.args.key.now in
     c.search_chosen.ensures
-    ∙ rw c.read_counters.ensures (search_is t c.args.h clipped buckets side key _ (place_by_is t c.args.h clipped c.requires.checked.ok key buckets side))
+    ∙ rw c.key_counters.ensures (search_is t c.args.h clipped buckets side key _ (place_by_is t c.args.h clipped c.requires.checked.ok key buckets side))
