@@ -48,7 +48,7 @@ fn load_checked(
         return Err(Refusal::SideStoreFull);
     }
     write_ledger(s, areas.ledger, list, head.count);
-    writing::write_areas(s, placement, need, areas);
+    writing::lay_out(s, placement, need, areas);
     Ok(Given::from(s))
 }
 

@@ -32,5 +32,5 @@ pub(crate) fn write_new(s: Settings, plan: Plan<'_>, call: EditCall<'_>, areas: 
     ensures same { SameSlices areas.old areas.new }
 {
     edit_ledger(s, call, areas.ledger, plan.at);
-    writing::write_areas(s, plan.placement, plan.need, areas);
+    writing::lay_out(s, plan.placement, plan.need, areas);
 }

@@ -45,7 +45,7 @@ fn write_places(
 }
 
 // The layout of the list in every area but the ledger's, which holds its records, by what placing it left behind.
-pub fn write_areas(s: Settings, placement: Placement<'_>, need: usize, areas: &mut Areas<'_>)
+pub fn lay_out(s: Settings, placement: Placement<'_>, need: usize, areas: &mut Areas<'_>)
     requires laying { Laying s placement (drop 2 areas.old.ledger.now) }
     requires need { need ≡ side_need_of (card s) (placed_records (card s) placement (drop 2 areas.old.ledger.now)) }
     requires enough { need ≤ (card s).side_places }

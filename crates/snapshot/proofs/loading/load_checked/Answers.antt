@@ -66,19 +66,19 @@ write_ledger-requires c =
       full = lent_full full;
     }
 
-pub write_areas-requires-clause-laying : goal.write_areas-requires-clause-laying
-write_areas-requires-clause-laying c =
+pub lay_out-requires-clause-laying : goal.lay_out-requires-clause-laying
+lay_out-requires-clause-laying c =
     let full = full_file (paper c.args.s) c.requires.head (sym c.in_ok-refusal_by_file.ensures) in
     lays (written c.args.s full (bytes_of c.args.file.now c.type_inv.file) c.write_ledger.ensures c.place_list-placement.ensures) c.requires.ready.ok
 
-pub write_areas-requires-clause-need : goal.write_areas-requires-clause-need
-write_areas-requires-clause-need c =
+pub lay_out-requires-clause-need : goal.lay_out-requires-clause-need
+lay_out-requires-clause-need c =
     let full = full_file (paper c.args.s) c.requires.head (sym c.in_ok-refusal_by_file.ensures) in
     let laid = written c.args.s full (bytes_of c.args.file.now c.type_inv.file) c.write_ledger.ensures c.place_list-placement.ensures in
     c.side_need-need.ensures _ c.place_list-placement.ensures ∙ ap (side_need_of (card c.args.s)) (sym (written_list laid))
 
-pub write_areas-requires-clause-lengths : goal.write_areas-requires-clause-lengths
-write_areas-requires-clause-lengths c =
+pub lay_out-requires-clause-lengths : goal.lay_out-requires-clause-lengths
+lay_out-requires-clause-lengths c =
     let sized = c.requires.sized in
     record {
       ledger = omega (arith, c.write_ledger.auto.ledger, has_count (card c.args.s) c.args.areas.now.ledger.now sized.ledger);
@@ -88,8 +88,8 @@ write_areas-requires-clause-lengths c =
       side_store = sized.side_store;
     }
 
-pub write_areas-requires-clause-enough : goal.write_areas-requires-clause-enough
-write_areas-requires-clause-enough c = omega (arith, c.if-s-need.false, side_places_are (paper c.args.s))
+pub lay_out-requires-clause-enough : goal.lay_out-requires-clause-enough
+lay_out-requires-clause-enough c = omega (arith, c.if-s-need.false, side_places_are (paper c.args.s))
 
 pub returns-clause-loaded : goal.returns-clause-loaded
 returns-clause-loaded c =
@@ -98,4 +98,4 @@ returns-clause-loaded c =
     let need = c.side_need-need.ensures _ c.place_list-placement.ensures ∙ ap (side_need_of (card c.args.s)) (lent_listed full) in
     let laid = written c.args.s full (bytes_of c.args.file.now c.type_inv.file) c.write_ledger.ensures c.place_list-placement.ensures in
     loads_0 c.requires none need (omega (arith, c.if-s-need.false, side_places_are (paper c.args.s))) c.from.ensures
-    (layout_written laid c.write_areas.ensures.laid ∙ ap (layout (card c.args.s)) (lent_listed full))
+    (layout_written laid c.lay_out.ensures.laid ∙ ap (layout (card c.args.s)) (lent_listed full))

@@ -35,15 +35,15 @@ edit_ledger-requires c =
           ∙ sym (size_is (card c.args.s));
     }
 
-pub write_areas-requires-clause-laying : goal.write_areas-requires-clause-laying
-write_areas-requires-clause-laying c = lays (written c.requires c.edit_ledger.ensures) c.requires.ok
+pub lay_out-requires-clause-laying : goal.lay_out-requires-clause-laying
+lay_out-requires-clause-laying c = lays (written c.requires c.edit_ledger.ensures) c.requires.ok
 
-pub write_areas-requires-clause-need : goal.write_areas-requires-clause-need
-write_areas-requires-clause-need c =
+pub lay_out-requires-clause-need : goal.lay_out-requires-clause-need
+lay_out-requires-clause-need c =
     c.requires.planned.need ∙ ap (side_need_of (card c.args.s)) (sym (written_list (written c.requires c.edit_ledger.ensures)))
 
-pub write_areas-requires-clause-lengths : goal.write_areas-requires-clause-lengths
-write_areas-requires-clause-lengths c =
+pub lay_out-requires-clause-lengths : goal.lay_out-requires-clause-lengths
+lay_out-requires-clause-lengths c =
     let sized = c.requires.sized in
     record {
       ledger = omega (arith, c.edit_ledger.auto.ledger, has_count (card c.args.s) c.args.areas.now.ledger.now sized.ledger);
@@ -54,4 +54,4 @@ write_areas-requires-clause-lengths c =
     }
 
 pub returns-clause-written : goal.returns-clause-written
-returns-clause-written c = layout_written (written c.requires c.edit_ledger.ensures) c.write_areas.ensures.laid
+returns-clause-written c = layout_written (written c.requires c.edit_ledger.ensures) c.lay_out.ensures.laid

@@ -1,4 +1,4 @@
--- `writing::write_areas` meets its contract: what placing left behind has the true counts, so each writer's area is that of the layout.
+-- `writing::lay_out` meets its contract: what placing left behind has the true counts, so each writer's area is that of the layout.
 use mathlib.Core.Path.{sym, ◌∙◌}
 use native.Mathlib.Omega.{arith}
 use Rattle.theory.proofs.SettingsLaws.{ranges}
@@ -6,7 +6,7 @@ use Rattle.settings.specs.Checked.{paper, card}
 use Rattle.settings.proofs.Laws.{top_is, true_length_is, clipped_length_is}
 use Rattle.writing.proofs.CountLaws.{true_counts_are, clipped_are}
 use Rattle.writing.proofs.LaidLedgerLaws.{areas_laid}
-use Rattle.writing.proofs.write_areas.Goals as goal
+use Rattle.writing.proofs.lay_out.Goals as goal
 
 pub copy_from_slice-requires : goal.copy_from_slice-requires
 copy_from_slice-requires c = c.requires.lengths.true_counts ∙ true_length_is (paper c.args.s) ∙ sym c.requires.laying.placed.counts_length
