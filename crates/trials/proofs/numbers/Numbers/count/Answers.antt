@@ -14,6 +14,10 @@ returns-clause-counted c =
       c.from-3.ensures,
       c.from-4.ensures,
       c.from-5.ensures,
+      c.number.ensures,
+      c.number-2.ensures,
+      c.number-3.ensures,
+      c.number-4.ensures,
       c.compared_of.ensures,
       c.number_of-number.ensures,
     ) (simp byte_is)
