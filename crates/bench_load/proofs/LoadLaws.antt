@@ -9,10 +9,9 @@ use Rattle.theory.specs.BenchLoad.{Generator, draw, after_call, load_class, call
 use Rattle.theory.specs.BenchLoad.{draws, load_bytes, after_calls, load_in, load_asked, load_written}
 use Rattle.theory.proofs.BenchLoadLaws.{length_call, length_load, bytes_more, after_more, load_right}
 use Rattle.memory.proofs.SliceLaws.{back, length_back, take_back, tail_back, length_tail, front_length, front_take}
-use Rattle.std.specs.declared.num.NonZeroU64.{NonZeroU64}
 use Rattle.bench_load.specs.declared.Generator as code
 use Rattle.bench_load.specs.declared.BenchLoad.{BenchLoad}
-use Rattle.bench_load.specs.Loads.{generator_of, flows_of, load_of, drawn, Cut}
+use Rattle.bench_load.specs.Loads.{generator_of, load_of, drawn, Cut}
 
 -- a first number that is none of 0, 1, 2 modulo 4 asks for a search
 pub search_letter : (flows first second : ℕ) → first % 4 ≢ 0 → first % 4 ≢ 1 → first % 4 ≢ 2 → 83 ≡ call_letter (load_call flows (drawn first second))
@@ -103,15 +102,14 @@ module _ {flows : ℕ} {g : Generator} {n : ℕ} {to : List ℕ} {now : Generato
   filled_all whole e = sym (take_all (i * 18) to (omega (arith, x.long))) ∙ (x.front ∙ ap (λ k. load_bytes flows k g) e)
 
 -- ---- the load of an input, by its four numbers
-pub asked_is : (b : List ℕ) (s w : ℕ) (flows : NonZeroU64) (count : ℕ) → s ≡ (load_in b).generator.s → w ≡ (load_in b).generator.w
-    → flows_of flows ≡ (load_in b).flows
-    → count ≡ (load_in b).count → length b ≡ 32 → s ≢ 0 → in_range 1 4096 (flows_of flows) ≡ true
+pub asked_is : (b : List ℕ) (s w flows count : ℕ) → s ≡ (load_in b).generator.s → w ≡ (load_in b).generator.w → flows ≡ (load_in b).flows
+    → count ≡ (load_in b).count → length b ≡ 32 → s ≢ 0 → in_range 1 4096 flows ≡ true
     → some (load_of (record { generator = record { s = s; w = w }; flows = flows; count = count })) ≡ load_asked b
 asked_is b s w flows count e f g h long nonzero allowed = rw (e, f, g, h) (sym (load_right b long (rw e at nonzero) (rw g at allowed)))
 
 -- ---- a load cut in two: n of its calls in a buffer, as many as it holds or all of them, and the load that is left
 pub cut_by : (x : BenchLoad) (to : List ℕ) (n : ℕ) (piece : List ℕ) (later : code.Generator) → n ≡ min (length to / 18) x.count
-    → piece ≡ load_bytes (flows_of x.flows) (length (take (n * 18) to) / 18) (generator_of x.generator)
+    → piece ≡ load_bytes x.flows (length (take (n * 18) to) / 18) (generator_of x.generator)
     → generator_of later ≡ after_calls (length (take (n * 18) to) / 18) (generator_of x.generator)
     → Cut x (record { generator = later; flows = x.flows; count = x.count - n }) (piece ++ drop (n * 18) to) (n * 18)
 unfolding load_written
@@ -122,7 +120,7 @@ cut_by x to n piece later least e f =
     let all : n + (x.count - n) ≡ x.count = omega arith in
     record {
       inside = rw (front_length (n * 18) to piece room size) room;
-      whole = rw (front_take (n * 18) to piece room size, e, f, calls, ← bytes_more (flows_of x.flows) n (x.count - n) (generator_of x.generator), all);
+      whole = rw (front_take (n * 18) to piece room size, e, f, calls, ← bytes_more x.flows n (x.count - n) (generator_of x.generator), all);
       flows = refl;
       fewer = λ long some. omega (arith, front_length (n * 18) to piece room size);
     }

@@ -1,8 +1,6 @@
 -- The code's generator and load as those of document 02, what an input asks for, and a piece of a load.
 use Rattle.std.specs.Prelude.{◌≡◌, ℕ, ◌<◌, ◌≤◌, List, ◌++◌, length, take, Result, Ok, Err}
 use Rattle.std.proofs.Math.Option.{Option, none, some}
-use Rattle.std.specs.Int.NonZero.{non_zero_u64_get}
-use Rattle.std.specs.declared.num.NonZeroU64.{NonZeroU64}
 use Rattle.theory.specs.BenchLoad as bench
 use Rattle.theory.specs.BenchLoad.{load_written}
 use Rattle.memory.specs.declared.refusals.Refusal.{Refusal}
@@ -16,12 +14,8 @@ generator_of g = record { s = g.s; w = g.w }
 abbrev pub drawn : ℕ → ℕ → bench.Drawn
 drawn first second = record { first = first; second = second }
 
--- the flow count F of a load, which has a flow
-abbrev pub flows_of : NonZeroU64 → ℕ
-flows_of flows = non_zero_u64_get flows
-
 abbrev pub load_of : BenchLoad → bench.BenchLoad
-load_of x = record { generator = generator_of x.generator; flows = flows_of x.flows; count = x.count }
+load_of x = record { generator = generator_of x.generator; flows = x.flows; count = x.count }
 
 -- none is 15, by `asked_number`
 abbrev pub asked_of : Result BenchLoad Refusal → Option bench.BenchLoad

@@ -1,16 +1,15 @@
 // Document 02, U1, 'A load for the bench': the generator's step, calls written into a lent buffer, and the reading of the input that asks for a load.
 #![tactic(auto)]
 
-ghost use Rattle.std.specs.Prelude.{◌≡◌, ℕ, ◌/◌, ◌%◌, min, length, IfErr};
+ghost use Rattle.std.specs.Prelude.{◌≡◌, ℕ, ◌/◌, ◌%◌, ◌<◌, min, length, IfOk, IfErr};
 ghost use Rattle.theory.specs.Settings.{in_range, ipv4_width};
 ghost use Rattle.theory.specs.BenchLoad.{stepped, next_number, draw, after_call, load_class, call_letter, load_key, load_call, call_bytes};
 ghost use Rattle.theory.specs.BenchLoad.{load_bytes, after_calls, load_asked};
-ghost use Rattle.bench_load.specs.Loads.{generator_of, drawn, flows_of, asked_of, Cut};
+ghost use Rattle.bench_load.specs.Loads.{generator_of, drawn, asked_of, Cut};
 
 use memory::numbers::{eight_at, write_eight};
 use memory::records::write_class;
 use memory::refusals::Refusal;
-use std::num::NonZeroU64;
 
 // "A generator holds a 64-bit s .. and a 64-bit w"
 #[repr(C)]
@@ -67,9 +66,10 @@ fn letter(first: u64) -> u8
 }
 
 // "the key is the second mod F in eight bytes, high byte first, then five zero bytes"
-pub fn write_key(to: &mut [u8], flows: NonZeroU64, second: u64)
-    requires { length to.old ≡ ipv4_width }
-    ensures { (first : ℕ) → to.new ≡ load_key (flows_of flows) (drawn first second) }
+pub fn write_key(to: &mut [u8], flows: u64, second: u64)
+    requires width { length to.old ≡ ipv4_width }
+    requires some { 0 < flows }
+    ensures { (first : ℕ) → to.new ≡ load_key flows (drawn first second) }
 {
     write_eight(&mut to[..8], second % flows);
     to[8..].fill(0);
@@ -83,9 +83,10 @@ pub fn class_of(first: u64) -> u32
 }
 
 // A call for flowrun of two numbers: letter, key, class, which stands there for a removal and a search too.
-fn write_call(to: &mut [u8], flows: NonZeroU64, first: u64, second: u64)
-    requires { length to.old ≡ 18 }
-    ensures { to.new ≡ call_bytes (flows_of flows) (drawn first second) }
+fn write_call(to: &mut [u8], flows: u64, first: u64, second: u64)
+    requires length { length to.old ≡ 18 }
+    requires some { 0 < flows }
+    ensures { to.new ≡ call_bytes flows (drawn first second) }
 {
     to[0] = letter(first);
     write_key(&mut to[1..14], flows, second);
@@ -93,9 +94,10 @@ fn write_call(to: &mut [u8], flows: NonZeroU64, first: u64, second: u64)
 }
 
 // The next call of a generator.
-fn write_next(to: &mut [u8], flows: NonZeroU64, generator: &mut Generator)
-    requires { length to.old ≡ 18 }
-    ensures call { to.new ≡ call_bytes (flows_of flows) (draw (generator_of generator.old)) }
+fn write_next(to: &mut [u8], flows: u64, generator: &mut Generator)
+    requires length { length to.old ≡ 18 }
+    requires some { 0 < flows }
+    ensures call { to.new ≡ call_bytes flows (draw (generator_of generator.old)) }
     ensures after { generator_of generator.new ≡ after_call (generator_of generator.old) }
 {
     let (first, second) = generator.next_two();
@@ -103,9 +105,10 @@ fn write_next(to: &mut [u8], flows: NonZeroU64, generator: &mut Generator)
 }
 
 // As many calls of a generator as a buffer holds.
-pub fn fill(to: &mut [u8], flows: NonZeroU64, generator: &mut Generator)
-    requires { length to.old % 18 ≡ 0 }
-    ensures calls { to.new ≡ load_bytes (flows_of flows) (length to.old / 18) (generator_of generator.old) }
+pub fn fill(to: &mut [u8], flows: u64, generator: &mut Generator)
+    requires whole { length to.old % 18 ≡ 0 }
+    requires some { 0 < flows }
+    ensures calls { to.new ≡ load_bytes flows (length to.old / 18) (generator_of generator.old) }
     ensures after { generator_of generator.new ≡ after_calls (length to.old / 18) (generator_of generator.old) }
 {
     // By places: after a loop over `chunks_exact_mut` nothing is known of what its parts were given.
@@ -119,7 +122,7 @@ pub fn fill(to: &mut [u8], flows: NonZeroU64, generator: &mut Generator)
 #[derive(Clone, Copy)]
 pub struct BenchLoad {
     pub generator: Generator,
-    pub flows: NonZeroU64,
+    pub flows: u64,
     pub count: u64,
 }
 
@@ -136,6 +139,7 @@ fn flows_allowed(flows: u64) -> bool
 pub fn read_load(input: &[u8]) -> Result<BenchLoad, Refusal>
     ensures load { asked_of result ≡ load_asked input.now }
     ensures refusal { IfErr result (λ e. e ≡ Refusal.WrongLoad) }
+    ensures flows { IfOk result (λ load. 0 < load.flows) }
 {
     if input.len() != 32 {
         return Err(Refusal::WrongLoad);
@@ -152,7 +156,7 @@ pub fn read_load(input: &[u8]) -> Result<BenchLoad, Refusal>
     }
     Ok(BenchLoad {
         generator: Generator { s, w },
-        flows: NonZeroU64::new(flows).unwrap(),
+        flows,
         count,
     })
 }
@@ -167,6 +171,7 @@ fn calls_held(bytes: usize, count: u64) -> usize
 impl BenchLoad {
     // As many calls of the load as a buffer holds, or all of them, at its start: how many bytes they are. What is left of the load follows.
     pub fn next_piece(&mut self, to: &mut [u8]) -> usize
+        requires { 0 < self.old.flows }
         ensures { Cut self.old self.new to.new result }
     {
         let calls = calls_held(to.len(), self.count);

@@ -2,14 +2,15 @@
 // 3,640 calls; crate bench_load judges the input and makes the calls, and crate streams reads and writes.
 #![tactic(auto)]
 
-ghost use Rattle.std.specs.Prelude.{◌≤◌, length};
+ghost use Rattle.std.specs.Prelude.{◌<◌, ◌≤◌, length};
 
 use bench_load::BenchLoad;
 use streams::Failed;
 
 // Writes the calls of a load, as many at a time as the buffer holds. It stops where they are not taken. No `for`: the load says when none is left.
 fn write_calls(rt: &HostRuntime, load: BenchLoad, buffer: &mut [u8]) -> Result<(), Failed>
-    requires { 18 ≤ length buffer.old }
+    requires some { 0 < load.flows }
+    requires room { 18 ≤ length buffer.old }
 {
     let mut left = load;
     while left.count > 0 {

@@ -1,5 +1,5 @@
 -- What playing a load asks, and what one call of it gives.
-use Rattle.std.specs.Prelude.{◌≡◌, true, List, ℕ, ◌≤◌, length}
+use Rattle.std.specs.Prelude.{◌≡◌, true, List, ℕ, ◌≤◌, ◌<◌, length}
 use Rattle.theory.specs.Settings.{Card, allowed, work_length}
 use Rattle.theory.specs.Records.{Record, count_of}
 use Rattle.theory.specs.Layout.{Areas, layout}
@@ -13,8 +13,9 @@ use Rattle.placing.specs.Ready.{Ready}
 use Rattle.bench_load.specs.declared.BenchLoad.{BenchLoad}
 use Rattle.trials.specs.Data.{Grown}
 
--- a load that `read_load` has given: at most 2^32 calls
+-- a load that `read_load` has given: a flow, and at most 2^32 calls
 pub record Playable (load : BenchLoad) : Type 0 where
+  pub flows : 0 < load.flows
   pub calls : load.count ≤ 4294967296
 
 -- areas hold a list: they are its layout

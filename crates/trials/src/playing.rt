@@ -1,12 +1,12 @@
 // A load played on a cleared table: each of its calls is made once, by the calls themselves.
-ghost use Rattle.std.specs.Prelude.{◌≡◌, true, false, [], ℕ};
+ghost use Rattle.std.specs.Prelude.{◌≡◌, ◌<◌, true, false, [], ℕ};
 ghost use Rattle.theory.specs.Settings.{allowed};
 ghost use Rattle.theory.specs.BenchLoad.{draw, after_call, load_key, load_call, load_calls};
 ghost use Rattle.theory.specs.Trials as plain;
 ghost use Rattle.theory.specs.CallAreas.{areas_now};
 ghost use Rattle.settings.specs.Checked.{paper, card};
 ghost use Rattle.settings.specs.Areas.{contents, SameSlices};
-ghost use Rattle.bench_load.specs.Loads.{generator_of, drawn, flows_of};
+ghost use Rattle.bench_load.specs.Loads.{generator_of, drawn};
 ghost use Rattle.calls.specs.Data.{call_of};
 ghost use Rattle.trials.specs.Data.{numbers_of, Growing};
 ghost use Rattle.trials.specs.Playing.{Playable, Playing, PlayingParts, Lent, Played};
@@ -18,7 +18,6 @@ use hash::made::make_table;
 use memory::numbers::count_at;
 use settings::Settings;
 use settings::areas::Areas;
-use std::num::NonZeroU64;
 
 // "the first mod 4, from 0, picks add, change, remove or search"
 fn picked_call(first: u64, key: &[u8]) -> Call<'_>
@@ -38,7 +37,7 @@ fn picked_call(first: u64, key: &[u8]) -> Call<'_>
 fn play_call(
     s: Settings,
     table: &[u64],
-    flows: NonZeroU64,
+    flows: u64,
     generator: &mut Generator,
     areas: &mut Areas<'_>,
     work: &mut [u16],
@@ -46,7 +45,8 @@ fn play_call(
 )
     requires playing { Playing s table.now work.old (contents areas.old) }
     requires growing { Growing (numbers_of numbers.old) }
-    ensures played { Played (card s) (load_call (flows_of flows) (draw (generator_of generator.old))) (contents areas.old) (numbers_of numbers.old)
+    requires some { 0 < flows }
+    ensures played { Played (card s) (load_call flows (draw (generator_of generator.old))) (contents areas.old) (numbers_of numbers.old)
         (contents areas.new) (numbers_of numbers.new) }
     ensures after { generator_of generator.new ≡ after_call (generator_of generator.old) }
     ensures same { SameSlices areas.old areas.new }
@@ -69,7 +69,7 @@ fn play(
 ) -> Numbers
     requires playing { Playing s table.now work.old (contents areas.old) }
     requires playable { Playable load }
-    ensures played { numbers_of result ≡ plain.played (card s) (load_calls (flows_of load.flows) load.count (generator_of load.generator))
+    ensures played { numbers_of result ≡ plain.played (card s) (load_calls load.flows load.count (generator_of load.generator))
         (contents areas.old) plain.no_numbers }
     ensures same { SameSlices areas.old areas.new }
 {
@@ -86,7 +86,7 @@ fn play(
 fn play_cleared(s: Settings, load: BenchLoad, areas: &mut Areas<'_>, work: &mut [u16]) -> Numbers
     requires parts { PlayingParts s work.old (contents areas.old) }
     requires playable { Playable load }
-    ensures { numbers_of result ≡ plain.tried (card s) (load_calls (flows_of load.flows) load.count (generator_of load.generator)) [] plain.no_numbers }
+    ensures { numbers_of result ≡ plain.tried (card s) (load_calls load.flows load.count (generator_of load.generator)) [] plain.no_numbers }
 {
     writing::clear_areas(areas);
     play(s, make_table(s.width()), load, areas, work)
@@ -109,7 +109,7 @@ pub fn play_in_parts(
     requires within { plain.area_above (card s) ≡ false }
     requires playable { Playable load }
     requires lent { Lent (areas_now ledger true_counts clipped buckets side) work.old }
-    ensures { numbers_of result ≡ plain.tried (card s) (load_calls (flows_of load.flows) load.count (generator_of load.generator)) [] plain.no_numbers }
+    ensures { numbers_of result ≡ plain.tried (card s) (load_calls load.flows load.count (generator_of load.generator)) [] plain.no_numbers }
 {
     let mut parts = Areas {
         ledger: &mut ledger[..s.ledger_length()],

@@ -10,4 +10,4 @@ pub loop-i-preserved : goal.loop-i-preserved
 loop-i-preserved c = filled_more c.loop-i.invariant c.loop-i-test.true c.write_next.new.to _ c.write_next.ensures.call c.write_next.ensures.after
 
 pub returns-clause-calls : goal.returns-clause-calls
-returns-clause-calls c = filled_all c.loop-i.invariant c.requires (omega arith)
+returns-clause-calls c = filled_all c.loop-i.invariant c.requires.whole (omega arith)

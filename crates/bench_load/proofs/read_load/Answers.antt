@@ -22,6 +22,5 @@ returns-then-not-flows_allowed-clause-load c =
 pub returns-clause-load : goal.returns-clause-load
 unfolding load_in eight_at
 returns-clause-load c =
-    let made = rw c.unwrap.ensures at c.new.ensures in
-    asked_is c.args.input.now _ _ c.unwrap.result _ c.eight_at-s.ensures c.eight_at-w.ensures (made ∙ c.eight_at-flows.ensures) c.eight_at-count.ensures
-    c.if-input-ne32.false c.if-s-eq0.false (ap (in_range 1 4096) made ∙ (sym c.flows_allowed.ensures ∙ c.if-not-flows_allowed.false))
+    asked_is c.args.input.now _ _ _ _ c.eight_at-s.ensures c.eight_at-w.ensures c.eight_at-flows.ensures c.eight_at-count.ensures c.if-input-ne32.false
+    c.if-s-eq0.false (sym c.flows_allowed.ensures ∙ c.if-not-flows_allowed.false)

@@ -1,8 +1,6 @@
 -- Eight bytes at the front, zeros after them.
 use Rattle.std.proofs.Common.{◌≡◌, length, replicate, ap, ◌∙◌}
-use Rattle.theory.specs.Records.{to_bytes}
 use Rattle.theory.proofs.ByteLaws.{length_to_bytes}
-use Rattle.bench_load.specs.Loads.{flows_of}
 use Rattle.bench_load.proofs.LoadLaws.{zeros_lent, key_back, key_written}
 use Rattle.bench_load.proofs.write_key.Goals as goal
 
@@ -10,6 +8,6 @@ pub returns : goal.returns
 returns c =
     let eight = c.write_eight.new.to in
     let long : length eight ≡ 8 = rw (c.write_eight.ensures, length_to_bytes) in
-    let zeros = c.fill.ensures.after (λ y e. e) ∙ ap (λ n. replicate n 0) (zeros_lent c.args.to.now eight c.requires long) in
-    λ first. key_back c.args.to.now eight c.requires long c.fill.new.self
-    ∙ key_written (flows_of c.args.flows) first c.args.second eight c.fill.new.self (c.write_eight.ensures ∙ ap (to_bytes 8) c.rem.ensures) zeros
+    let zeros = c.fill.ensures.after (λ y e. e) ∙ ap (λ n. replicate n 0) (zeros_lent c.args.to.now eight c.requires.width long) in
+    λ first. key_back c.args.to.now eight c.requires.width long c.fill.new.self
+    ∙ key_written c.args.flows first c.args.second eight c.fill.new.self c.write_eight.ensures zeros

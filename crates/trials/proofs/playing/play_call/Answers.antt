@@ -6,7 +6,7 @@ use Rattle.theory.specs.BenchLoad.{draw, load_call}
 use Rattle.theory.proofs.SettingsLaws.{sound}
 use Rattle.settings.specs.Checked.{paper, card}
 use Rattle.settings.proofs.Laws.{bounds}
-use Rattle.bench_load.specs.Loads.{generator_of, flows_of}
+use Rattle.bench_load.specs.Loads.{generator_of}
 use Rattle.calls.specs.Data.{call_of}
 use Rattle.calls.proofs.CallingLaws.{callable}
 use Rattle.trials.proofs.PlayLaws.{holds_sized, holds_next, played_by}
@@ -20,8 +20,8 @@ call-reply-requires c =
 pub count_at-need-requires : goal.count_at-need-requires
 count_at-need-requires c =
     let playing = c.requires.playing in
-    let is : call_of c.picked_call.result ≡ load_call (flows_of c.args.flows) (draw (generator_of c.args.generator.now)) =
-    c.picked_call.ensures _ _ (c.write_key.ensures _) ∙ ap (load_call (flows_of c.args.flows)) c.next_two-first.ensures.numbers in
+    let is : call_of c.picked_call.result ≡ load_call c.args.flows (draw (generator_of c.args.generator.now)) =
+    c.picked_call.ensures _ _ (c.write_key.ensures _) ∙ ap (load_call c.args.flows) c.next_two-first.ensures.numbers in
     let after = holds_next _ _ playing is c.call-reply.ensures.called in
     let long = (holds_sized (card c.args.s) (sound (paper c.args.s) playing.ready.ok) after).side_store in
     let side = ap (λ (z : Areas). length z.side_store) c.lookup.ensures in
@@ -29,7 +29,7 @@ count_at-need-requires c =
 
 pub returns-clause-played : goal.returns-clause-played
 returns-clause-played c =
-    let is : call_of c.picked_call.result ≡ load_call (flows_of c.args.flows) (draw (generator_of c.args.generator.now)) =
-    c.picked_call.ensures _ _ (c.write_key.ensures _) ∙ ap (load_call (flows_of c.args.flows)) c.next_two-first.ensures.numbers in
+    let is : call_of c.picked_call.result ≡ load_call c.args.flows (draw (generator_of c.args.generator.now)) =
+    c.picked_call.ensures _ _ (c.write_key.ensures _) ∙ ap (load_call c.args.flows) c.next_two-first.ensures.numbers in
     played_by _ is c.call-reply.ensures.called
     (c.count_at-need.ensures.0 ∙ ap (λ (z : Areas). count_of z.side_store) c.lookup.ensures) c.count.ensures.counted c.count.ensures.grown
