@@ -1,5 +1,5 @@
 -- What the counters of a key say, as the code holds it.
-use Rattle.std.specs.Prelude.{◌≡◌, cond, Option, None, Some, List, [], ℕ, ltb}
+use Rattle.std.specs.Prelude.{◌≡◌, ◌/◌, ◌%◌, cond, Option, None, Some, List, [], ℕ, ltb}
 use Rattle.theory.specs.Lists.{any}
 use Rattle.theory.specs.Hash.{numbers_of}
 use Rattle.theory.specs.Settings.{Settings, Card, card_of}
@@ -20,6 +20,10 @@ card_at t h =
       side_places = (card_of t).side_places;
       numbers = λ key. numbers_of (card_of t).buckets t.k h;
     }
+
+-- a counter and its bucket as one number, its rank, and back
+abbrev pub of_rank : ℕ → KeyCounters
+of_rank rank = record { least = record { 0 = rank / 65536 }; bucket = rank % 65536 }
 
 -- whatever the key is: whether one counter is above T, by the greatest; the least; of the bucket numbers with the least, the lowest
 pub record CountersOf (t : Settings) (h : ℕ) (clipped : List ℕ) (greatest : ClippedCount) (r : KeyCounters) : Type 0 where

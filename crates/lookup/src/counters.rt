@@ -3,7 +3,7 @@ ghost use Rattle.std.specs.Prelude.{◌≡◌, true, ◌/◌, ◌<◌, length};
 ghost use Rattle.theory.specs.Settings.{allowed, clipped_length};
 ghost use Rattle.theory.specs.Lookup as plain;
 ghost use Rattle.settings.specs.Checked.{paper, card};
-ghost use Rattle.lookup.specs.Choosing.{key_counters_at, CountersOf};
+ghost use Rattle.lookup.specs.Choosing.{key_counters_at, CountersOf, of_rank};
 
 use settings::Settings;
 use settings::counts::ClippedCount;
@@ -23,12 +23,12 @@ pub fn counter(clipped: &[u8], b: usize) -> ClippedCount
     ClippedCount::of_byte(clipped[b / 2], b)
 }
 
-// The greatest of a key's counters, and what they choose. The least rank of the counters has the least counter and the lowest bucket with it: no branch.
-// Repeated hashes are read again and alter nothing.
+// The greatest of a key's counters, and their least rank, which has the least counter and the lowest bucket with it: no branch. Repeated hashes are read again
+// and alter nothing.
 #[inline(always)]
-pub fn read_counters(s: Settings, h: u64, clipped: &[u8]) -> (ClippedCount, KeyCounters)
+fn least_rank(s: Settings, h: u64, clipped: &[u8]) -> (ClippedCount, u64)
     requires { (allowed (paper s) ≡ true) × (length clipped.now ≡ clipped_length (card s)) }
-    ensures { CountersOf (paper s) h clipped.now result.0 result.1 }
+    ensures { CountersOf (paper s) h clipped.now result.0 (of_rank result.1) }
 {
     let m = s.buckets() as u64;
     // H from hash j on
@@ -42,11 +42,28 @@ pub fn read_counters(s: Settings, h: u64, clipped: &[u8]) -> (ClippedCount, KeyC
         best = count.rank(b).min(best);
         rest /= 65536;
     }
-    let choice = KeyCounters {
-        least: ClippedCount::of_rank(best),
-        bucket: (best % 65536) as usize,
-    };
-    (most, choice)
+    (most, best)
+}
+
+impl KeyCounters {
+    // The counter and the bucket of a rank.
+    fn of_rank(rank: u64) -> KeyCounters
+        ensures { result ≡ of_rank rank }
+    {
+        KeyCounters {
+            least: ClippedCount::of_rank(rank),
+            bucket: (rank % 65536) as usize,
+        }
+    }
+}
+
+// The greatest of a key's counters; the least, and of the bucket numbers with the least the lowest.
+pub fn read_counters(s: Settings, h: u64, clipped: &[u8]) -> (ClippedCount, KeyCounters)
+    requires { (allowed (paper s) ≡ true) × (length clipped.now ≡ clipped_length (card s)) }
+    ensures { CountersOf (paper s) h clipped.now result.0 result.1 }
+{
+    let (most, best) = least_rank(s, h, clipped);
+    (most, KeyCounters::of_rank(best))
 }
 
 // What they choose; None where one counter is above T.
@@ -55,10 +72,9 @@ pub fn key_counters(s: Settings, h: u64, clipped: &[u8]) -> Option<KeyCounters>
     requires { (allowed (paper s) ≡ true) × (length clipped.now ≡ clipped_length (card s)) }
     ensures { result ≡ key_counters_at (paper s) clipped.now h }
 {
-    let (most, choice) = read_counters(s, h, clipped);
+    let (most, best) = least_rank(s, h, clipped);
     if most.above(s.top) {
-        None
-    } else {
-        Some(choice)
+        return None;
     }
+    Some(KeyCounters::of_rank(best))
 }
