@@ -37,6 +37,9 @@ pub struct Given {
 }
 
 impl Given {
+    // How many numbers a caller lends.
+    pub const COUNT: usize = 7;
+
     // The numbers of a lent area, in their order; zeros for an area of another length, which are out of range.
     pub fn of_area(area: &[u64]) -> Given
         ensures { given_of result ≡ settings_in area.now }
