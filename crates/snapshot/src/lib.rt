@@ -9,14 +9,14 @@ ghost use Rattle.placing.specs.Worked.{Placed};
 ghost use Rattle.snapshot.specs.Files.{PlacingList};
 
 use placing::{Parts, Placement};
-use settings::Settings;
+use settings::{Given, Settings};
 
 pub mod loading; // loading.rt: a file into every area
 pub mod reading; // reading.rt: what a file says, and the refusals that it alone decides
 pub mod saving; // saving.rt: settings and ledger into a file
 
 // How many settings there are; and how many a file has for keys of 13 bytes, which does not say the width.
-pub const SETTINGS: usize = 7;
+pub const SETTINGS: usize = Given::COUNT;
 
 pub const SETTINGS_WITHOUT_WIDTH: usize = 6;
 
