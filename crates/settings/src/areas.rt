@@ -8,7 +8,7 @@ ghost use Rattle.settings.specs.Areas.{contents, lookup_contents, lookup_part};
 
 use super::Settings;
 
-// The five of a table. That a call hands back the slices that it was lent is a clause of each (`SameSlices`): no type says it of a `&mut`.
+// The five of a table. That a call hands back the slices that it was lent, as long as they were, is its clause (`SameSlices`): no type says it of a `&mut`.
 #[derive(Drop)]
 pub struct Areas<'a> {
     pub ledger: &'a mut [u8],
