@@ -2,14 +2,17 @@
 use Rattle.std.proofs.Common.{◌-◌, ◌≤◌, ◌≡◌, arith, rules}
 use Rattle.theory.specs.Trials.{no_numbers}
 use Rattle.trials.specs.Data.{numbers_of}
-use Rattle.trials.proofs.PlayLaws.{going_more, going_all}
+use Rattle.trials.proofs.PlayLaws.{sized_kept, going_more, going_all}
 use Rattle.trials.proofs.playing.play.Goals as goal
 
 pub loop-call-preserved : goal.loop-call-preserved
 loop-call-preserved c =
     let so_far = c.loop-call.invariant in
     let ran = c.play_call.ensures in
-    record { going = going_more so_far.going (omega arith) ran.after (search rules) ran.played; slices = search rules }
+    record {
+      going = going_more so_far.going (omega arith) ran.after (search rules) (sized_kept so_far.going.playing.sized ran.same) ran.played;
+      slices = search rules;
+    }
 
 pub returns-clause-played : goal.returns-clause-played
 returns-clause-played c =

@@ -3,29 +3,22 @@ use Rattle.std.proofs.Common.{◌≡◌, ap, ◌∙◌, arith, length}
 use Rattle.theory.specs.Records.{count_of}
 use Rattle.theory.specs.Layout.{Areas}
 use Rattle.theory.specs.BenchLoad.{draw, load_call}
-use Rattle.theory.proofs.SettingsLaws.{sound}
-use Rattle.settings.specs.Checked.{paper, card}
+use Rattle.settings.specs.Checked.{paper}
 use Rattle.settings.proofs.Laws.{bounds}
 use Rattle.bench_load.specs.Loads.{generator_of}
 use Rattle.calls.specs.Data.{call_of}
 use Rattle.calls.proofs.CallingLaws.{callable}
-use Rattle.trials.proofs.PlayLaws.{holds_sized, holds_next, played_by}
+use Rattle.trials.proofs.PlayLaws.{played_by}
 use Rattle.trials.proofs.playing.play_call.Goals as goal
 
 pub call-reply-requires : goal.call-reply-requires
-call-reply-requires c =
-    let playing = c.requires.playing in
-    callable playing.ready playing.words (holds_sized (card c.args.s) (sound (paper c.args.s) playing.ready.ok) playing.held) _
+call-reply-requires c = let playing = c.requires.playing in callable playing.ready playing.words playing.sized _
 
 pub count_at-need-requires : goal.count_at-need-requires
 count_at-need-requires c =
     let playing = c.requires.playing in
-    let is : call_of c.picked_call.result ≡ load_call c.args.flows (draw (generator_of c.args.generator.now)) =
-    c.picked_call.ensures _ _ (c.write_key.ensures _) ∙ ap (load_call c.args.flows) c.next_two-first.ensures.numbers in
-    let after = holds_next _ _ playing is c.call-reply.ensures.called in
-    let long = (holds_sized (card c.args.s) (sound (paper c.args.s) playing.ready.ok) after).side_store in
     let side = ap (λ (z : Areas). length z.side_store) c.lookup.ensures in
-    omega (arith, long, side, (bounds (paper c.args.s) playing.ready.ok).side_least)
+    omega (arith, side, c.call-reply.ensures.same.side_long, playing.sized.side_store, (bounds (paper c.args.s) playing.ready.ok).side_least)
 
 pub returns-clause-played : goal.returns-clause-played
 returns-clause-played c =

@@ -2,7 +2,7 @@
 use Rattle.settings.specs.Checked.{paper}
 use Rattle.settings.proofs.Laws.{key_width}
 use Rattle.placing.proofs.ReadyLaws.{made_ready}
-use Rattle.trials.proofs.PlayLaws.{holds_empty, tried_by}
+use Rattle.trials.proofs.PlayLaws.{sized_kept, tried_by}
 use Rattle.trials.proofs.playing.play_cleared.Goals as goal
 
 pub make_table-requires : goal.make_table-requires
@@ -14,7 +14,7 @@ play-requires-clause-playing c =
     record {
       ready = made_ready _ parts.ok c.width.ensures c.make_table.ensures.length c.make_table.ensures.made;
       words = parts.words;
-      held = holds_empty parts (c.clear_areas.ensures.cleared _ parts.sized);
+      sized = sized_kept parts.sized c.clear_areas.ensures.same;
     }
 
 pub returns : goal.returns
