@@ -26,7 +26,7 @@ pub fn counter(clipped: &[u8], b: usize) -> ClippedCount
 // The greatest of a key's counters, and their least rank, which has the least counter and the lowest bucket with it: no branch. Repeated hashes are read again
 // and alter nothing.
 #[inline(always)]
-fn least_rank(s: Settings, h: u64, clipped: &[u8]) -> (ClippedCount, u64)
+pub fn read_counters(s: Settings, h: u64, clipped: &[u8]) -> (ClippedCount, u64)
     requires { (allowed (paper s) ≡ true) × (length clipped.now ≡ clipped_length (card s)) }
     ensures { CountersOf (paper s) h clipped.now result.0 (of_rank result.1) }
 {
@@ -47,7 +47,7 @@ fn least_rank(s: Settings, h: u64, clipped: &[u8]) -> (ClippedCount, u64)
 
 impl KeyCounters {
     // The counter and the bucket of a rank.
-    fn of_rank(rank: u64) -> KeyCounters
+    pub fn of_rank(rank: u64) -> KeyCounters
         ensures { result ≡ of_rank rank }
     {
         KeyCounters {
@@ -57,22 +57,13 @@ impl KeyCounters {
     }
 }
 
-// The greatest of a key's counters; the least, and of the bucket numbers with the least the lowest.
-pub fn read_counters(s: Settings, h: u64, clipped: &[u8]) -> (ClippedCount, KeyCounters)
-    requires { (allowed (paper s) ≡ true) × (length clipped.now ≡ clipped_length (card s)) }
-    ensures { CountersOf (paper s) h clipped.now result.0 result.1 }
-{
-    let (most, best) = least_rank(s, h, clipped);
-    (most, KeyCounters::of_rank(best))
-}
-
 // What they choose; None where one counter is above T.
 #[inline(always)]
 pub fn key_counters(s: Settings, h: u64, clipped: &[u8]) -> Option<KeyCounters>
     requires { (allowed (paper s) ≡ true) × (length clipped.now ≡ clipped_length (card s)) }
     ensures { result ≡ key_counters_at (paper s) clipped.now h }
 {
-    let (most, best) = least_rank(s, h, clipped);
+    let (most, best) = read_counters(s, h, clipped);
     if most.above(s.top) {
         return None;
     }
