@@ -62,8 +62,8 @@ fn read_all_counters(s: Settings, clipped: &[u8], answers: &mut [u64])
     ensures { answers.new
         ≡ per_key (λ j. packed_of (key_counters_at (paper s) clipped.now (get_or answers.old j 0))) (length answers.old) }
 {
-    for answer in answers.iter_mut() {
-        *answer = packed(key_counters(s, *answer, clipped));
+    for i in 0..answers.len() {
+        answers[i] = packed(key_counters(s, answers[i], clipped));
     }
 }
 

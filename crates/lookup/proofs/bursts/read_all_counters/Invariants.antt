@@ -6,6 +6,6 @@ use Rattle.lookup.specs.Bursts.{packed_of}
 use Rattle.lookup.proofs.BurstLaws.{Passed}
 use Rattle.lookup.proofs.bursts.read_all_counters.Given as goal
 
-abbrev pub invariant-loop-answer : goal.invariant-loop-answer
-invariant-loop-answer l =
-    Passed (λ j. packed_of (key_counters_at (paper l.s) l.clipped (get_or l.initial.answers j 0))) l.initial.answers l.answer-index l.answers
+abbrev pub invariant-loop-i : goal.invariant-loop-i
+invariant-loop-i l =
+    Passed (λ j. packed_of (key_counters_at (paper l.s) l.clipped (get_or l.initial.answers j 0))) l.initial.answers l.i l.answers
