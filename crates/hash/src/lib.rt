@@ -62,6 +62,17 @@ pub fn table_length_right(length: usize, width: usize) -> bool
     (length == width * 256) | (length == width * 32)
 }
 
+// By a range, an entry a turn: so an entry that is left out is refused for that entry.
+fn fill_by_half(out: &mut [u64])
+    requires { length out.old ≡ table_length 4 (2 * ipv6_width) }
+    ensures { out.new ≡ table_entries 4 (2 * ipv6_width) }
+{
+    let table: &[u64] = half_table();
+    for i in 0..out.len() {
+        out[i] = table[i];
+    }
+}
+
 // Writes the right table of a lent slice's length.
 pub fn fill_table(width: usize, out: &mut [u64])
     requires width { KeyWidth width }
@@ -69,7 +80,7 @@ pub fn fill_table(width: usize, out: &mut [u64])
     ensures { out.new ≡ lent_table width (length out.old) }
 {
     if out.len() == HALF_TABLE_LENGTH {
-        out.copy_from_slice(half_table());
+        fill_by_half(out);
     } else {
         fill_by_byte(width, out);
     }

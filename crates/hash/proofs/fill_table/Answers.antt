@@ -1,10 +1,9 @@
 -- The lent length says which table it is.
-use Rattle.std.proofs.Common.{◌≡◌, ◌≢◌, true, ◌*◌, ℕ, length, sym, ap, ◌∙◌, ⊎_elim, arith}
+use Rattle.std.proofs.Common.{◌≡◌, ◌≢◌, true, ◌*◌, ℕ, sym, ap, ◌∙◌, ⊎_elim, arith}
 use Rattle.theory.specs.Lists.{has}
 use Rattle.theory.specs.Settings.{ipv6_width}
 use Rattle.hash.specs.Digits.{table_length, table_entries}
 use Rattle.hash.specs.Table.{table_lengths, lent_table}
-use Rattle.hash.proofs.DigitLaws.{right_table_entries}
 use Rattle.hash.proofs.LentTableLaws.{lent_length, lent_by_byte, lent_by_half}
 use Rattle.hash.proofs.fill_table.Goals as goal
 
@@ -21,12 +20,12 @@ module _ (n w : ℕ) (allowed : has n (table_lengths w) ≡ true) where
 pub fill_by_byte-requires-clause-size : goal.fill_by_byte-requires-clause-size
 fill_by_byte-requires-clause-size c = whole _ _ c.requires.size c.if-out-eq-HALF_TABLE_LENGTH.false
 
+pub fill_by_half-requires : goal.fill_by_half-requires
+fill_by_half-requires c = omega (arith, c.if-out-eq-HALF_TABLE_LENGTH.true)
+
 pub returns-then-out-eq-HALF_TABLE_LENGTH : goal.returns-then-out-eq-HALF_TABLE_LENGTH
 returns-then-out-eq-HALF_TABLE_LENGTH c =
-    c.copy_from_slice.ensures.after
-    ∙ right_table_entries 4 (2 * ipv6_width) c.half_table.result.now c.half_table.ensures
-    (sym (ap length c.copy_from_slice.ensures.after) ∙ c.copy_from_slice.ensures.len ∙ c.if-out-eq-HALF_TABLE_LENGTH.true)
-    ∙ sym (half _ _ c.requires.size c.if-out-eq-HALF_TABLE_LENGTH.true)
+    c.fill_by_half.ensures ∙ sym (half _ _ c.requires.size c.if-out-eq-HALF_TABLE_LENGTH.true)
 
 pub returns-else-out-eq-HALF_TABLE_LENGTH : goal.returns-else-out-eq-HALF_TABLE_LENGTH
 returns-else-out-eq-HALF_TABLE_LENGTH c =
