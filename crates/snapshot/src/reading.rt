@@ -21,7 +21,7 @@ pub struct Head {
 }
 
 // 12: without an allowed first count, its settings and the second count.
-pub(crate) fn read_head(file: &[u8]) -> Result<Head, Refusal>
+pub fn read_head(file: &[u8]) -> Result<Head, Refusal>
     ensures read { IfOk result (HeadOf file.now) }
     ensures wrong { IfErr result (λ refusal. (refusal ≡ Refusal.WrongFile) × (head_wrong file.now ≡ true)) }
 {
@@ -64,7 +64,7 @@ fn width(file: &[u8], head: Head) -> u64
     setting(file, 6)
 }
 
-pub(crate) fn read_settings(file: &[u8], head: Head) -> Result<Settings, Refusal>
+pub fn read_settings(file: &[u8], head: Head) -> Result<Settings, Refusal>
     requires { HeadOf file.now head }
     ensures { result ≡ checked_of (file_settings file.now) }
 {
@@ -95,7 +95,7 @@ pub fn head_settings(file: &[u8], area_length: usize) -> Result<Given, Refusal>
 }
 
 // 8, 12 for a 7 with width 13 and for a cut or overlong file, 13.
-pub(crate) fn refusal_by_file(s: Settings, head: Head, file: &[u8]) -> Result<(), Refusal>
+pub fn refusal_by_file(s: Settings, head: Head, file: &[u8]) -> Result<(), Refusal>
     requires permitted { allowed (paper s) ≡ true }
     requires head { HeadOf file.now head }
     ensures { answer_of result ≡ by_file (paper s) file.now }

@@ -17,7 +17,7 @@ pub enum Edit {
 
 impl Edit {
     // How many records of the list it leaves out, and how many it brings.
-    pub(crate) fn counts(self) -> (usize, usize)
+    pub fn counts(self) -> (usize, usize)
         ensures left_out { result.0 ≡ leaves_out self }
         ensures brought { result.1 ≡ brings self }
     {
@@ -29,7 +29,7 @@ impl Edit {
     }
 
     // Its place in a list of so many records, where the key stands (Ok) or belongs (Err): 6 and 8 of an add, 7 of a change or a removal.
-    pub(crate) fn place(
+    pub fn place(
         self,
         s: Settings,
         spot: Result<usize, usize>,

@@ -55,7 +55,7 @@ fn place_new<'a>(
 }
 
 // 4, then 6 and 8 or 7, then 9, in this order; nothing but work and kept is written.
-pub(crate) fn judge<'a>(
+pub fn judge<'a>(
     s: Settings,
     table: &[u64],
     ledger: &[u8],

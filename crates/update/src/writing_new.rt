@@ -26,7 +26,7 @@ fn edit_ledger(s: Settings, call: EditCall<'_>, ledger: &mut [u8], at: usize)
 }
 
 // The layout of the new list, in every area.
-pub(crate) fn write_new(s: Settings, plan: Plan<'_>, call: EditCall<'_>, areas: &mut Areas<'_>)
+pub fn write_new(s: Settings, plan: Plan<'_>, call: EditCall<'_>, areas: &mut Areas<'_>)
     requires { Making s call (contents areas.old) plan }
     ensures written { contents areas.new ≡ layout (card s) (edited_list s call.entry areas.old.ledger.now) }
     ensures same { SameSlices areas.old areas.new }
