@@ -1,5 +1,5 @@
 -- What placing a list leaves behind, and the list that a call would make as it lies in memory.
-use Rattle.std.specs.Prelude.{◌≡◌, Bool, false, cond, ◌||◌, Option, Some, None, List, ◌++◌, map, ℕ, ◌+◌, ◌/◌, eqb, ltb, length, get_or}
+use Rattle.std.specs.Prelude.{◌≡◌, Bool, false, cond, ◌||◌, Option, Some, None, List, ◌++◌, map, ℕ, ◌+◌, ◌/◌, eqb, ltb, length, take, drop, get_or}
 use Rattle.theory.specs.Records.{class_width, Record, records}
 use Rattle.theory.specs.Settings.{Card}
 use Rattle.theory.specs.Placing.{true_count, all_top, chosen, choosers}
@@ -48,6 +48,12 @@ pub record Placed (s : Card) (l : List Record) (p : Placement) : Type 0 where
   pub counts : (b : ℕ) → nth p.counts.now b ≡ true_count s l b
   pub choosers : (b : ℕ) → nth p.choosers.now b ≡ length (choosers s (true_count s l) l b)
   pub choices : p.choices.now ≡ choices_by s (true_count s l) l
+
+-- the same where it was lent: work has the true counts and then how many keys choose each bucket
+pub record PlacedIn (s : Card) (l : List Record) (work kept : List ℕ) : Type 0 where
+  pub counts : (b : ℕ) → nth (take s.buckets work) b ≡ true_count s l b
+  pub choosers : (b : ℕ) → nth (drop s.buckets work) b ≡ length (choosers s (true_count s l) l b)
+  pub choices : kept ≡ choices_by s (true_count s l) l
 
 -- a key with this choice belongs to the side, where d is how many keys choose each bucket
 abbrev pub side_by_choice : Card → (ℕ → ℕ) → ℕ → Bool

@@ -8,7 +8,7 @@ ghost use Rattle.theory.specs.Hash.{H as H_of};
 ghost use Rattle.theory.specs.Ledger.{side_need_of};
 ghost use Rattle.settings.specs.Checked.{paper, card};
 ghost use Rattle.placing.specs.Ready.{Ready, Placing};
-ghost use Rattle.placing.specs.Worked.{nth, Placed, side_by_choice, list_of};
+ghost use Rattle.placing.specs.Worked.{nth, Placed, PlacedIn, side_by_choice, list_of};
 
 use choosing::choose_parts;
 use counting::count_parts;
@@ -45,7 +45,17 @@ fn h_of(s: Settings, table: &[u64], key: &[u8]) -> u64
     h_with_table(table, key)
 }
 
-// The list that a call would make, placed: work holds its true counts, then its choosers.
+// The list that a call would make, placed in what is lent: work gets its true counts and then its choosers, choices the choice of each record.
+pub fn place_in(s: Settings, table: &[u64], parts: Parts<'_>, work: &mut [u16], choices: &mut [u16])
+    requires { Placing s table.now parts work.old choices.old }
+    ensures { PlacedIn (card s) (list_of (card s).width parts.entry) work.new choices.new }
+{
+    let (counts, choosers) = work.split_at_mut(s.buckets());
+    count_parts(s, table, counts, parts);
+    choose_parts(s, table, counts, choosers, parts, choices);
+}
+
+// The same, handed out. Both slices are lent while the result lives, and no clause says what they hold afterwards: `place_in` says it.
 pub fn place_parts<'a>(
     s: Settings,
     table: &[u64],
@@ -56,12 +66,11 @@ pub fn place_parts<'a>(
     requires { Placing s table.now parts work.old choices.old }
     ensures { Placed (card s) (list_of (card s).width parts.entry) result }
 {
-    let (counts, choosers) = work.split_at_mut(s.buckets());
-    count_parts(s, table, counts, parts);
-    choose_parts(s, table, counts, choosers, parts, choices);
+    place_in(s, table, parts, work, choices);
+    let (counts, choosers) = work.split_at(s.buckets());
     Placement {
-        counts: &*counts,
-        choosers: &*choosers,
+        counts,
+        choosers,
         choices: &*choices,
     }
 }
