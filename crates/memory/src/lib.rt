@@ -2,7 +2,7 @@
 #![tactic(auto)]
 
 pub mod numbers; // numbers.rt: numbers of two, four and eight bytes
-pub mod parts; // parts.rt: a part judged
+pub mod parts; // parts.rt: a part copied, a part judged
 pub mod picks; // picks.rt: one of two values, with no branch
 pub mod refusals; // refusals.rt: what a call is refused for, and its number
 pub mod records; // records.rt: a record in bytes, and the part of record i
