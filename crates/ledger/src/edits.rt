@@ -7,6 +7,7 @@ ghost use Rattle.ledger.specs.Edits.{ValidLedger, list_in, area_of, inserted_at,
 
 use super::place_of;
 use memory::numbers::{count_at, write_number};
+use memory::parts::copy;
 use settings::Settings;
 
 // Bytes put in at a place: those from there to an end move up.
@@ -17,7 +18,7 @@ fn insert_bytes(area: &mut [u8], place: usize, end: usize, bytes: &[u8])
 {
     let next = place + bytes.len();
     area.copy_within(place..end, next);
-    area[place..next].copy_from_slice(bytes);
+    copy(&mut area[place..next], bytes);
 }
 
 // The bytes from a place to the next taken out: those from there to an end move down, and zeros follow them.
@@ -68,5 +69,5 @@ pub fn replace_record(s: Settings, ledger: &mut [u8], at: usize, record: &[u8])
 {
     let start = place_of(s, at);
     let stop = start + record.len();
-    ledger[start..stop].copy_from_slice(record);
+    copy(&mut ledger[start..stop], record);
 }

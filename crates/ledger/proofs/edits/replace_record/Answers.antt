@@ -12,12 +12,12 @@ overflow_add-stop c =
     let p = standing c.requires.valid refl c.requires.place in
     omega (arith, next_before_end p c.requires.place, end_inside p)
 
-pub slice_bounds-copy_from_slice-end : goal.slice_bounds-copy_from_slice-end
-slice_bounds-copy_from_slice-end c =
+pub slice_bounds-copy-end : goal.slice_bounds-copy-end
+slice_bounds-copy-end c =
     let p = standing c.requires.valid refl c.requires.place in
     omega (arith, next_before_end p c.requires.place, end_inside p)
 
 pub returns : goal.returns
 returns c = λ x e.
     replace_written (standing c.requires.valid refl c.requires.place) (bytes_of c.args.ledger.now (λ i. search rules)) c.requires.place
-    _ c.place_of-start.ensures _ _ c.requires.size c.copy_from_slice.ensures.after x e
+    _ c.place_of-start.ensures _ _ c.requires.size c.copy.ensures x e
