@@ -13,12 +13,12 @@ pub fn copy(to: &mut [u8], from: &[u8])
 }
 
 // The same of counts.
-pub fn copy_counts(to: &mut [u16], from: &[u16])
-    requires { length to.old ≡ length from.now }
-    ensures { to.new ≡ from.now }
+pub fn copy_counts(to: &mut [u16], counts: &[u16])
+    requires { length to.old ≡ length counts.now }
+    ensures { to.new ≡ counts.now }
 {
-    for i in 0..from.len() {
-        to[i] = from[i];
+    for i in 0..counts.len() {
+        to[i] = counts[i];
     }
 }
 

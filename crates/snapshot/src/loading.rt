@@ -11,6 +11,7 @@ use crate::place_list;
 use crate::reading::{Head, read_head, read_settings, refusal_by_file};
 use hash::made::make_table;
 use memory::numbers::write_number;
+use memory::parts::copy;
 use memory::refusals::Refusal;
 use settings::areas::Areas;
 use settings::{Given, Settings};
@@ -22,7 +23,7 @@ fn write_ledger(s: Settings, ledger: &mut [u8], list: &[u8], count: usize)
 {
     let end = 2 + list.len();
     write_number(ledger, count);
-    ledger[2..end].copy_from_slice(list);
+    copy(&mut ledger[2..end], list);
     ledger[end..].fill(0);
 }
 

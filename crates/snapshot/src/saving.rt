@@ -12,6 +12,7 @@ ghost use Rattle.snapshot.specs.Files.{WritingHead, WritingSnapshot, Saving};
 use crate::place_list;
 use hash::made::make_table;
 use memory::numbers::{count_at, write_number};
+use memory::parts::copy;
 use memory::refusals::Refusal;
 use settings::{Given, Settings};
 
@@ -46,7 +47,7 @@ fn write_snapshot(s: Settings, target: &mut [u8], list: &[u8], count: usize)
 {
     let head = crate::saved_head_size(s);
     write_head(s, &mut target[..head], count);
-    target[head..].copy_from_slice(list);
+    copy(&mut target[head..], list);
 }
 
 // On allowed settings and areas of their lengths: 4, 9, 12; else the snapshot is written.

@@ -7,6 +7,7 @@ ghost use Rattle.settings.specs.Checked.{paper, card};
 ghost use Rattle.writing.specs.Laying.{Laying, placed_records};
 ghost use Rattle.writing.specs.Buckets.{crowded_by, blank_buckets, placed, appended};
 
+use memory::parts::copy;
 use memory::records::record_at;
 use placing::Placement;
 use settings::Settings;
@@ -19,7 +20,7 @@ fn append(part: &mut [u8], record: &[u8])
 {
     let mark = part[0];
     let at = 1 + record.len() * usize::from(mark);
-    part[at..at + record.len()].copy_from_slice(record);
+    copy(&mut part[at..at + record.len()], record);
     part[0] = mark + 1;
 }
 

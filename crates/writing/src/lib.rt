@@ -11,6 +11,7 @@ ghost use Rattle.settings.specs.Areas.{contents, SameSlices};
 ghost use Rattle.settings.specs.Checked.{card};
 ghost use Rattle.writing.specs.Laying.{Laying, Writable, laid, placed_records};
 
+use memory::parts::copy_counts;
 use placing::Placement;
 use settings::Settings;
 use settings::areas::Areas;
@@ -54,7 +55,7 @@ pub fn lay_out(s: Settings, placement: Placement<'_>, need: usize, areas: &mut A
     ensures laid { contents areas.new
         ≡ laid (card s) (placed_records (card s) placement.entry (drop 2 areas.old.ledger.now)) areas.old.ledger.now }
 {
-    areas.true_counts.copy_from_slice(placement.counts);
+    copy_counts(areas.true_counts, placement.counts);
     counts::write_clipped(s.top, areas.clipped, placement.counts);
     write_places(s, placement, need, areas.ledger, areas.buckets, areas.side);
 }

@@ -9,6 +9,7 @@ ghost use Rattle.writing.specs.Laying.{Laying, placed_records};
 ghost use Rattle.writing.specs.Side.{sent, sent_places};
 
 use memory::numbers::write_number;
+use memory::parts::copy;
 use memory::records::record_at;
 use placing::Placement;
 use settings::Settings;
@@ -35,7 +36,7 @@ fn side_record(
     }
     let size = s.record_size();
     let end = free + size;
-    store[free..end].copy_from_slice(record_at(area, i, size));
+    copy(&mut store[free..end], record_at(area, i, size));
     end
 }
 

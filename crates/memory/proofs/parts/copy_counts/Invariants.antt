@@ -3,4 +3,4 @@ use Rattle.memory.proofs.CopyLaws.{Copied}
 use Rattle.memory.proofs.parts.copy_counts.Given as goal
 
 abbrev pub invariant-loop-i : goal.invariant-loop-i
-invariant-loop-i l = Copied l.from l.to l.i
+invariant-loop-i l = Copied l.counts l.to l.i

@@ -10,16 +10,16 @@ pub write_number-requires : goal.write_number-requires
 write_number-requires c =
     (omega (arith, end_within c.requires), omega (arith, c.requires.few, (sound (paper c.args.s) c.requires.ok).capacity_small))
 
-pub slice_bounds-copy_from_slice-end : goal.slice_bounds-copy_from_slice-end
-slice_bounds-copy_from_slice-end c = copy_end c.requires c.write_number.ensures
+pub slice_bounds-copy-end : goal.slice_bounds-copy-end
+slice_bounds-copy-end c = copy_end c.requires c.write_number.ensures
 
 pub slice_bounds-fill-count : goal.slice_bounds-fill-count
-slice_bounds-fill-count c = zeros_start c.requires c.write_number.ensures c.copy_from_slice.ensures.after
+slice_bounds-fill-count c = zeros_start c.requires c.write_number.ensures c.copy.ensures
 
 pub slice_bounds-fill-start : goal.slice_bounds-fill-start
-slice_bounds-fill-start c = zeros_start c.requires c.write_number.ensures c.copy_from_slice.ensures.after
+slice_bounds-fill-start c = zeros_start c.requires c.write_number.ensures c.copy.ensures
 
 pub returns : goal.returns
 returns c =
-    ledger_written c.requires c.write_number.ensures c.copy_from_slice.ensures.after (bytes_of c.args.list.now c.type_inv.list)
+    ledger_written c.requires c.write_number.ensures c.copy.ensures (bytes_of c.args.list.now c.type_inv.list)
     (c.fill.ensures.after (λ y same. same))

@@ -20,4 +20,4 @@ write_head-requires c =
 pub returns : goal.returns
 returns c =
     snapshot_written (paper c.args.s) c.args.count c.args.list.now c.args.target.now c.requires.full c.requires.long c.saved_head_size-head.ensures
-    c.write_head.ensures (bytes_of c.args.list.now c.type_inv.list) c.copy_from_slice.ensures.after
+    c.write_head.ensures (bytes_of c.args.list.now c.type_inv.list) c.copy.ensures

@@ -68,8 +68,8 @@ overflow_add-end c =
     c.record_size-size.ensures in
     omega (arith, here)
 
-pub slice_bounds-copy_from_slice-end : goal.slice_bounds-copy_from_slice-end
-slice_bounds-copy_from_slice-end c =
+pub slice_bounds-copy-end : goal.slice_bounds-copy-end
+slice_bounds-copy-end c =
     place c.requires.laying c.requires.turn c.type_inv.area c.aside.ensures c.if-not-aside.false c.requires.enough c.requires.free c.requires.before
     c.record_size-size.ensures
 
@@ -78,9 +78,9 @@ unfolding record_size
 record_at-requires c =
     turn_inside (turn c.requires.laying c.args.i c.requires.turn c.type_inv.area) c.record_size-size.result c.record_size-size.ensures
 
-pub copy_from_slice-requires : goal.copy_from_slice-requires
+pub copy-requires : goal.copy-requires
 unfolding record_size
-copy_from_slice-requires c =
+copy-requires c =
     let inside = turn_inside (turn c.requires.laying c.args.i c.requires.turn c.type_inv.area) c.record_size-size.result c.record_size-size.ensures in
     let here =
     place c.requires.laying c.requires.turn c.type_inv.area c.aside.ensures c.if-not-aside.false c.requires.enough c.requires.free c.requires.before
@@ -96,4 +96,4 @@ returns-clause-free c =
 pub returns-clause-after : goal.returns-clause-after
 returns-clause-after c =
     put c.requires.laying c.requires.turn c.type_inv.area c.aside.ensures c.if-not-aside.false c.requires.enough c.requires.free c.requires.before
-    c.record_size-size.ensures _ (c.copy_from_slice.ensures.after ∙ c.record_at.ensures)
+    c.record_size-size.ensures _ (c.copy.ensures ∙ c.record_at.ensures)
