@@ -66,8 +66,8 @@
  *   a hash table    3328 64-bit numbers            1184 or 9472 64-bit numbers     as flow_hash_table fills it
  *   a file          16 + 17 * n bytes              18 + 41 * n bytes               as flow_save writes it, of n records
  *
- * What a call needs of the stack, below, is measured (bin/stack has each door): the calls that lay out a list have room for a hash table of 26 KB and
- * for one of 9 KB, of which a call fills the one of its width, and 8 KB for the choices of up to 4096 records.
+ * What a call needs of the stack at most stands below (bin/stack measures each door). The calls that lay out a list have 8 KB there for the choices
+ * of up to 4096 records; the hash tables that they read lie in read-only memory, so that they need far less than the number that stands for them.
  */
 #ifndef FLOW_H
 #define FLOW_H
