@@ -87,7 +87,7 @@ pub extern "C" fn flow_search_lent(
         buckets,
         side,
     };
-    driver_number(lookup::searching::search_with_table(table, given, areas, key))
+    lookup::numbers::number_with_table(table, given, areas, key)
 }
 
 // Many keys at once, with a table that the driver keeps: 1; 2; 3 if `keys` is not of as many keys as there are answers; else each answer is

@@ -11,7 +11,7 @@ ghost use Rattle.lookup.specs.Bursts.{burst_key, per_key, CountersFit, packed_of
 
 use crate::counters::{KeyCounters, key_counters};
 use crate::judging::judge_burst;
-use crate::searching::{driver_number, search_chosen};
+use crate::numbers::chosen_number;
 use hash::h_with_table;
 use memory::records::key_at;
 use memory::refusals::Refusal;
@@ -77,7 +77,7 @@ fn answer_all(s: Settings, areas: LookupAreas<'_>, keys: &[u8], answers: &mut [u
     for (i, answer) in answers.iter_mut().enumerate() {
         let choice = unpacked(*answer);
         let key = key_at(keys, i, width, width);
-        *answer = driver_number(search_chosen(s, choice, areas, key));
+        *answer = chosen_number(s, choice, areas, key);
     }
 }
 

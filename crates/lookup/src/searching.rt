@@ -1,6 +1,6 @@
 // Search: the answer with its counts.
 ghost use Rattle.std.specs.Prelude.{◌≡◌, ◌-◌, ◌≤◌, length, take, drop};
-ghost use Rattle.theory.specs.Settings.{bucket_size};
+ghost use Rattle.theory.specs.Settings.{ipv4_width, bucket_size};
 ghost use Rattle.theory.specs.Lookup as plain;
 ghost use Rattle.theory.specs.Layout.{Areas};
 ghost use Rattle.theory.specs.Ledger.{Step, answered};
@@ -38,7 +38,7 @@ pub struct Answer {
 }
 
 // "100 for a search that finds nothing"
-const ABSENT: u32 = 100;
+pub(crate) const ABSENT: u32 = 100;
 
 // The number, with class and counts zero.
 pub fn bare(number: u32) -> Answer
@@ -112,20 +112,41 @@ fn compare_all(place: &[u8], n: usize, room: usize, key: &[u8], read: u32, side:
     }
 }
 
-// The records of a bucket, which start after its mark: at the width of an IPv4 flow's key, as a constant that the compiler knows, all of its places; of a wider
-// key, of which every place would cost more than a branch not foreseen, record by record up to the one with the key.
+// The records of a bucket, which start after its mark: all of its places, with the width of an IPv4 flow's key as a constant, which the compiler knows.
+#[inline(always)]
+pub fn compare_ipv4_bucket(s: Settings, buckets: &[u8], from: usize, n: usize, key: &[u8]) -> Answer
+    requires bucket { InBucket (paper s) buckets.now key.now from n }
+    requires narrow { s.width ≡ ipv4_width }
+    ensures { answer_of result ≡ plain.answer_at (card s) key.now
+        (plain.among (take (bucket_size (card s) - 1) (drop from buckets.now)) n 1 0) }
+{
+    let end = from + (s.bucket_size() - 1);
+    let place = &buckets[from..end];
+    compare_all(place, n, s.room, &key[..Settings::IPV4_WIDTH], 1, 0)
+}
+
+// The same with a key of any width, record by record up to the one with the key: of wide keys every place would cost more than a branch not foreseen.
+#[inline(always)]
+pub fn compare_wide_bucket(s: Settings, buckets: &[u8], from: usize, n: usize, key: &[u8]) -> Answer
+    requires { InBucket (paper s) buckets.now key.now from n }
+    ensures { answer_of result ≡ plain.answer_at (card s) key.now
+        (plain.among (take (bucket_size (card s) - 1) (drop from buckets.now)) n 1 0) }
+{
+    let end = from + (s.bucket_size() - 1);
+    compare(&buckets[from..end], n, key, 1, 0)
+}
+
+// The one or the other.
 #[inline(always)]
 pub fn compare_bucket(s: Settings, buckets: &[u8], from: usize, n: usize, key: &[u8]) -> Answer
     requires { InBucket (paper s) buckets.now key.now from n }
     ensures { answer_of result ≡ plain.answer_at (card s) key.now
         (plain.among (take (bucket_size (card s) - 1) (drop from buckets.now)) n 1 0) }
 {
-    let end = from + (s.bucket_size() - 1);
-    let place = &buckets[from..end];
     if s.width == Settings::IPV4_WIDTH {
-        compare_all(place, n, s.room, &key[..Settings::IPV4_WIDTH], 1, 0)
+        compare_ipv4_bucket(s, buckets, from, n, key)
     } else {
-        compare(place, n, key, 1, 0)
+        compare_wide_bucket(s, buckets, from, n, key)
     }
 }
 

@@ -1,5 +1,5 @@
 -- `lookup::bursts::answer_all` meets its contract: each number is that of its key, by what was read of its counters.
-use Rattle.std.proofs.Common.{sym, ap, subst, ◌∙◌, ◌*◌, ◌<◌, length, arith}
+use Rattle.std.proofs.Common.{refl, sym, ap, subst, ◌∙◌, ◌*◌, ◌<◌, length, arith}
 use Rattle.memory.proofs.SliceLaws.{length_part}
 use Rattle.settings.specs.Checked.{paper}
 use Rattle.lookup.specs.Places.{KeyCountersFit}
@@ -15,8 +15,8 @@ key_at-key-requires c =
     key_within c.args.keys.now (length c.args.answers.now) _ c.width-width.result c.loop-i.i c.requires.keys_size c.width-width.ensures
     (omega (arith, c.loop-i.invariant.long))
 
-pub search_chosen-requires : goal.search_chosen-requires
-search_chosen-requires c =
+pub chosen_number-requires : goal.chosen_number-requires
+chosen_number-requires c =
     let i = c.loop-i.i in
     let here : i < length c.args.answers.now = omega (arith, c.loop-i.invariant.long) in
     let within = key_within c.args.keys.now (length c.args.answers.now) _ c.width-width.result i c.requires.keys_size c.width-width.ensures here in
@@ -30,7 +30,7 @@ search_chosen-requires c =
 pub loop-i-preserved : goal.loop-i-preserved
 loop-i-preserved c =
     passed_more c.loop-i.invariant _ (omega arith)
-    (number_from (paper c.args.s) c.args.areas.buckets.now c.args.areas.side.now _ c.driver_number.ensures c.search_chosen.ensures c.key_at-key.ensures
+    (number_from (paper c.args.s) c.args.areas.buckets.now c.args.areas.side.now _ c.chosen_number.ensures refl c.key_at-key.ensures
     (c.unpacked-choice.ensures ∙ ap unpacked_of (c.loop-i.invariant.left c.loop-i.i (omega arith))))
 
 pub returns : goal.returns
