@@ -19,7 +19,6 @@ use Rattle.theory.proofs.SettingsLaws.{Sound}
 use Rattle.theory.proofs.PlacingLaws.{chosen_below}
 use Rattle.placing.specs.declared.Placement.{Placement}
 use Rattle.placing.specs.Worked.{nth, belongs_by, choice_of, choice_by, choices_by, ChoseParts, Placed, side_by_choice}
-use Rattle.placing.proofs.RecordCountLaws.{choice_number}
 
 -- ---- a key's choice as one number
 module _ (s : Card) (sound : Sound s) (c : ℕ → ℕ) where
@@ -27,9 +26,11 @@ module _ (s : Card) (sound : Sound s) (c : ℕ → ℕ) where
   unfolding choice_by
   choice_within k = by_test (all_top s c k) (λ e. rw e (le_refl s.buckets)) (λ e. rw e (omega (arith, chosen_below s sound c k e)))
 
-  pub kept_within : (k : List ℕ) (choice : Option ℕ) (v : ℕ) → choice ≡ choice_of s c k → v ≡ unwrap_or choice s.buckets → v ≤ s.buckets
-  kept_within k choice v e f =
-      let number : v ≡ choice_by s c k = f ∙ ap (λ (o : Option ℕ). unwrap_or o s.buckets) e ∙ choice_number s c k in omega (arith, number, choice_within k)
+  -- kept as one number, with x for none
+  pub kept_within : (k : List ℕ) (choice : Option ℕ) (v x : ℕ) → choice ≡ choice_of s c k → v ≡ unwrap_or choice x → x ≤ s.buckets → v ≤ s.buckets
+  unfolding choice_of
+  kept_within k choice v x e f le =
+      rw (f, e) (by_test (all_top s c k) (λ q. rw q le) (λ q. rw q (omega (arith, chosen_below s sound c k q))))
 
   -- one that is a bucket is one of the buckets
   pub choice_below : (k : List ℕ) (choice : Option ℕ) → choice ≡ choice_of s c k → IfSome choice (λ b. b < s.buckets)

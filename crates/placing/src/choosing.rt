@@ -72,7 +72,8 @@ pub fn choose_more(
     let width = s.width();
     let size = s.record_size();
     for (i, kept) in choices.iter_mut().enumerate() {
-        let choice = choose(s, table, counts, key_at(part, i, size, width));
+        let key = key_at(part, i, size, width);
+        let choice = choose(s, table, counts, key);
         *kept = choice.unwrap_or(m) as u16;
         add_choice(choosers, choice);
     }

@@ -30,20 +30,21 @@ choices_fit w n part e = rw e (div-mul-le_self (length part) (w + 4))
 pub loop-i-init : goal.loop-i-init
 loop-i-init c = (refl, chose_none (card c.args.s) c.args.counts.now _ c.args.part.now c.args.choosers.now c.args.choices.now)
 
-pub key_at-requires : goal.key_at-requires
-key_at-requires c =
+pub key_at-key-requires : goal.key_at-key-requires
+key_at-key-requires c =
     key_inside (sizes c.args.s c.record_size-size.ensures c.width-width.ensures) _ _ c.args.part.now (choices_fit _ _ _ c.requires.places) c.loop-i-test.true
 
 pub choose-choice-requires-clause-wide : goal.choose-choice-requires-clause-wide
 choose-choice-requires-clause-wide c =
-    ap length c.key_at.ensures
+    ap length c.key_at-key.ensures
     ∙ key_length (sizes c.args.s c.record_size-size.ensures c.width-width.ensures) _ c.loop-i.i c.args.part.now (choices_fit _ _ _ c.requires.places)
     c.loop-i-test.true
 
 pub overflow_cast-kept : goal.overflow_cast-kept
 overflow_cast-kept c =
-    let kept = kept_is c.choose-choice.result _ _ _ c.unwrap_or.ensures c.buckets-m.ensures in
-    let small = kept_within (card c.args.s) (sound_card _ _ c.requires.ready) (nth c.args.counts.now) _ _ _ c.choose-choice.ensures kept in
+    let small =
+    kept_within (card c.args.s) (sound_card _ _ c.requires.ready) (nth c.args.counts.now) _ _ _ _ c.choose-choice.ensures c.unwrap_or.ensures
+    (omega (arith, c.buckets-m.ensures)) in
     omega (arith, small, (bounds (paper c.args.s) c.requires.ready.ok).buckets_most)
 
 pub add_choice-requires-clause-within : goal.add_choice-requires-clause-within
@@ -58,9 +59,9 @@ add_choice-requires-clause-few c =
 pub loop-i-preserved : goal.loop-i-preserved
 loop-i-preserved c =
     let s = card c.args.s in
-    let key_here = c.key_at.ensures ∙ key_is (sizes c.args.s c.record_size-size.ensures c.width-width.ensures) c.loop-i.i c.args.part.now in
+    let key_here = c.key_at-key.ensures ∙ key_is (sizes c.args.s c.record_size-size.ensures c.width-width.ensures) c.loop-i.i c.args.part.now in
     let choice_is = c.choose-choice.ensures ∙ ap (choice_of s (nth c.args.counts.now)) key_here in
-    let kept = kept_is c.choose-choice.result _ _ _ c.unwrap_or.ensures c.buckets-m.ensures in
+    let kept = kept_is c.choose-choice.result _ _ s.buckets c.unwrap_or.ensures (omega (arith, c.buckets-m.ensures)) in
     let long = c.loop-i.invariant.0 in (
       simp length-set long,
       chose_more s c.args.counts.now _ _ _ _ _ c.loop-i.choices c.loop-i.invariant.1 _ choice_is _ c.add_choice.ensures _ kept (omega (arith, long)),
