@@ -59,6 +59,16 @@ module _ (f : List ℕ) where
   unfolding head_wrong
   head_by_length e some z_is = let q = rw e at some in rw (q, z_is, e)
 
+  -- ---- a head that is there
+  module _ (whole : head_wrong f ≡ false) where
+    pub head_there : head_size (count_of f) ≤ length f
+    unfolding head_wrong
+    head_there = ltb-false (length f) (head_size (count_of f)) (or_right (not (eqb (count_of f) 6 || eqb (count_of f) settings_count)) _ whole)
+
+    pub first_known : (6 ≤ count_of f) × (count_of f ≤ settings_count)
+    unfolding head_wrong
+    first_known = count_known (or_left (not (eqb (count_of f) 6 || eqb (count_of f) settings_count)) _ whole)
+
   -- ---- two bytes, read from a part that runs to the end
   pub number_lent : (at : ℕ) → at ≤ length f → {n : ℕ} → n ≡ count_of (take (length f - at) (drop at f)) → n ≡ count_of (drop at f)
   number_lent at h e = e ∙ rw (tail_is at f h)

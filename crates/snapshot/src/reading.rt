@@ -21,21 +21,29 @@ pub struct Head {
 }
 
 // 12: without an allowed first count, its settings and the second count.
+pub fn head_wrong(file: &[u8]) -> bool
+    ensures { result ≡ head_wrong file.now }
+{
+    if file.len() < 2 {
+        return true;
+    }
+    let first = count_at(file);
+    if !((first == crate::SETTINGS_WITHOUT_WIDTH) | (first == crate::SETTINGS)) {
+        return true;
+    }
+    file.len() < crate::head_size(first)
+}
+
+// The head of a file, or 12.
 pub fn read_head(file: &[u8]) -> Result<Head, Refusal>
     ensures read { IfOk result (HeadOf file.now) }
     ensures wrong { IfErr result (λ refusal. (refusal ≡ Refusal.WrongFile) × (head_wrong file.now ≡ true)) }
 {
-    if file.len() < 2 {
+    if head_wrong(file) {
         return Err(Refusal::WrongFile);
     }
     let settings = count_at(file);
-    if !((settings == crate::SETTINGS_WITHOUT_WIDTH) | (settings == crate::SETTINGS)) {
-        return Err(Refusal::WrongFile);
-    }
     let size = crate::head_size(settings);
-    if file.len() < size {
-        return Err(Refusal::WrongFile);
-    }
     let second = size - 2;
     Ok(Head {
         settings,
@@ -84,7 +92,9 @@ pub fn head_settings(file: &[u8], area_length: usize) -> Result<Given, Refusal>
     ensures { HeadHanded file.now area_length result }
 {
     let head = read_head(file)?;
-    let s = read_settings(file, head)?;
+    let Ok(s) = read_settings(file, head) else {
+        return Err(Refusal::SettingOutOfRange);
+    };
     if area_length != crate::SETTINGS {
         return Err(Refusal::WrongAreaLength);
     }

@@ -1,5 +1,6 @@
 -- the three parts of the head
-use Rattle.std.proofs.Common.{arith, refl, sym}
+use Rattle.std.proofs.Common.{arith, refl, sym, ◌≡◌, ◌++◌, List, ℕ}
+use Rattle.theory.specs.Records.{to_bytes}
 use Rattle.theory.proofs.SettingsLaws.{ranges}
 use Rattle.theory.proofs.SnapshotLaws.{first_count_most}
 use Rattle.settings.specs.Checked.{paper}
@@ -26,7 +27,11 @@ write_numbers-requires-clause-small c =
     numbers_small (paper c.args.s) c.args.count c.args.to.now _ refl c.first_count-first.ensures refl c.requires.long
     (omega arith, (omega arith, (omega arith, (omega arith, (omega arith, (omega arith, (omega arith, tt)))))))
 
+-- a number that is n is written as n
+written_as : (new rest : List ℕ) (v n : ℕ) → new ≡ to_bytes 2 v ++ rest → v ≡ n → new ≡ to_bytes 2 n ++ rest
+written_as new rest v n e f = rw f at e
+
 pub returns : goal.returns
 returns c =
     head_written (paper c.args.s) c.args.count c.args.to.now _ refl c.first_count-first.ensures refl c.requires.long c.write_number.ensures
-    c.write_numbers.ensures refl refl c.write_number-2.ensures
+    c.write_numbers.ensures refl refl (written_as _ _ _ _ c.write_number-2.ensures (omega arith))
