@@ -55,7 +55,7 @@ fn bucket_place(s: Settings, buckets: &[u8], bucket: usize, side: &[u8]) -> Plac
 // "It reads all counters of the key, then" looks by what they say: in the order of the listing SearchItem (source document 001; theory's Listing.antt).
 // "any counter of the key zero: absent; all equal to T: the side store is compared; otherwise the chosen bucket is read"
 // Lines 1 and 5, the least counter and the smallest index that has it, by one comparison: `read_counters`. Then here: 5, line 2, a least of T; then the
-// bucket's mark. Lines 6 and 7 are the comparison of the records, by `searching::search_place`.
+// bucket's mark. Lines 6 and 7 are the comparison of the records, by `searching::search_place` or `numbers::place_number`.
 pub fn place_by(s: Settings, choice: Option<KeyCounters>, buckets: &[u8], side: &[u8]) -> Place
     requires { CheckedPlaces (paper s) buckets.now side.now × KeyCountersFit (paper s) choice }
     ensures { LooksAt (paper s) buckets.now side.now
