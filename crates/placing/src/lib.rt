@@ -46,7 +46,13 @@ fn h_of(s: Settings, table: &[u64], key: &[u8]) -> u64
 }
 
 // The list that a call would make, placed in what is lent: work gets its true counts and then its choosers, choices the choice of each record.
-pub fn place_in(s: Settings, table: &[u64], parts: Parts<'_>, work: &mut [u16], choices: &mut [u16])
+pub fn place_parts(
+    s: Settings,
+    table: &[u64],
+    parts: Parts<'_>,
+    work: &mut [u16],
+    choices: &mut [u16],
+)
     requires { Placing s table.now parts work.old choices.old }
     ensures { PlacedIn (card s) (list_of (card s).width parts.entry) work.new choices.new }
 {
@@ -55,8 +61,8 @@ pub fn place_in(s: Settings, table: &[u64], parts: Parts<'_>, work: &mut [u16], 
     choose_parts(s, table, counts, choosers, parts, choices);
 }
 
-// The same, handed out. Both slices are lent while the result lives, and no clause says what they hold afterwards: `place_in` says it.
-pub fn place_parts<'a>(
+// The same, handed out. Both slices are lent while the result lives, and no clause says what they hold afterwards: `place_parts` says it.
+pub fn placement_of<'a>(
     s: Settings,
     table: &[u64],
     parts: Parts<'_>,
@@ -66,7 +72,7 @@ pub fn place_parts<'a>(
     requires { Placing s table.now parts work.old choices.old }
     ensures { Placed (card s) (list_of (card s).width parts.entry) result }
 {
-    place_in(s, table, parts, work, choices);
+    place_parts(s, table, parts, work, choices);
     let (counts, choosers) = work.split_at(s.buckets());
     Placement {
         counts,

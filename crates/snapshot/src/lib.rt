@@ -62,5 +62,5 @@ fn place_list<'a>(
         between: &[],
         after: &[],
     };
-    placing::place_parts(s, table, parts, work, &mut kept[..count])
+    placing::placement_of(s, table, parts, work, &mut kept[..count])
 }

@@ -45,7 +45,7 @@ fn place_new<'a>(
         between: &call.record[..brought * size],
         after: &ledger[2 + from * size..2 + count * size],
     };
-    placing::place_parts(
+    placing::placement_of(
         s,
         table,
         parts,

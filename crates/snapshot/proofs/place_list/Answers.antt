@@ -6,8 +6,8 @@ use Rattle.settings.proofs.Laws.{work_length_is}
 use Rattle.snapshot.proofs.FullPartLaws.{held_none, held_full, alone}
 use Rattle.snapshot.proofs.place_list.Goals as goal
 
-pub place_parts-requires : goal.place_parts-requires
-place_parts-requires c =
+pub placement_of-requires : goal.placement_of-requires
+placement_of-requires c =
     let w = (card c.args.s).width in
     let n = held_full w c.args.count c.args.list.now c.requires.full in
     record {
@@ -18,4 +18,4 @@ place_parts-requires c =
     }
 
 pub returns : goal.returns
-returns c = rw (alone (card c.args.s).width c.args.count c.args.list.now c.requires.full) at c.place_parts.ensures
+returns c = rw (alone (card c.args.s).width c.args.count c.args.list.now c.requires.full) at c.placement_of.ensures

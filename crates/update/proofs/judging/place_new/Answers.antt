@@ -56,8 +56,8 @@ pub slice_bounds-parts-end-3 : goal.slice_bounds-parts-end-3
 slice_bounds-parts-end-3 c =
     let k = c.counts-left_out.ensures in last_within (around c.requires k.left_out k.brought c.record_size-size.ensures)
 
-pub place_parts-requires : goal.place_parts-requires
-place_parts-requires c =
+pub placement_of-requires : goal.placement_of-requires
+placement_of-requires c =
     let p = c.requires in
     let k = c.counts-left_out.ensures in
     let a = around p k.left_out k.brought c.record_size-size.ensures in
@@ -71,4 +71,4 @@ place_parts-requires c =
 pub returns : goal.returns
 returns c =
     let k = c.counts-left_out.ensures in
-    let a = around c.requires k.left_out k.brought c.record_size-size.ensures in λ x f g. rw (new_list a x f g) at c.place_parts.ensures
+    let a = around c.requires k.left_out k.brought c.record_size-size.ensures in λ x f g. rw (new_list a x f g) at c.placement_of.ensures

@@ -6,7 +6,7 @@ use Rattle.theory.specs.Records.{Record}
 use Rattle.theory.specs.Settings.{Card}
 use Rattle.theory.specs.Placing.{true_count, choosers}
 use Rattle.placing.specs.Worked.{nth, choices_by, ChoseParts, PlacedIn}
-use Rattle.placing.proofs.place_in.Goals as goal
+use Rattle.placing.proofs.place_parts.Goals as goal
 
 placed_in : (s : Card) (l : List Record) (c d kept : List ℕ) → length c ≡ s.buckets → ((b : ℕ) → nth c b ≡ true_count s l b)
     → ChoseParts s c l d kept → PlacedIn s l (c ++ d) kept
