@@ -47,10 +47,16 @@ counter-count-requires c =
     counter_there (all (paper c.args.s) c.args.clipped.now c.buckets-m.result c.requires.0 c.requires.1 c.buckets-m.ensures)
     c.args.h c.loop-j.j _ (is_hash c.loop-j.invariant)
 
+-- a rank takes any number below 65536: a bucket's is, and so is a hash's, so that what is ranked is the loop's law alone
 pub rank-requires : goal.rank-requires
 rank-requires c = (
   omega (arith, c.counter-count.ensures.1),
-  omega (arith, below (paper c.args.s) c.args.clipped.now c.buckets-m.result c.requires.0 c.requires.1 c.buckets-m.ensures c.loop-j.rest),
+  omega (
+    arith,
+    below (paper c.args.s) c.args.clipped.now c.buckets-m.result c.requires.0 c.requires.1 c.buckets-m.ensures c.loop-j.rest,
+    c.loop-j-test.true,
+    (ranges (paper c.args.s) c.requires.0).k_high,
+  ),
 )
 
 pub loop-j-preserved : goal.loop-j-preserved
