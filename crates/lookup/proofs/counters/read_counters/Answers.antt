@@ -62,7 +62,7 @@ rank-requires c = (
 pub loop-j-preserved : goal.loop-j-preserved
 loop-j-preserved c =
     so_far_next c.loop-j.invariant (omega arith) c.counter-count.ensures.0 c.higher-most.ensures
-    (grind arith)
+    (grind (arith, m_small (paper c.args.s) c.args.clipped.now c.buckets-m.result c.requires.0 c.requires.1 c.buckets-m.ensures))
 
 pub returns : goal.returns
 returns c =
