@@ -6,13 +6,13 @@ use native.Mathlib.Omega.{arith}
 use Rattle.theory.specs.Records.{count_of}
 use Rattle.theory.specs.Settings.{Card}
 use Rattle.theory.specs.Layout.{Areas, layout}
-use Rattle.theory.specs.Ledger.{Call, Reply, Step}
+use Rattle.theory.specs.Ledger.{Call, Reply, Step, plain}
 use Rattle.theory.specs.Calls.{call}
-use Rattle.theory.specs.BenchLoad.{Generator, draw, after_call, load_call, load_calls}
+use Rattle.theory.specs.BenchLoad.{Generator, draw, after_call, draws, load_call, load_calls}
 use Rattle.theory.specs.Trials.{Numbers, no_numbers, counted, tried, played}
-use Rattle.theory.specs.Demands.{Sized}
-use Rattle.theory.proofs.SettingsLaws.{sound}
-use Rattle.theory.proofs.CallLaws.{has_layout_empty}
+use Rattle.theory.specs.Demands.{Small, Sized}
+use Rattle.theory.proofs.SettingsLaws.{Sound, sound}
+use Rattle.theory.proofs.CallLaws.{sized, has_layout_empty, stays, call_step}
 use Rattle.theory.proofs.TrialLaws.{played_tried, small_calls, played_next, played_end}
 use Rattle.settings.specs.declared.Settings.{Settings}
 use Rattle.settings.specs.Checked.{paper, card}
@@ -20,7 +20,7 @@ use Rattle.settings.specs.declared.areas.Areas as lent
 use Rattle.settings.specs.Areas.{contents, SameSlices}
 use lib.ListN.{length}
 use Rattle.trials.specs.Data.{Grown}
-use Rattle.trials.specs.Playing.{Playing, PlayingParts, Played}
+use Rattle.trials.specs.Playing.{Holds, Playing, PlayingParts, Played}
 use Rattle.trials.proofs.TrialNumberLaws.{Bounded, bounded_less}
 
 -- ---- one call: the one that two numbers make
@@ -41,6 +41,29 @@ sized_kept z same =
       buckets = same.buckets_long ∙ z.buckets;
       side_store = same.side_long ∙ z.side_store;
     }
+
+-- ---- areas that hold a list are sized, and hold one after a call
+module _ (s : Card) (ok : Sound s) {a : Areas} (h : Holds s a) where
+  pub holds_sized : Sized s a
+  holds_sized = rw h.same (sized s ok h.list h.fits)
+
+  holds_on : (c : Call) → Small c → {b : Areas} → b ≡ (call s c a).state → Holds s b
+  holds_on c small e =
+      record {
+        list = (plain s c h.list).state;
+        fits = stays s ok c h.list small h.fits;
+        same = e ∙ rw (h.same, call_step s ok c h.list h.fits);
+      }
+
+next_small : (flows : ℕ) (g : Generator) → Small (load_call flows (draw g))
+unfolding load_calls draws
+next_small flows g = (small_calls flows 1 g).0
+
+-- the areas hold a list after the next call of a load, if they hold one before it
+pub holds_next : {s : Settings} {table work : List ℕ} {a after : Areas} (flows : ℕ) (g : Generator) → Playing s table work a → Holds (card s) a → {c : Call}
+    → c ≡ load_call flows (draw g) → {r : Reply} → ◌≡◌ {A = Step Areas} (record { reply = r; state = after }) (call (card s) c a) → Holds (card s) after
+holds_next {s} flows g playing held is made =
+    holds_on (card s) (sound (paper s) playing.ready.ok) held _ (rw is (next_small flows g)) (ap (λ (z : Step Areas). z.state) made)
 
 -- ---- before each turn: what is played of the rest is what is played of all
 pub record Going (s : Settings) (table : List ℕ) (flows : ℕ) (g₀ : Generator) (count : ℕ) (a₀ : Areas) (x₀ : Numbers) (work : List ℕ) (a : Areas)
@@ -70,6 +93,9 @@ module _ {s : Settings} {table : List ℕ} {flows : ℕ} {g₀ : Generator} {cou
       sym (played_end (card s) flows g a x) ∙ step
 
 -- ---- on a cleared table: by the laws that carry demand 3
+pub holds_empty : {s : Settings} {work : List ℕ} {before cleared : Areas} → PlayingParts s work before → cleared ≡ layout (card s) [] → Holds (card s) cleared
+holds_empty {s} parts e = record { list = []; fits = has_layout_empty (card s) (sound (paper s) parts.ok); same = e }
+
 pub tried_by : {s : Settings} {work : List ℕ} {before cleared : Areas} → PlayingParts s work before → cleared ≡ layout (card s) [] → (flows n : ℕ)
     (g : Generator) {y : Numbers} → y ≡ played (card s) (load_calls flows n g) cleared no_numbers → y ≡ tried (card s) (load_calls flows n g) [] no_numbers
 tried_by {s} parts e flows n g f =

@@ -1,12 +1,12 @@
--- What playing a load asks, and what one call of it gives.
+-- What playing a load asks, what one call of it gives, and what areas that hold a list are.
 use Rattle.std.specs.Prelude.{◌≡◌, true, List, ℕ, ◌≤◌, ◌<◌, length}
 use Rattle.theory.specs.Settings.{Card, allowed, work_length}
-use Rattle.theory.specs.Records.{count_of}
-use Rattle.theory.specs.Layout.{Areas}
+use Rattle.theory.specs.Records.{Record, count_of}
+use Rattle.theory.specs.Layout.{Areas, layout}
 use Rattle.theory.specs.Ledger.{Call}
 use Rattle.theory.specs.Calls.{call}
 use Rattle.theory.specs.Trials.{Numbers, counted}
-use Rattle.theory.specs.Demands.{Sized}
+use Rattle.theory.specs.Demands.{HasLayout, Sized}
 use Rattle.settings.specs.declared.Settings.{Settings}
 use Rattle.settings.specs.Checked.{paper, card}
 use Rattle.placing.specs.Ready.{Ready}
@@ -17,6 +17,12 @@ use Rattle.trials.specs.Data.{Grown}
 pub record Playable (load : BenchLoad) : Type 0 where
   pub flows : 0 < load.flows
   pub calls : load.count ≤ 4294967296
+
+-- areas hold a list: they are its layout
+pub record Holds (s : Card) (areas : Areas) : Type 0 where
+  pub list : List Record
+  pub fits : HasLayout s list
+  pub same : areas ≡ layout s list
 
 -- settings, a table of the hash, work and areas that every call can be made on
 pub record Playing (s : Settings) (table work : List ℕ) (areas : Areas) : Type 0 where

@@ -9,7 +9,7 @@ ghost use Rattle.settings.specs.Areas.{contents, SameSlices};
 ghost use Rattle.bench_load.specs.Loads.{generator_of, drawn};
 ghost use Rattle.calls.specs.Data.{call_of};
 ghost use Rattle.trials.specs.Data.{numbers_of, Growing};
-ghost use Rattle.trials.specs.Playing.{Playable, Playing, PlayingParts, Lent, Played};
+ghost use Rattle.trials.specs.Playing.{Playable, Holds, Playing, PlayingParts, Lent, Played};
 
 use crate::numbers::Numbers;
 use bench_load::{BenchLoad, Generator, class_of, write_key};
@@ -71,6 +71,7 @@ fn play(
     requires playable { Playable load }
     ensures played { numbers_of result ≡ plain.played (card s) (load_calls load.flows load.count (generator_of load.generator))
         (contents areas.old) plain.no_numbers }
+    ensures held { Holds (card s) (contents areas.old) → Holds (card s) (contents areas.new) }
     ensures same { SameSlices areas.old areas.new }
 {
     let flows = load.flows;
@@ -83,10 +84,12 @@ fn play(
 }
 
 // "plays the load on a cleared table": areas of their lengths with any contents.
+// At the end they hold some list.
 fn play_cleared(s: Settings, load: BenchLoad, areas: &mut Areas<'_>, work: &mut [u16]) -> Numbers
     requires parts { PlayingParts s work.old (contents areas.old) }
     requires playable { Playable load }
-    ensures { numbers_of result ≡ plain.tried (card s) (load_calls load.flows load.count (generator_of load.generator)) [] plain.no_numbers }
+    ensures numbers { numbers_of result ≡ plain.tried (card s) (load_calls load.flows load.count (generator_of load.generator)) [] plain.no_numbers }
+    ensures held { Holds (card s) (contents areas.new) }
 {
     writing::clear_areas(areas);
     play(s, make_table(s.width()), load, areas, work)

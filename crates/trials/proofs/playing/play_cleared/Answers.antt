@@ -2,7 +2,7 @@
 use Rattle.settings.specs.Checked.{paper}
 use Rattle.settings.proofs.Laws.{key_width}
 use Rattle.placing.proofs.ReadyLaws.{made_ready}
-use Rattle.trials.proofs.PlayLaws.{sized_kept, tried_by}
+use Rattle.trials.proofs.PlayLaws.{sized_kept, holds_empty, tried_by}
 use Rattle.trials.proofs.playing.play_cleared.Goals as goal
 
 pub make_table-requires : goal.make_table-requires
@@ -17,5 +17,8 @@ play-requires-clause-playing c =
       sized = sized_kept parts.sized c.clear_areas.ensures.same;
     }
 
-pub returns : goal.returns
-returns c = tried_by c.requires.parts (c.clear_areas.ensures.cleared _ c.requires.parts.sized) _ _ _ c.play.ensures.played
+pub returns-clause-numbers : goal.returns-clause-numbers
+returns-clause-numbers c = tried_by c.requires.parts (c.clear_areas.ensures.cleared _ c.requires.parts.sized) _ _ _ c.play.ensures.played
+
+pub returns-clause-held : goal.returns-clause-held
+returns-clause-held c = c.play.ensures.held (holds_empty c.requires.parts (c.clear_areas.ensures.cleared _ c.requires.parts.sized))
